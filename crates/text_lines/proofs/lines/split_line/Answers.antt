@@ -1,0 +1,16 @@
+use Rattle.std.proofs.Common.{Some, None, length, sym, ◌∙◌, arith, lit<}
+use Rattle.std.proofs.lemmas.Bool.{eqb-false}
+use Rattle.std.proofs.lemmas.Str.Pattern.{split_parts, strip_suffix_char}
+use Rattle.text_lines.proofs.LinesLemmas.{lines-first, lines-last}
+use Rattle.text_lines.proofs.lines.split_line.Goals as goal
+
+pub returns-in-Some-clause-parts : goal.returns-in-Some-clause-parts
+returns-in-Some-clause-parts c =
+    let parts = split_parts 10 c.args.text.now (Some (c.in-Some.line, c.in-Some.rest)) c.in-Some.ensures.cases (lit< tt) in
+    let stripped = strip_suffix_char 13 c.in-Some.line.now c.strip_suffix.result c.strip_suffix.ensures.cases (lit< tt) in
+    rw c.unwrap_or.ensures (lines-first _ c.in-Some.line c.in-Some.rest c.strip_suffix.result parts.0 parts.1 stripped)
+
+pub returns-in-None-clause-parts : goal.returns-in-None-clause-parts
+returns-in-None-clause-parts c =
+    let some = eqb-false (length c.args.text.now) 0 (sym c.is_empty.ensures ∙ c.if-is_empty.false) in
+    lines-last c.args.text.now (split_parts 10 c.args.text.now None c.in-None.ensures.cases (lit< tt)) (omega (arith, some))

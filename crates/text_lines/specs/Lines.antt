@@ -1,0 +1,21 @@
+-- The lines of a text, as its bytes.
+use Rattle.std.specs.Prelude.{ℕ, Bool, false, ◌&&◌, ◌==◌, List, [], ◌∷◌, if◌then◌else◌}
+
+-- puts a byte in front of the first part
+abbrev pub onto_first : ℕ → List (List ℕ) → List (List ℕ)
+onto_first c [] = (c ∷ []) ∷ []
+onto_first c (part ∷ parts) = (c ∷ part) ∷ parts
+
+-- the byte stands in front
+abbrev pub begins_with : ℕ → List ℕ → Bool
+begins_with c [] = false
+begins_with c (d ∷ bytes) = d == c
+
+-- A line ends at LF or at the end of the text. A CR right before an LF belongs to the ending, and the end of the text right
+-- behind an LF begins no line.
+abbrev pub lines : List ℕ → List (List ℕ)
+lines [] = []
+lines (c ∷ bytes) =
+    if c == 0x0A then [] ∷ lines bytes
+    else if c == 0x0D && begins_with 0x0A bytes then lines bytes
+    else onto_first c (lines bytes)
