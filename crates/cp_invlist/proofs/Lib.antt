@@ -1,0 +1,4 @@
+pub mod Lists
+pub mod Partition
+pub mod RangesLemmas
+pub mod AddRange

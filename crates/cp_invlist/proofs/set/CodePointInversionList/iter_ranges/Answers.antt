@@ -1,0 +1,15 @@
+use Rattle.std.proofs.Common.{ℕ, List, subst}
+use Rattle.cp_invlist.specs.InversionList.{contains}
+use Rattle.cp_invlist.specs.Ranges.{AreMaximalRanges}
+use Rattle.cp_invlist.proofs.RangesLemmas.{AreMaximalRanges-ranges_of, AreRangesFrom-unique}
+use Rattle.cp_invlist.proofs.set.CodePointInversionList.iter_ranges.Goals as goal
+
+pub returns-clause-maximal : goal.returns-clause-maximal
+returns-clause-maximal c =
+    let xs = c.self.inside.elements.items in
+    subst (λ (ys : List ℕ). AreMaximalRanges (contains ys) c.new.result) c.self.view_is
+    (rw (c.new.ensures, c.deref.ensures.value) (AreMaximalRanges-ranges_of xs c.self.invariant))
+
+pub returns-clause-only : goal.returns-clause-only
+returns-clause-only c = λ rs h.
+    AreRangesFrom-unique (contains c.args.self.now) 0 rs c.new.result h (returns-clause-maximal c)

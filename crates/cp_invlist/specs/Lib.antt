@@ -1,0 +1,3 @@
+pub mod InversionList
+pub mod Ranges
+pub mod Cuts

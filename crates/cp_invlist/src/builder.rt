@@ -1,0 +1,128 @@
+//! The builder, whose list is canonical after each call.
+ghost use Rattle.std.specs.Prelude.{◌≡◌, ℕ, ◌||◌, ◌&&◌, ◌==◌, ◌<◌, ◌≤◌, [], OnOk, OnErr, All, vec_len, length};
+ghost use Rattle.std.specs.Bool.{OnTrue};
+ghost use Rattle.std.specs.List.{splice};
+ghost use Rattle.cp_invlist.specs.InversionList.{contains, is_code_point, IsInversionList};
+ghost use Rattle.cp_invlist.specs.Cuts.{CutBefore, CutAfter};
+ghost use Rattle.cp_invlist.specs.Ranges.{in_code_points};
+
+use crate::error::NoMemory;
+use crate::ranges::CodePointRange;
+use crate::set::CodePointInversionList;
+use std::alloc::Global;
+use std::marker::Model;
+
+/// The last code point.
+const LAST_CODE_POINT: u32 = 0x10_FFFF;
+
+/// Builds a set by adding members. A contract sees it as the inversion list of what was added.
+#[derive(Drop)]
+pub struct CodePointInversionListBuilder {
+    elements: Vec<u32>,
+}
+
+impl Model for CodePointInversionListBuilder {
+    ghost use Rattle.std.specs.Prelude.{ℕ, List};
+    ghost use Rattle.cp_invlist.specs.InversionList.{IsInversionList};
+
+    ghost Value = { List ℕ };
+
+    ghost view = { λ b. b.elements.items };
+
+    ghost invariant = { λ b. IsInversionList b.elements.items };
+}
+
+impl CodePointInversionListBuilder {
+    /// The empty set.
+    pub fn new(alloc: Global) -> CodePointInversionListBuilder
+        ensures { result ≡ [] }
+    {
+        CodePointInversionListBuilder {
+            elements: Vec::new(alloc),
+        }
+    }
+
+    /// Adds one code point. A number past 10FFFF adds nothing.
+    pub fn add32(&mut self, c: u32) -> Result<(), NoMemory>
+        ensures ok { OnOk result ((d : ℕ) → contains self.new d ≡ (contains self.old d || (d == c && is_code_point d))) }
+        ensures err { OnErr result (self.new ≡ self.old) }
+    {
+        self.add_range32(CodePointRange { start: c, end: c })
+    }
+
+    /// Adds one character.
+    pub fn add_char(&mut self, c: char) -> Result<(), NoMemory>
+        ensures ok { OnOk result ((d : ℕ) → contains self.new d ≡ (contains self.old d || d == c)) }
+        ensures err { OnErr result (self.new ≡ self.old) }
+    {
+        self.add32(c as u32)
+    }
+
+    /// Adds the code points of the range up to 10FFFF. It takes a binary search and one move of what
+    /// stands behind the range, and constant time but for growth where the range starts behind all members.
+    pub fn add_range32(&mut self, range: CodePointRange) -> Result<(), NoMemory>
+        ensures ok { OnOk result ((d : ℕ) → contains self.new d ≡ (contains self.old d || in_code_points range d)) }
+        ensures err { OnErr result (self.new ≡ self.old) }
+    {
+        let _ = &self.elements;
+        if range.start > range.end || range.start > LAST_CODE_POINT {
+            return Ok(());
+        }
+        let past = range.end.min(LAST_CODE_POINT) + 1;
+        let ends = [range.start, past];
+        if self.is_behind_all(range.start) {
+            self.elements.extend_from_slice(&ends)?;
+            return Ok(());
+        }
+        let low = cut_before(&self.elements, range.start);
+        let high = cut_after(&self.elements, past);
+        // An end that lies within a range of members, or touches one, is no end of the joined range.
+        replace(&mut self.elements, low, high, &ends[low % 2..2 - high % 2])
+    }
+
+    // Whether the number is above all elements.
+    fn is_behind_all(&self, start: u32) -> bool
+        ensures { OnTrue result (All (λ x. x < start) self.now) }
+    {
+        let Some(last) = self.elements.last() else {
+            return true;
+        };
+        *last < start
+    }
+
+    /// The set that was built.
+    pub fn build(self) -> CodePointInversionList
+        ensures { result ≡ self }
+    {
+        CodePointInversionList::from_elements(self.elements)
+    }
+}
+
+// The place before the first element that is at least the number.
+fn cut_before(elements: &[u32], number: u32) -> usize
+    requires { IsInversionList elements.now }
+    ensures bound { result ≤ length elements.now }
+    ensures cut { CutBefore number elements.now result }
+{
+    elements.partition_point(|element| *element < number)
+}
+
+// The place behind the last element that is at most the number.
+fn cut_after(elements: &[u32], number: u32) -> usize
+    requires { IsInversionList elements.now }
+    ensures bound { result ≤ length elements.now }
+    ensures cut { CutAfter number elements.now result }
+{
+    elements.partition_point(|element| *element <= number)
+}
+
+// Puts the given elements in place of those from `low` up to `high`.
+fn replace(elements: &mut Vec<u32>, low: usize, high: usize, with: &[u32]) -> Result<(), NoMemory>
+    requires ordered { low ≤ high }
+    requires within { high ≤ vec_len elements.old }
+    ensures ok { OnOk result (elements.new.items ≡ splice elements.old.items low high with.now) }
+    ensures err { OnErr result (elements.new.items ≡ elements.old.items) }
+{
+    elements.splice(low..high, with.iter().copied())?;
+    Ok(())
+}
