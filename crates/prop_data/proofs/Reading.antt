@@ -1,0 +1,70 @@
+-- Where the reading of a table text stands: some lines are read, and the rest is to come.
+use Rattle.std.proofs.Common.{◌≡◌, ℕ, ◌+◌, ◌≤◌, ◌<◌, true, false, List, [], ◌∷◌, length, Option, Some, None, option_map, cond, refl, sym, ap, ◌∙◌, arith, Err}
+use Rattle.text_lines.specs.Lines.{lines}
+use Rattle.text_lines.specs.Fields.{fields}
+use Rattle.prop_data.specs.declared.error.TableError.{TableError}
+use Rattle.prop_data.specs.declared.error.TableErrorKind.TheVariants.{NoEnd}
+use Rattle.prop_data.specs.Line.{Line, line_of}
+use Rattle.prop_data.specs.Tables.{tables_of_lines}
+use Rattle.prop_data.specs.declared.error.LoadError.{LoadError}
+use Rattle.prop_data.specs.declared.error.LoadError.TheVariants.{Table, NoMemory}
+use Rattle.prop_data.specs.Database.{IsFault}
+use Rattle.prop_data.specs.Loading.{after, Takes}
+use Rattle.prop_data.specs.TableText.{Above, above, at_line, line_fault, first_fault, or_else, laid_on, lines_by_field, table_fault, tables_in}
+use Rattle.prop_data.proofs.AboveLemmas.{above-line}
+
+pub record StandsAt (text rest : List ℕ) (seen : Above) (number : ℕ) : Type 0 where
+  pub read : List Line
+  pub seen_is : seen ≡ above read
+  pub fault_is : first_fault read number (lines_by_field (lines rest)) ≡ table_fault (lines text)
+  pub lines_are : laid_on read (lines_by_field (lines rest)) ≡ laid_on [] (lines_by_field (lines text))
+  pub counted : number + length rest ≤ 1 + length text
+
+pub begins : (text : List ℕ) (seen : Above) → seen ≡ above [] → StandsAt text text seen 1
+begins text seen e = record { read = []; seen_is = e; fault_is = refl; lines_are = refl; counted = omega arith }
+
+-- the fault of the first line to come, if it has one, is the first fault
+faulty_line : (text rest line behind : List ℕ) (seen : Above) (number : ℕ) (fault : TableError) → StandsAt text rest seen number → lines rest ≡ line ∷ lines behind →
+    option_map (at_line number) (line_fault seen (line_of (fields line))) ≡ Some fault → table_fault (lines text) ≡ Some fault
+faulty_line text rest line behind seen number fault at parts faulty =
+    sym at.fault_is ∙ (ap (λ ls. first_fault at.read number (lines_by_field ls)) parts
+    ∙ ap (λ o. or_else o (first_fault (line_of (fields line) ∷ at.read) (number + 1) (lines_by_field (lines behind))))
+    (ap (λ a. option_map (at_line number) (line_fault a (line_of (fields line)))) (sym at.seen_is) ∙ faulty))
+
+-- a line without a fault was read
+pub next_line : (text rest line behind : List ℕ) (seen new : Above) (number : ℕ) → StandsAt text rest seen number → lines rest ≡ line ∷ lines behind → length behind < length rest →
+    line_fault seen (line_of (fields line)) ≡ None → new ≡ after seen (line_of (fields line)) → StandsAt text behind new (number + 1)
+next_line text rest line behind seen new number at parts shorter whole is =
+    let l = line_of (fields line) in
+    let here : line_fault (above at.read) l ≡ None = ap (λ a. line_fault a l) (sym at.seen_is) ∙ whole in
+    record {
+      read = l ∷ at.read;
+      seen_is = is ∙ (ap (λ a. after a l) at.seen_is ∙ sym (above-line at.read l here));
+      fault_is =
+          ap (λ o. or_else (option_map (at_line number) o) (first_fault (l ∷ at.read) (number + 1) (lines_by_field (lines behind)))) (sym here)
+          ∙ (ap (λ ls. first_fault at.read number (lines_by_field ls)) (sym parts) ∙ at.fault_is);
+      lines_are = ap (λ ls. laid_on at.read (lines_by_field ls)) (sym parts) ∙ at.lines_are;
+      counted = omega (arith, at.counted);
+    }
+
+abbrev no_fault : Option TableError
+no_fault = None
+
+-- all lines were read
+pub ends_closed : (text rest : List ℕ) (seen : Above) (number : ℕ) → StandsAt text rest seen number → rest ≡ [] → seen.closed ≡ true → (table_fault (lines text) ≡ None) × (seen.tables ≡ tables_in (lines text))
+ends_closed text rest seen number at empty closed = (
+  sym at.fault_is ∙ (ap (λ r. first_fault at.read number (lines_by_field (lines r))) empty
+      ∙ ap (λ b. cond b no_fault (Some (at_line number NoEnd))) (ap (λ a. a.closed) (sym at.seen_is) ∙ closed)),
+  ap (λ a. a.tables) at.seen_is ∙ ap tables_of_lines (sym (ap (λ r. laid_on at.read (lines_by_field (lines r))) empty) ∙ at.lines_are),
+)
+
+pub ends_open : (text rest : List ℕ) (seen : Above) (number : ℕ) (fault : TableError) → StandsAt text rest seen number → rest ≡ [] → seen.closed ≡ false → fault ≡ at_line number NoEnd → table_fault (lines text) ≡ Some fault
+ends_open text rest seen number fault at empty open_still is =
+    sym at.fault_is ∙ (ap (λ r. first_fault at.read number (lines_by_field (lines r))) empty
+    ∙ (ap (λ b. cond b no_fault (Some (at_line number NoEnd))) (ap (λ a. a.closed) (sym at.seen_is) ∙ open_still) ∙ ap Some (sym is)))
+
+-- a line was not taken
+pub faulty_exit : (text rest line behind : List ℕ) (seen new : Above) (number : ℕ) (error : LoadError) → StandsAt text rest seen number → lines rest ≡ line ∷ lines behind →
+    Takes seen (line_of (fields line)) number (Err error) new → IsFault (lines text) error
+faulty_exit text rest line behind seen new number (Table fault) at parts h = faulty_line text rest line behind seen number fault at parts h
+faulty_exit text rest line behind seen new number NoMemory at parts h = tt

@@ -1,0 +1,23 @@
+-- The tables that a database holds.
+use Rattle.std.specs.Prelude.{◌≡◌, ℕ, List, Option, Some, option_map}
+use Rattle.std.specs.Ordering.{nat_cmp}
+use Rattle.std.specs.BTreeMap.{get}
+use Rattle.cp_invlist.specs.InversionList.{contains}
+use Rattle.prop_data.specs.declared.database.PropertyDatabase.{PropertyDatabase}
+use Rattle.prop_data.specs.declared.error.LoadError.{LoadError}
+use Rattle.prop_data.specs.declared.error.LoadError.TheVariants.{Table, NoMemory}
+use Rattle.prop_data.specs.Tables.{Tables}
+use Rattle.prop_data.specs.TableText.{table_fault}
+
+-- the inversion list of a set table, by the table's number
+abbrev pub set_of : PropertyDatabase → ℕ → Option (List ℕ)
+set_of database t = get nat_cmp database.sets t
+
+-- the members of each set table
+abbrev pub tables_of : PropertyDatabase → Tables
+tables_of database t = option_map contains (set_of database t)
+
+-- the fault of the lines, where it is no want of memory
+abbrev pub IsFault : List (List ℕ) → LoadError → Type 0
+IsFault ls (Table fault) = table_fault ls ≡ Some fault
+IsFault ls NoMemory = Unit {0}

@@ -1,0 +1,14 @@
+//! Property data: a text of tables, checked as it is read, and the database that it means.
+#![tactic(auto)]
+
+mod database;
+mod error;
+mod line;
+mod loader;
+mod numbers;
+mod row;
+mod tables;
+
+pub use database::PropertyDatabase;
+pub use error::{LoadError, TableError, TableErrorKind};
+pub use tables::SetTable;

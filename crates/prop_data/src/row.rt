@@ -1,0 +1,60 @@
+//! The tests of a row.
+ghost use Rattle.std.specs.Prelude.{◌≡◌, ℕ, None, Some, Bool, List, option_map};
+ghost use Rattle.std.specs.List.{list_any};
+ghost use Rattle.prop_data.specs.TableText.{overlaps, forbidden, row_fault, is_behind};
+
+use crate::error::TableErrorKind;
+use crate::tables::SetTable;
+use cp_invlist::CodePointRange;
+
+const LAST_CODE_POINT: u32 = 0x10_FFFF;
+
+fn overlaps(range: CodePointRange, first: u32, last: u32) -> bool
+    ensures { result ≡ overlaps (range.start, range.end) (first, last) }
+{
+    range.start <= last && first <= range.end
+}
+
+/// Whether the range holds an ASCII character that the pattern syntax needs.
+fn holds_syntax(table: SetTable, range: CodePointRange) -> bool
+    ensures { result ≡ list_any (overlaps (range.start, range.end)) (forbidden table) }
+{
+    if table.number() == SetTable::PATTERN_WHITE_SPACE.number() {
+        return overlaps(range, 0x21, 0x7E);
+    }
+    overlaps(range, 0x00, 0x2F)
+        || overlaps(range, 0x3A, 0x40)
+        || overlaps(range, 0x5B, 0x5E)
+        || overlaps(range, 0x60, 0x60)
+        || overlaps(range, 0x7B, 0x7F)
+}
+
+fn is_behind(last: Option<u32>, start: u32) -> bool
+    ensures { result ≡ is_behind last start }
+{
+    match last {
+        Some(last) => start <= last,
+        None => false,
+    }
+}
+
+/// The first test that the range fails as a row of the table, where `last` is the last code point of
+/// the row above.
+#[tactic(auto, unfolding(crate::specs::TableText::row_fault))]
+pub(crate) fn row_fault(
+    table: SetTable,
+    last: Option<u32>,
+    range: CodePointRange,
+) -> Option<TableErrorKind>
+    ensures { result ≡ row_fault (Some table) last (Some (range.start, range.end)) }
+{
+    if range.start.max(range.end) > LAST_CODE_POINT {
+        Some(TableErrorKind::TooLarge)
+    } else if range.end < range.start || is_behind(last, range.start) {
+        Some(TableErrorKind::RangeOrder)
+    } else if holds_syntax(table, range) {
+        Some(TableErrorKind::SyntaxAscii)
+    } else {
+        None
+    }
+}
