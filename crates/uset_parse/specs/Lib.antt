@@ -1,0 +1,5 @@
+pub mod Text
+pub mod Tree
+pub mod Grammar
+pub mod Fault
+pub mod Turn

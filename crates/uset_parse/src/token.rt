@@ -1,0 +1,45 @@
+//! Tokens of a bracket.
+ghost use Rattle.std.specs.Prelude.{◌≡◌, ◌<◌, ◌==◌, length, IfSome, option_map};
+ghost use Rattle.std.specs.Str.{chars};
+ghost use Rattle.cp_invlist.specs.InversionList.{contains};
+ghost use Rattle.uset_parse.specs.Grammar.{is_special, token_at};
+ghost use Rattle.uset_parse.specs.Text.{skip};
+ghost use Rattle.uset_parse.specs.Turn.{token_seen};
+
+use crate::cursor::{skip_white_space, split_first};
+use cp_invlist::CodePointInversionList;
+
+/// One element of a bracket.
+#[derive(Clone, Copy)]
+pub(crate) enum Token {
+    /// `]`
+    Close,
+    /// `-`
+    Minus,
+    /// A character that stands for itself.
+    Character(char),
+}
+
+/// Whether the character has a meaning of its own in a bracket.
+fn is_special(c: char) -> bool
+    ensures { result ≡ is_special c }
+{
+    c == ']' || c == '-' || c == '&' || c == '$' || c == '^' || c == '[' || c == '{' || c == '\\'
+}
+
+/// The token in front, white space aside, and the text behind it. `None` where none is read there.
+pub(crate) fn read_token<'a>(
+    white_space: &CodePointInversionList,
+    text: &'a str,
+) -> Option<(Token, &'a str)>
+    ensures parts { option_map (λ p. (token_seen p.0, chars p.1.now)) result ≡ token_at (skip (contains white_space.now) (chars text.now)) }
+    ensures shorter { IfSome result (λ p. length p.1.now < length text.now) }
+{
+    let (first, rest) = split_first(skip_white_space(white_space, text))?;
+    match first {
+        ']' => Some((Token::Close, rest)),
+        '-' => Some((Token::Minus, rest)),
+        _ if is_special(first) => None,
+        _ => Some((Token::Character(first), rest)),
+    }
+}
