@@ -7,13 +7,10 @@ ghost use Rattle.cp_invlist.specs.Cuts.{CutBefore, CutAfter};
 ghost use Rattle.cp_invlist.specs.Ranges.{in_code_points};
 
 use crate::error::NoMemory;
-use crate::ranges::CodePointRange;
+use crate::ranges::{CodePointRange, LAST_CODE_POINT};
 use crate::set::CodePointInversionList;
 use std::alloc::Global;
 use std::marker::Model;
-
-/// The last code point.
-const LAST_CODE_POINT: u32 = 0x10_FFFF;
 
 /// Builds a set by adding members. A contract sees it as the inversion list of what was added.
 #[derive(Drop)]

@@ -3,10 +3,11 @@
 
 mod builder;
 mod error;
+pub mod laws;
 mod ranges;
 mod set;
 
 pub use builder::CodePointInversionListBuilder;
-pub use error::NoMemory;
-pub use ranges::{CodePointRange, InversionListRanges};
+pub use error::{InversionListError, NoMemory};
+pub use ranges::{CodePointRange, ComplementedRanges, InversionListRanges};
 pub use set::CodePointInversionList;
