@@ -5,3 +5,4 @@ pub mod AddRange
 pub mod GapsLemmas
 pub mod SizeLemmas
 pub mod FaultLemmas
+pub mod MergeLemmas

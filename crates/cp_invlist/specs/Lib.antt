@@ -4,3 +4,4 @@ pub mod Cuts
 pub mod Size
 pub mod Fault
 pub mod Gap
+pub mod Merge

@@ -1,5 +1,5 @@
 //! The errors of sets.
-use std::alloc::AllocError;
+use std::alloc::{AllocError, AllocFailed};
 use thiserror::Error;
 
 /// A request for memory was refused.
@@ -9,6 +9,12 @@ pub struct NoMemory;
 
 impl From<AllocError> for NoMemory {
     fn from(_refused: AllocError) -> NoMemory {
+        NoMemory
+    }
+}
+
+impl<T: Drop> From<AllocFailed<T>> for NoMemory {
+    fn from(_refused: AllocFailed<T>) -> NoMemory {
         NoMemory
     }
 }
