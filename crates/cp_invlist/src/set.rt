@@ -1,5 +1,5 @@
 //! The set: its list, and what it answers.
-ghost use Rattle.std.specs.Prelude.{◌≡◌, ℕ, ◌↔◌, IsTrue, IsErrOf, IfOk, OnOk, IfNone, Some, nat_eq, sum_by, [], ◌∷◌, List};
+ghost use Rattle.std.specs.Prelude.{◌≡◌, ℕ, ◌≤◌, ◌↔◌, IsTrue, IsErrOf, IfOk, OnOk, IfNone, Some, nat_eq, sum_by, [], ◌∷◌, List};
 ghost use Rattle.std.specs.Cmp.Lexicographic.{pointwise};
 ghost use Rattle.cp_invlist.specs.Fault.{fault_of};
 ghost use Rattle.cp_invlist.specs.Size.{count_members, range_size};
@@ -100,6 +100,7 @@ impl CodePointInversionList {
     /// How many members the set has.
     pub fn size(&self) -> usize
         ensures counted { result ≡ count_members (contains self.now) 0x11_0000 }
+        ensures bound { result ≤ 0x11_0000 }
         ensures summed { (rs : List CodePointRange) → AreMaximalRanges (contains self.now) rs → result ≡ sum_by range_size rs }
     {
         let mut size = 0;
