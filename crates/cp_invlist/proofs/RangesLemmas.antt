@@ -23,7 +23,11 @@ contains-first_behind a b c xs lt le =
     ap₂ (λ p q. differ p (differ q (contains xs c))) (le-leb a c (omega arith)) (le-leb b c le)
     ∙ elim (contains xs c) as (λ b. not (not b) ≡ b) [ true ↦ refl | false ↦ refl ]
 
-ranges_of-maximal : (m : ℕ → Bool) (n : ℕ) (xs : List ℕ) → ascends_from n xs ≡ true → has_even_length xs ≡ true →
+-- a list whose length is even behind two elements
+pub even_rest : (xs : List ℕ) → not (not (has_even_length xs)) ≡ true → has_even_length xs ≡ true
+even_rest xs h = elim (has_even_length xs) as (λ v. not (not v) ≡ true → v ≡ true) [ true ↦ λ _. refl | false ↦ λ e. e ] h
+
+pub ranges_of-maximal : (m : ℕ → Bool) (n : ℕ) (xs : List ℕ) → ascends_from n xs ≡ true → has_even_length xs ≡ true →
     ((c : ℕ) → n ≤ c → m c ≡ contains xs c) → AreRangesFrom m n (ranges_of xs)
 ranges_of-maximal m n [] h even same = same
 ranges_of-maximal m n (a ∷ []) h even same = absurd (true≢false (sym even))
@@ -31,8 +35,7 @@ ranges_of-maximal m n (a ∷ b ∷ xs) h even same =
     let first = ascends_from-parts n a (b ∷ xs) h in
     let second = ascends_from-parts (suc a) b xs first.2 in
     let end : b - 1 + 1 ≡ b = omega arith in
-    let even' : has_even_length xs ≡ true =
-    elim (has_even_length xs) as (λ v. not (not v) ≡ true → v ≡ true) [ true ↦ λ _. refl | false ↦ λ e. e ] even in (
+    let even' = even_rest xs even in (
       first.0,
       omega arith,
       λ c low high. same c low ∙ contains-first_below a b c xs second.0 second.2 high,
@@ -85,6 +88,29 @@ IsInversionList-rest [] le h = absurd (omega arith)
 IsInversionList-rest (a ∷ []) le h = absurd (omega arith)
 IsInversionList-rest (a ∷ b ∷ xs) le h =
     let parts = IsInversionList-parts (a ∷ b ∷ xs) h in
-    let even' : has_even_length xs ≡ true =
-    elim (has_even_length xs) as (λ v. not (not v) ≡ true → v ≡ true) [ true ↦ λ _. refl | false ↦ λ e. e ] parts.1 in
+    let even' = even_rest xs parts.1 in
     rw (take_rest (a ∷ b ∷ xs) 2) (IsInversionList-from xs (ascends_from-drop 0 2 (a ∷ b ∷ xs) parts.0) even')
+
+-- the list that spells the ranges
+list_of : List CodePointRange → List ℕ
+list_of [] = []
+list_of (r ∷ rs) = r.start ∷ (r.end + 1) ∷ list_of rs
+
+list_of-ranges_of : (n : ℕ) (xs : List ℕ) → ascends_from n xs ≡ true → has_even_length xs ≡ true → list_of (ranges_of xs) ≡ xs
+unfolding list_of
+list_of-ranges_of n [] h even = refl
+list_of-ranges_of n (a ∷ []) h even = absurd (true≢false (sym even))
+list_of-ranges_of n (a ∷ b ∷ xs) h even =
+    let first = ascends_from-parts n a (b ∷ xs) h in
+    let second = ascends_from-parts (suc a) b xs first.2 in
+    let end : b - 1 + 1 ≡ b = omega arith in
+    ap₂ (λ (e : ℕ) (l : List ℕ). a ∷ e ∷ l) end (list_of-ranges_of (suc b) xs second.2 (even_rest xs even))
+
+-- two sets with the same members have the same list
+pub same_members-same_lists : (xs ys : List ℕ) → IsInversionList xs → IsInversionList ys → ((c : ℕ) → contains xs c ≡ contains ys c) → xs ≡ ys
+same_members-same_lists xs ys hx hy same =
+    let px = IsInversionList-parts xs hx in
+    let py = IsInversionList-parts ys hy in
+    let ranges = AreRangesFrom-unique (contains xs) 0 (ranges_of xs) (ranges_of ys) (AreMaximalRanges-ranges_of xs hx)
+    (ranges_of-maximal (contains xs) 0 ys py.0 py.1 (λ c _. same c)) in
+    sym (list_of-ranges_of 0 xs px.0 px.1) ∙ ap list_of ranges ∙ list_of-ranges_of 0 ys py.0 py.1

@@ -1,6 +1,6 @@
 -- Ranges of code points, both ends included, and the maximal ranges of a set.
-use Rattle.std.specs.Prelude.{◌≡◌, ℕ, ◌+◌, ◌-◌, ◌<◌, ◌≤◌, Bool, true, false, ◌&&◌, nat_le, List, [], ◌∷◌}
-use Rattle.cp_invlist.specs.InversionList.{is_code_point}
+use Rattle.std.specs.Prelude.{◌≡◌, ℕ, ◌+◌, ◌-◌, ◌<◌, ◌≤◌, Bool, true, false, ◌&&◌, nat_le, not, if◌then◌else◌, List, [], ◌∷◌}
+use Rattle.cp_invlist.specs.InversionList.{is_code_point, contains}
 use Rattle.cp_invlist.specs.declared.ranges.CodePointRange.{CodePointRange}
 
 -- the number lies in the range
@@ -32,3 +32,17 @@ abbrev pub ranges_of : List ℕ → List CodePointRange
 ranges_of [] = []
 ranges_of (a ∷ []) = []
 ranges_of (a ∷ b ∷ xs) = record { start = a; end = b - 1 } ∷ ranges_of xs
+
+-- a code point that is no member
+abbrev pub is_outside : List ℕ → ℕ → Bool
+is_outside xs c = is_code_point c && not (contains xs c)
+
+-- the code points from a number on, as at most one range
+abbrev pub last_gap : ℕ → List CodePointRange
+last_gap n = if nat_le n 0x10_FFFF then record { start = n; end = 0x10_FFFF } ∷ [] else []
+
+-- The ranges between those that an inversion list spells, where its first range starts above the number.
+abbrev pub gaps_from : ℕ → List ℕ → List CodePointRange
+gaps_from n [] = last_gap n
+gaps_from n (a ∷ []) = last_gap n
+gaps_from n (a ∷ b ∷ xs) = record { start = n; end = a - 1 } ∷ gaps_from b xs

@@ -1,19 +1,20 @@
 //! The builder, whose list is canonical after each call.
-ghost use Rattle.std.specs.Prelude.{◌≡◌, ℕ, ◌||◌, ◌&&◌, ◌==◌, ◌<◌, ◌≤◌, [], OnOk, OnErr, All, vec_len, length};
+ghost use Rattle.std.specs.Prelude.{◌≡◌, ℕ, ◌+◌, ◌||◌, ◌&&◌, not, ◌==◌, ◌<◌, ◌≤◌, [], OnOk, OnErr, All, vec_len, length};
 ghost use Rattle.std.specs.Bool.{OnTrue};
 ghost use Rattle.std.specs.List.{splice};
 ghost use Rattle.cp_invlist.specs.InversionList.{contains, is_code_point, IsInversionList};
+ghost use Rattle.cp_invlist.specs.Merge.{keeps};
 ghost use Rattle.cp_invlist.specs.Cuts.{CutBefore, CutAfter};
 ghost use Rattle.cp_invlist.specs.Ranges.{in_code_points};
 
 use crate::error::NoMemory;
-use crate::ranges::CodePointRange;
+use crate::merge::{Operation, merge, merge_uncounted};
+use crate::ranges::{CodePointRange, LAST_CODE_POINT};
 use crate::set::CodePointInversionList;
+use crate::steps::Steps;
 use std::alloc::Global;
 use std::marker::Model;
-
-/// The last code point.
-const LAST_CODE_POINT: u32 = 0x10_FFFF;
+use std::sync::ledger::Ledger;
 
 /// Builds a set by adding members. A contract sees it as the inversion list of what was added.
 #[derive(Drop)]
@@ -78,6 +79,119 @@ impl CodePointInversionListBuilder {
         let high = cut_after(&self.elements, past);
         // An end that lies within a range of members, or touches one, is no end of the joined range.
         replace(&mut self.elements, low, high, &ends[low % 2..2 - high % 2])
+    }
+
+    /// Adds the members of the set. It goes once along both lists.
+    pub fn add_set(&mut self, set: &CodePointInversionList) -> Result<(), NoMemory>
+        ensures ok { OnOk result ((d : ℕ) → contains self.new d ≡ (contains self.old d || contains set.now d)) }
+        ensures err { OnErr result (self.new ≡ self.old) }
+    {
+        self.merge_with(Operation::Union, set)
+    }
+
+    /// `add_set`, which counts one step for each element that it takes from either list.
+    pub fn add_set_steps<L: Ledger>(
+        &mut self,
+        set: &CodePointInversionList,
+        steps: &mut Steps<L>,
+    ) -> Result<(), NoMemory>
+        ensures ok { OnOk result ((d : ℕ) → contains self.new d ≡ (contains self.old d || contains set.now d)) }
+        ensures err { OnErr result (self.new ≡ self.old) }
+        ensures cost { steps.new ≤ steps.old + (length self.old + length set.now) }
+    {
+        self.merge_with_steps(Operation::Union, set, steps)
+    }
+
+    /// Removes the members of the set. It goes once along both lists.
+    pub fn remove_set(&mut self, set: &CodePointInversionList) -> Result<(), NoMemory>
+        ensures ok { OnOk result ((d : ℕ) → contains self.new d ≡ (contains self.old d && not (contains set.now d))) }
+        ensures err { OnErr result (self.new ≡ self.old) }
+    {
+        self.merge_with(Operation::Difference, set)
+    }
+
+    /// `remove_set`, which counts one step for each element that it takes from either list.
+    pub fn remove_set_steps<L: Ledger>(
+        &mut self,
+        set: &CodePointInversionList,
+        steps: &mut Steps<L>,
+    ) -> Result<(), NoMemory>
+        ensures ok { OnOk result ((d : ℕ) → contains self.new d ≡ (contains self.old d && not (contains set.now d))) }
+        ensures err { OnErr result (self.new ≡ self.old) }
+        ensures cost { steps.new ≤ steps.old + (length self.old + length set.now) }
+    {
+        self.merge_with_steps(Operation::Difference, set, steps)
+    }
+
+    /// Removes what is no member of the set. It goes once along both lists.
+    pub fn retain_set(&mut self, set: &CodePointInversionList) -> Result<(), NoMemory>
+        ensures ok { OnOk result ((d : ℕ) → contains self.new d ≡ (contains self.old d && contains set.now d)) }
+        ensures err { OnErr result (self.new ≡ self.old) }
+    {
+        self.merge_with(Operation::Intersection, set)
+    }
+
+    /// `retain_set`, which counts one step for each element that it takes from either list.
+    pub fn retain_set_steps<L: Ledger>(
+        &mut self,
+        set: &CodePointInversionList,
+        steps: &mut Steps<L>,
+    ) -> Result<(), NoMemory>
+        ensures ok { OnOk result ((d : ℕ) → contains self.new d ≡ (contains self.old d && contains set.now d)) }
+        ensures err { OnErr result (self.new ≡ self.old) }
+        ensures cost { steps.new ≤ steps.old + (length self.old + length set.now) }
+    {
+        self.merge_with_steps(Operation::Intersection, set, steps)
+    }
+
+    /// Takes the complement: the code points that were no members.
+    pub fn complement(&mut self) -> Result<(), NoMemory>
+        ensures ok { OnOk result ((d : ℕ) → contains self.new d ≡ (is_code_point d && not (contains self.old d))) }
+        ensures err { OnErr result (self.new ≡ self.old) }
+    {
+        let all = [0, LAST_CODE_POINT + 1];
+        let alloc = *self.elements.allocator();
+        self.elements = merge_uncounted(alloc, Operation::Difference, &all, &self.elements)?;
+        Ok(())
+    }
+
+    fn merge_with(
+        &mut self,
+        operation: Operation,
+        set: &CodePointInversionList,
+    ) -> Result<(), NoMemory>
+        ensures ok { OnOk result ((d : ℕ) → contains self.new d ≡ keeps operation (contains self.old d) (contains set.now d)) }
+        ensures err { OnErr result (self.new ≡ self.old) }
+    {
+        let alloc = *self.elements.allocator();
+        self.elements = merge_uncounted(
+            alloc,
+            operation,
+            &self.elements,
+            set.get_inversion_list(),
+        )?;
+        Ok(())
+    }
+
+    fn merge_with_steps<L: Ledger>(
+        &mut self,
+        operation: Operation,
+        set: &CodePointInversionList,
+        steps: &mut Steps<L>,
+    ) -> Result<(), NoMemory>
+        ensures ok { OnOk result ((d : ℕ) → contains self.new d ≡ keeps operation (contains self.old d) (contains set.now d)) }
+        ensures err { OnErr result (self.new ≡ self.old) }
+        ensures cost { steps.new ≤ steps.old + (length self.old + length set.now) }
+    {
+        let alloc = *self.elements.allocator();
+        self.elements = merge(
+            alloc,
+            operation,
+            &self.elements,
+            set.get_inversion_list(),
+            steps,
+        )?;
+        Ok(())
     }
 
     // Whether the number is above all elements.

@@ -2,11 +2,16 @@
 #![tactic(auto)]
 
 mod builder;
+mod cursor;
 mod error;
+pub mod laws;
+mod merge;
 mod ranges;
 mod set;
+mod steps;
 
 pub use builder::CodePointInversionListBuilder;
-pub use error::NoMemory;
-pub use ranges::{CodePointRange, InversionListRanges};
+pub use error::{InversionListError, NoMemory};
+pub use ranges::{CodePointRange, ComplementedRanges, InversionListRanges};
 pub use set::CodePointInversionList;
+pub use steps::Steps;

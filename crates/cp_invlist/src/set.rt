@@ -1,10 +1,15 @@
 //! The set: its list, and what it answers.
-ghost use Rattle.std.specs.Prelude.{◌≡◌, ℕ, ◌↔◌, IsTrue, [], List};
-ghost use Rattle.cp_invlist.specs.InversionList.{contains, IsInversionList};
-ghost use Rattle.cp_invlist.specs.Ranges.{AreMaximalRanges};
+ghost use Rattle.std.specs.Prelude.{◌≡◌, ℕ, ◌≤◌, ◌↔◌, IsTrue, IsErrOf, IfOk, OnOk, IfNone, Some, nat_eq, sum_by, [], ◌∷◌, List};
+ghost use Rattle.std.specs.Cmp.Lexicographic.{pointwise};
+ghost use Rattle.cp_invlist.specs.Fault.{fault_of};
+ghost use Rattle.cp_invlist.specs.Size.{count_members, range_size};
+ghost use Rattle.cp_invlist.specs.InversionList.{contains, is_code_point, IsInversionList};
+ghost use Rattle.cp_invlist.specs.Ranges.{AreMaximalRanges, is_outside};
 ghost use Rattle.cp_invlist.specs.declared.ranges.CodePointRange.{CodePointRange};
 
-use crate::ranges::{CodePointRange, InversionListRanges};
+use crate::error::{InversionListError, NoMemory};
+use crate::ranges::{CodePointRange, ComplementedRanges, InversionListRanges, LAST_CODE_POINT};
+use std::alloc::Global;
 use std::marker::Model;
 
 /// A set of code points, surrogates included, as an inversion list (ICU's name for the form, which
@@ -34,6 +39,41 @@ impl CodePointInversionList {
         CodePointInversionList { elements }
     }
 
+    /// The set whose list this is.
+    ///
+    /// It answers `Invalid` where the list is no inversion list: with the first index whose element isn't above the one
+    /// before it or is above 110000, else with the length where that is odd.
+    pub fn try_from_inversion_list(
+        alloc: Global,
+        list: &[u32],
+    ) -> Result<CodePointInversionList, InversionListError>
+        ensures list { IfOk result (λ s. s ≡ list.now) }
+        ensures canonical { OnOk result (IsInversionList list.now) }
+        ensures invalid { (index : ℕ) → IsErrOf result (InversionListError.Invalid index) ↔ (fault_of list.now ≡ Some index) }
+    {
+        if let Some(index) = find_fault(list) {
+            return Err(InversionListError::Invalid { index });
+        }
+        let elements = Vec::from_slice(alloc, list)?;
+        Ok(CodePointInversionList { elements })
+    }
+
+    /// The set of all code points.
+    pub fn all(alloc: Global) -> Result<CodePointInversionList, NoMemory>
+        ensures members { IfOk result (λ s. (c : ℕ) → contains s c ≡ is_code_point c) }
+        ensures list { IfOk result (λ s. s ≡ 0 ∷ 0x11_0000 ∷ []) }
+    {
+        let elements = Vec::from_slice(alloc, &[0, LAST_CODE_POINT + 1])?;
+        Ok(CodePointInversionList { elements })
+    }
+
+    /// Whether the character is a member.
+    pub fn contains(&self, c: char) -> bool
+        ensures { result ≡ contains self.now c }
+    {
+        self.contains32(c as u32)
+    }
+
     /// Whether the number is a member. A number past 10FFFF is none. It is found by binary search.
     pub fn contains32(&self, c: u32) -> bool
         ensures { result ≡ contains self.now c }
@@ -49,6 +89,27 @@ impl CodePointInversionList {
         InversionListRanges::new(&self.elements)
     }
 
+    /// The maximal ranges of the code points that are no members, in order.
+    pub fn iter_ranges_complemented(&self) -> ComplementedRanges<'_>
+        ensures maximal { AreMaximalRanges (is_outside self.now) result }
+        ensures only { (rs : List CodePointRange) → AreMaximalRanges (is_outside self.now) rs → rs ≡ result }
+    {
+        ComplementedRanges::new(&self.elements)
+    }
+
+    /// How many members the set has.
+    pub fn size(&self) -> usize
+        ensures counted { result ≡ count_members (contains self.now) 0x11_0000 }
+        ensures bound { result ≤ 0x11_0000 }
+        ensures summed { (rs : List CodePointRange) → AreMaximalRanges (contains self.now) rs → result ≡ sum_by range_size rs }
+    {
+        let mut size = 0;
+        for range in InversionListRanges::new(&self.elements) {
+            size += (range.end - range.start + 1) as usize;
+        }
+        size
+    }
+
     /// The list: for each maximal range its first member and the number past its last member.
     pub fn get_inversion_list(&self) -> &[u32]
         ensures elements { result.now ≡ self.now }
@@ -62,5 +123,57 @@ impl CodePointInversionList {
         ensures list { IsTrue result ↔ (self.now ≡ []) }
     {
         self.elements.is_empty()
+    }
+
+    /// An equal set.
+    pub fn copy(&self, alloc: Global) -> Result<CodePointInversionList, NoMemory>
+        ensures { IfOk result (λ s. s ≡ self.now) }
+    {
+        let elements = Vec::from_slice(alloc, &self.elements)?;
+        Ok(CodePointInversionList { elements })
+    }
+}
+
+impl PartialEq for CodePointInversionList {
+    ghost use Rattle.std.specs.Prelude.{nat_eq};
+    ghost use Rattle.std.specs.Cmp.Lexicographic.{pointwise};
+    ghost use Rattle.std.specs.Cmp.{partial_equiv_from_equiv};
+    ghost use Rattle.std.specs.Cmp.Lexicographic.{nat_list_eq_equiv};
+
+    ghost eq = { pointwise nat_eq };
+
+    ghost laws = { partial_equiv_from_equiv nat_list_eq_equiv };
+
+    fn eq(&self, other: &CodePointInversionList) -> bool
+        ensures value { result ≡ pointwise nat_eq self.now other.now }
+        ensures lists { IsTrue result ↔ (self.now ≡ other.now) }
+        ensures members { IsTrue result ↔ ((c : ℕ) → contains self.now c ≡ contains other.now c) }
+    {
+        self.elements == other.elements
+    }
+}
+
+impl Eq for CodePointInversionList {
+    ghost use Rattle.std.specs.Cmp.Lexicographic.{nat_list_eq_equiv};
+
+    ghost laws = { nat_list_eq_equiv };
+}
+
+// The index of the first fault of a list that is no inversion list.
+fn find_fault(list: &[u32]) -> Option<usize>
+    ensures fault { result ≡ fault_of list.now }
+    ensures none { IfNone result (IsInversionList list.now) }
+{
+    let mut low = 0;
+    for (index, element) in list.iter().enumerate() {
+        if *element < low || *element > LAST_CODE_POINT + 1 {
+            return Some(index);
+        }
+        low = *element + 1;
+    }
+    if list.len() % 2 == 0 {
+        None
+    } else {
+        Some(list.len())
     }
 }

@@ -1,0 +1,23 @@
+-- What a list of numbers lacks to be an inversion list.
+use Rattle.std.specs.Prelude.{ℕ, suc, ◌&&◌, nat_le, if◌then◌else◌, Option, Some, None, List, [], ◌∷◌, length}
+use Rattle.cp_invlist.specs.InversionList.{has_even_length}
+
+-- The index of the first element that is below the number, or not above the element before it, or above 110000. The first
+-- element has the index i.
+abbrev pub first_out_of_order : ℕ → ℕ → List ℕ → Option ℕ
+first_out_of_order n i [] = None
+first_out_of_order n i (x ∷ xs) =
+    if nat_le n x && nat_le x 0x11_0000 then first_out_of_order (suc x) (suc i) xs else Some i
+
+-- the length where it is odd
+abbrev pub odd_end : List ℕ → Option ℕ
+odd_end xs = if has_even_length xs then None else Some (length xs)
+
+-- the first of two that is there
+abbrev pub first_or : Option ℕ → Option ℕ → Option ℕ
+first_or None o = o
+first_or (Some i) o = Some i
+
+-- the first element out of order, or where there is none the end of a list of odd length
+abbrev pub fault_of : List ℕ → Option ℕ
+fault_of xs = first_or (first_out_of_order 0 0 xs) (odd_end xs)

@@ -1,0 +1,2 @@
+pub mod StringSet
+pub mod StringList

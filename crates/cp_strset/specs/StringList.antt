@@ -1,0 +1,40 @@
+-- What a list of strings lacks to be strictly ascending by bytes with no string of one character.
+use Rattle.std.specs.Prelude.{ℕ, suc, if◌then◌else◌, Option, Some, None, is_some, List, [], ◌∷◌}
+use Rattle.std.specs.Ordering.{nat_cmp}
+use Rattle.std.specs.declared.cmp.Ordering.{Ordering}
+use Rattle.std.specs.declared.cmp.Ordering.TheVariants.{Less, Equal, Greater}
+use Rattle.std.specs.Cmp.Lexicographic.{slice_cmp}
+use Rattle.std.specs.Str.{chars}
+use Rattle.cp_strset.specs.declared.StringListError.{StringListError}
+use Rattle.cp_strset.specs.declared.StringListError.TheVariants.{StringOfOne, NotSorted, NotUnique}
+
+-- the one character of a list of exactly one
+abbrev pub sole_of : List ℕ → Option ℕ
+sole_of [] = None
+sole_of (c ∷ []) = Some c
+sole_of (c ∷ d ∷ cs) = None
+
+-- the fault of a string by how it compares with the one before it
+abbrev pub fault_of_order : Ordering → ℕ → Option StringListError
+fault_of_order Less i = Some (NotSorted i)
+fault_of_order Equal i = Some (NotUnique i)
+fault_of_order Greater i = None
+
+-- the same, where there may be none before it
+abbrev pub fault_behind : Option (List ℕ) → List ℕ → ℕ → Option StringListError
+fault_behind None s i = None
+fault_behind (Some p) s i = fault_of_order (slice_cmp nat_cmp s p) i
+
+-- the fault of a string, with the one before it and its index
+abbrev pub fault_at : Option (List ℕ) → List ℕ → ℕ → Option StringListError
+fault_at p s i = if is_some (sole_of (chars s)) then Some (StringOfOne i) else fault_behind p s i
+
+-- the first of two that is there
+abbrev pub first_or : Option StringListError → Option StringListError → Option StringListError
+first_or None o = o
+first_or (Some e) o = Some e
+
+-- The first fault of a list of strings, with the one before them and the index of the first.
+abbrev pub fault_from : Option (List ℕ) → ℕ → List (List ℕ) → Option StringListError
+fault_from p i [] = None
+fault_from p i (s ∷ ss) = first_or (fault_at p s i) (fault_from (Some s) (suc i) ss)
