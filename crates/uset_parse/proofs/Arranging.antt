@@ -1,6 +1,6 @@
 -- What a bracket awaits is the rest of a body: the items that were taken are pushed back in front of those to come.
-use Rattle.std.proofs.Common.{◌≡◌, ℕ, ◌≤◌, Bool, true, false, ◌||◌, ◌&&◌, cond, nat_le, List, [], ◌∷◌, Option, Some, None, refl, sym, ap, ◌∙◌, subst}
-use Rattle.std.proofs.lemmas.Bool.{cases_Bool, leb-true, le-leb, false≢true}
+use Rattle.std.proofs.Common.{◌≡◌, ℕ, ◌≤◌, Bool, true, false, ◌||◌, ◌&&◌, cond, nat_le, List, [], ◌∷◌, Option, Some, None, is_some, refl, sym, ap, ◌∙◌, subst}
+use Rattle.std.proofs.lemmas.Bool.{cases_Bool, leb-true, le-leb, true≢false}
 use Rattle.uset_parse.specs.declared.bracket.Awaits.{Awaits}
 use Rattle.uset_parse.specs.declared.bracket.Awaits.TheVariants.{Element, AfterSingle, RangeEnd, End}
 use Rattle.uset_parse.specs.declared.token.Token.{Token as CodeToken}
@@ -51,7 +51,7 @@ abbrev pub Leaves : Awaits → Item → Option Turn → Type 0
 Leaves awaits i None = Unit {0}
 Leaves awaits i (Some t) = LeavesAfter awaits i t.added t.awaits
 
-leaves_hyphen : (awaits : Awaits) → Leaves awaits minus (turn awaits Minus)
+pub leaves_hyphen : (awaits : Awaits) → Leaves awaits minus (turn awaits Minus)
 leaves_hyphen Element = λ is steps h. record { steps = steps; residual = h; same = none_added steps }
 leaves_hyphen (AfterSingle a) = λ is steps h. record { steps = steps; residual = h; same = none_added steps }
 leaves_hyphen (RangeEnd a) = tt
@@ -61,7 +61,7 @@ leaves_range : (a b : ℕ) (t : Bool) → nat_le a b ≡ t → Leaves (RangeEnd 
 leaves_range a b true le = λ is steps h. record { steps = add a b steps; residual = range (leb-true a b le) h; same = one_added a b steps }
 leaves_range a b false le = tt
 
-leaves_character : (awaits : Awaits) (c : ℕ) → Leaves awaits (chars (c ∷ [])) (turn awaits (Character c))
+pub leaves_character : (awaits : Awaits) (c : ℕ) → Leaves awaits (chars (c ∷ [])) (turn awaits (Character c))
 leaves_character Element c = λ is steps h. record { steps = steps; residual = h; same = none_added steps }
 leaves_character (AfterSingle a) c = λ is steps h. record { steps = add a a steps; residual = members h; same = one_added a a steps }
 leaves_character (RangeEnd a) c = leaves_range a c (nat_le a c) refl
@@ -79,7 +79,7 @@ Follows is steps (Some t) = FollowsAfter is steps t.added t.awaits
 no_hyphen_first : (i : Item) (is : List Item) (steps : Steps) → Body (minus ∷ i ∷ is) steps → ⊥
 no_hyphen_first i is steps h = elim h [ ]
 
-follows_hyphen : (awaits : Awaits) (is : List Item) (steps : Steps) → Residual awaits (minus ∷ is) steps → Follows is steps (turn awaits Minus)
+pub follows_hyphen : (awaits : Awaits) (is : List Item) (steps : Steps) → Residual awaits (minus ∷ is) steps → Follows is steps (turn awaits Minus)
 follows_hyphen Element is steps h = (steps, h, none_added steps)
 follows_hyphen (AfterSingle a) is steps h = (steps, h, none_added steps)
 follows_hyphen (RangeEnd a) is _ (members h) = no_hyphen_first minus is _ h
@@ -90,7 +90,7 @@ follows_range a b is _ (range {steps = rest} le h) =
     subst (λ t. Follows is (add a b rest) (cond t (goes_on ((a, b) ∷ []) Element) None)) (sym (le-leb a b le)) (rest, h, one_added a b rest)
 follows_range a b is _ (members h) = absurd (no_hyphen_first (chars (b ∷ [])) is _ h)
 
-follows_character : (awaits : Awaits) (c : ℕ) (is : List Item) (steps : Steps) → Residual awaits (chars (c ∷ []) ∷ is) steps → Follows is steps (turn awaits (Character c))
+pub follows_character : (awaits : Awaits) (c : ℕ) (is : List Item) (steps : Steps) → Residual awaits (chars (c ∷ []) ∷ is) steps → Follows is steps (turn awaits (Character c))
 follows_character Element c is steps h = (steps, h, none_added steps)
 follows_character (AfterSingle a) c is _ (members {steps = rest} h) = (rest, h, one_added a a rest)
 follows_character (RangeEnd a) c is steps h = follows_range a c is steps h
@@ -146,3 +146,25 @@ closed (RangeEnd a) =
 closed End =
     (record { steps = add 0x2D 0x2D done; residual = hyphen; same = λ c b. one_more b (nat_le 0x2D c && nat_le c 0x2D) },
      λ steps h c b. only_hyphen steps h c b ∙ one_more b (nat_le 0x2D c && nat_le c 0x2D))
+
+-- the turn leaves the bracket open
+abbrev leaves_open : Option Turn → Bool
+leaves_open None = false
+leaves_open (Some t) = is_some t.awaits
+
+-- only `]` closes a bracket
+pub hyphen_not_closed : (awaits : Awaits) (added : List (ℕ × ℕ)) → turn awaits Minus ≡ closes added → ⊥
+hyphen_not_closed Element added e = true≢false (ap leaves_open e)
+hyphen_not_closed (AfterSingle a) added e = true≢false (ap leaves_open e)
+hyphen_not_closed (RangeEnd a) added e = cc
+hyphen_not_closed End added e = cc
+
+range_not_closed : (b : Bool) (ranges added : List (ℕ × ℕ)) → cond b (goes_on ranges Element) None ≡ closes added → ⊥
+range_not_closed true ranges added e = true≢false (ap leaves_open e)
+range_not_closed false ranges added e = cc
+
+pub character_not_closed : (awaits : Awaits) (c : ℕ) (added : List (ℕ × ℕ)) → turn awaits (Character c) ≡ closes added → ⊥
+character_not_closed Element c added e = true≢false (ap leaves_open e)
+character_not_closed (AfterSingle a) c added e = true≢false (ap leaves_open e)
+character_not_closed (RangeEnd a) c added e = range_not_closed (nat_le a c) ((a, c) ∷ []) added e
+character_not_closed End c added e = cc

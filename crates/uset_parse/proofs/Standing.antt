@@ -1,14 +1,22 @@
 -- Where the reading of a bracket stands: what is gathered, what the bracket awaits, and the text to come.
-use Rattle.std.proofs.Common.{◌≡◌, ℕ, Bool, false, ◌||◌, ◌&&◌, ◌==◌, List, [], ◌∷◌, Option, Some, None, refl, sym, ap, ◌∙◌, subst}
+use Rattle.std.proofs.Common.{◌≡◌, ℕ, Bool, false, ◌||◌, ◌&&◌, ◌==◌, List, [], ◌∷◌, ◌++◌, length, get_or, Option, Some, None, refl, sym, ap, ◌∙◌, subst, arith, length-append, ◌+◌, ◌-◌, ◌≤◌}
+use Rattle.std.specs.Str.{chars as characters, IsUtf8}
+use Rattle.std.proofs.lemmas.Str.{encodes-chars}
+use Rattle.cp_invlist.specs.InversionList.{contains}
+use Rattle.uset_parse.specs.declared.bracket.OpenBracket.{OpenBracket}
 use Rattle.uset_parse.specs.declared.bracket.Awaits.{Awaits}
 use Rattle.uset_parse.specs.declared.bracket.Awaits.TheVariants.{Element}
+use Rattle.uset_parse.specs.declared.error.ParseErrorKind.{ParseErrorKind}
+use Rattle.uset_parse.specs.declared.error.ParseErrorKind.TheVariants.{Internal, Unimplemented, NoMemory}
 use Rattle.uset_parse.specs.declared.token.Token.{Token as CodeToken}
-use Rattle.uset_parse.specs.declared.token.Token.TheVariants.{Close}
+use Rattle.uset_parse.specs.declared.token.Token.TheVariants.{Close, Minus, Character}
 use Rattle.uset_parse.specs.Text.{Text}
 use Rattle.uset_parse.specs.Tree.{Tree, Steps, bracket, has, gathers}
-use Rattle.uset_parse.specs.Grammar.{Syntax, Item, Token, item, close, header, token, ReadsItems, ends, reads, ReadsSet, reads_bracket}
-use Rattle.uset_parse.specs.Turn.{Turn, turn, goes_on, closes, in_added}
-use Rattle.uset_parse.proofs.Arranging.{Residual, Arranged, onto, Leaves, Follows, Closed, closed}
+use Rattle.uset_parse.specs.Grammar.{Syntax, Item, chars, minus, Token, item, close, header, token, ReadsItems, ends, reads, ReadsSet, reads_bracket}
+use Rattle.uset_parse.specs.Fault.{ReadsNothing}
+use Rattle.uset_parse.specs.Reading.{Unread, IsFront}
+use Rattle.uset_parse.specs.Turn.{turn, goes_on, closes, in_added, token_seen, Gains, Refuses}
+use Rattle.uset_parse.proofs.Arranging.{Residual, Arranged, onto, Leaves, leaves_hyphen, leaves_character, Follows, follows_hyphen, follows_character, Closed, closed, hyphen_not_closed, character_not_closed}
 
 -- the rest completes a reading of the source: the items and steps to come, and the set that they give
 pub record Completes (syntax : Syntax) (gathered : ℕ → Bool) (awaits : Awaits) (rest : Text) (members : ℕ → Bool) (end : Text) : Type 0 where
@@ -28,6 +36,12 @@ pub record Denotes (syntax : Syntax) (source : Text) (members : ℕ → Bool) (e
 pub record StandsAt (syntax : Syntax) (source : Text) (gathered : ℕ → Bool) (awaits : Awaits) (rest : Text) : Type 0 where
   pub sound : (members : ℕ → Bool) (end : Text) → Completes syntax gathered awaits rest members end → Denotes syntax source members end
   pub complete : (members : ℕ → Bool) (end : Text) → Denotes syntax source members end → Completes syntax gathered awaits rest members end
+
+-- the one bracket that is open, and where its reading stands
+pub record OneOpen (syntax : Syntax) (source : Text) (open_brackets : List OpenBracket) (rest : Text) : Type 0 where
+  pub innermost : OpenBracket
+  pub only : open_brackets ≡ innermost ∷ []
+  pub stands : StandsAt syntax source (contains innermost.builder) innermost.awaits rest
 
 abbrev pair_or : {A B : Type 0} → A × B → Option (A × B) → A × B
 pair_or d None = d
@@ -69,7 +83,7 @@ begun syntax source rest leading gathered found gathered_is = record {
 }
 
 -- without a header nothing is read
-pub no_header : (syntax : Syntax) (source : Text) → header syntax source ≡ None → (tree : Tree) (end : Text) → ReadsSet syntax source tree end → ⊥
+pub no_header : (syntax : Syntax) (source : Text) → header syntax source ≡ None → ReadsNothing syntax source
 no_header syntax source none _ end (reads_bracket header_is items body) = cc
 
 -- what completes the reading behind an item completes it in front of the item
@@ -124,7 +138,7 @@ item_taken syntax source t next i awaits next_awaits added gathered new at found
 -- an item that doesn't fit stands in front: nothing is read
 pub item_refused : (syntax : Syntax) (source t next : Text) (i : Item) (awaits : Awaits) (gathered : ℕ → Bool) →
     StandsAt syntax source gathered awaits t → token syntax t ≡ Some (item i, next) →
-    ((is : List Item) (steps : Steps) → Residual awaits (i ∷ is) steps → ⊥) → (tree : Tree) (end : Text) → ReadsSet syntax source tree end → ⊥
+    ((is : List Item) (steps : Steps) → Residual awaits (i ∷ is) steps → ⊥) → ReadsNothing syntax source
 item_refused syntax source t next i awaits gathered at found refused tree end read =
     let h = at.complete (has tree) end (record { tree = tree; read = read; same = λ c. refl }) in
     let split = items_behind syntax t next i h.items end found h.read in
@@ -136,7 +150,7 @@ no_items syntax t _ end none (reads found rest) = cc
 
 -- no token stands in front: nothing is read
 pub no_token : (syntax : Syntax) (source t : Text) (awaits : Awaits) (gathered : ℕ → Bool) → StandsAt syntax source gathered awaits t → token syntax t ≡ None →
-    (tree : Tree) (end : Text) → ReadsSet syntax source tree end → ⊥
+    ReadsNothing syntax source
 no_token syntax source t awaits gathered at none tree end read =
     let h = at.complete (has tree) end (record { tree = tree; read = read; same = λ c. refl }) in
     no_items syntax t h.items end none h.read
@@ -154,3 +168,79 @@ bracket_closed syntax source t behind awaits added gathered new at found turned 
       residual = arranged.residual;
       same = λ c. gains c ∙ sym (arranged.same c (gathered c));
     })
+
+closed_not_open : (awaits : Awaits) (added : List (ℕ × ℕ)) (next : Awaits) → turn awaits Close ≡ goes_on added next → ⊥
+closed_not_open awaits added next e = subst (Closed awaits) e (closed awaits)
+
+closed_not_refused : (awaits : Awaits) → turn awaits Close ≡ None → ⊥
+closed_not_refused awaits e = subst (Closed awaits) e (closed awaits)
+
+-- a token that fits was taken, and the bracket is still open
+pub token_taken : (syntax : Syntax) (source t next : Text) (taken : CodeToken) (old new : OpenBracket) →
+    StandsAt syntax source (contains old.builder) old.awaits t → token syntax t ≡ Some (token_seen taken, next) →
+    (goes : (added : List (ℕ × ℕ)) × (turn old.awaits taken ≡ goes_on added new.awaits) × Gains old.builder added new.builder) →
+    StandsAt syntax source (contains new.builder) new.awaits next
+token_taken syntax source t next Close old new at found goes = absurd (closed_not_open old.awaits goes.0 new.awaits goes.1)
+token_taken syntax source t next Minus old new at found goes =
+    item_taken syntax source t next minus old.awaits new.awaits goes.0 (contains old.builder) (contains new.builder) at found
+        (subst (Leaves old.awaits minus) goes.1 (leaves_hyphen old.awaits))
+        (λ is steps h. subst (Follows is steps) goes.1 (follows_hyphen old.awaits is steps h))
+        goes.2
+token_taken syntax source t next (Character c) old new at found goes =
+    item_taken syntax source t next (chars (c ∷ [])) old.awaits new.awaits goes.0 (contains old.builder) (contains new.builder) at found
+        (subst (Leaves old.awaits (chars (c ∷ []))) goes.1 (leaves_character old.awaits c))
+        (λ is steps h. subst (Follows is steps) goes.1 (follows_character old.awaits c is steps h))
+        goes.2
+
+-- a token that doesn't fit stands in front
+pub token_refused : (syntax : Syntax) (source t next : Text) (taken : CodeToken) (awaits : Awaits) (gathered : ℕ → Bool) →
+    StandsAt syntax source gathered awaits t → token syntax t ≡ Some (token_seen taken, next) → turn awaits taken ≡ None → ReadsNothing syntax source
+token_refused syntax source t next Close awaits gathered at found none = absurd (closed_not_refused awaits none)
+token_refused syntax source t next Minus awaits gathered at found none =
+    item_refused syntax source t next minus awaits gathered at found (λ is steps h. subst (Follows is steps) none (follows_hyphen awaits is steps h))
+token_refused syntax source t next (Character c) awaits gathered at found none =
+    item_refused syntax source t next (chars (c ∷ [])) awaits gathered at found (λ is steps h. subst (Follows is steps) none (follows_character awaits c is steps h))
+
+-- a token was refused, or memory was
+pub refusal : (syntax : Syntax) (source t next : Text) (taken : CodeToken) (awaits : Awaits) (gathered : ℕ → Bool) (kind : ParseErrorKind) →
+    StandsAt syntax source gathered awaits t → token syntax t ≡ Some (token_seen taken, next) → Refuses (turn awaits taken) kind → Unread syntax source kind
+refusal syntax source t next taken awaits gathered Unimplemented at found h = token_refused syntax source t next taken awaits gathered at found h
+refusal syntax source t next taken awaits gathered NoMemory at found h = tt
+refusal syntax source t next taken awaits gathered Internal at found h = h
+
+-- `]` closes the bracket, and no other token does
+pub token_closes : (syntax : Syntax) (source t next : Text) (taken : CodeToken) (old : OpenBracket) (set : List ℕ) →
+    StandsAt syntax source (contains old.builder) old.awaits t → token syntax t ≡ Some (token_seen taken, next) →
+    (ends_here : (added : List (ℕ × ℕ)) × (turn old.awaits taken ≡ closes added) × Gains old.builder added set) → Denotes syntax source (contains set) next
+token_closes syntax source t next Close old set at found ends_here =
+    bracket_closed syntax source t next old.awaits ends_here.0 (contains old.builder) (contains set) at found ends_here.1 ends_here.2
+token_closes syntax source t next Minus old set at found ends_here = absurd (hyphen_not_closed old.awaits ends_here.0 ends_here.1)
+token_closes syntax source t next (Character c) old set at found ends_here = absurd (character_not_closed old.awaits c ends_here.0 ends_here.1)
+
+-- the innermost of one open bracket is that bracket
+popped : (open_brackets rest : List OpenBracket) (one last : OpenBracket) → open_brackets ≡ one ∷ [] → open_brackets ≡ rest ++ last ∷ [] → (rest ≡ []) × (one ≡ last)
+popped open_brackets [] one last e f = (refl, ap (λ (l : List OpenBracket). get_or l 0 one) (sym e ∙ f))
+popped open_brackets (x ∷ rest) one last e f = absurd (omega (arith, ap length (sym e ∙ f), length-append rest (last ∷ [])))
+
+-- the loop's next turn begins with the bracket on top
+pub on_top : (syntax : Syntax) (source rest : Text) (open_brackets left : List OpenBracket) (top : OpenBracket) → OneOpen syntax source open_brackets rest → open_brackets ≡ left ++ top ∷ [] →
+    (left ≡ []) × StandsAt syntax source (contains top.builder) top.awaits rest
+on_top syntax source rest open_brackets left top one taken =
+    let parts = popped open_brackets left one.innermost top one.only taken in
+    (parts.0, subst (λ (b : OpenBracket). StandsAt syntax source (contains b.builder) b.awaits rest) parts.1 one.stands)
+
+pub one_open : (syntax : Syntax) (source rest : Text) (left now : List OpenBracket) (top : OpenBracket) → left ≡ [] → now ≡ left ++ top ∷ [] → StandsAt syntax source (contains top.builder) top.awaits rest →
+    OneOpen syntax source now rest
+one_open syntax source rest left now top empty pushed stands =
+    record { innermost = top; only = pushed ∙ ap (λ (l : List OpenBracket). l ++ top ∷ []) empty; stands = stands }
+
+-- a reading up to here, with its place
+pub front : (syntax : Syntax) (source : Text) (size : ℕ) (behind : List ℕ) (set : List ℕ) → Denotes syntax source (contains set) (characters behind) → IsUtf8 behind → length behind ≤ size →
+    IsFront syntax source size set (size - length behind)
+front syntax source size behind set h text within = record {
+  tree = h.tree;
+  rest = characters behind;
+  read = h.read;
+  members = h.same;
+  place = omega (arith, ap length (encodes-chars behind text));
+}

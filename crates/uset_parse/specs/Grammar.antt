@@ -1,8 +1,8 @@
 -- The grammar of UnicodeSet patterns (UTS 35, Unicode Sets, as far as it is read): a pattern is one bracket of characters and
 -- ranges at the front of a source, and what follows it is free.
-use Rattle.std.specs.Prelude.{◌≡◌, ℕ, ◌≤◌, Bool, true, false, not, ◌||◌, ◌==◌, List, [], ◌∷◌, drop, Option, Some, None, if◌then◌else◌}
+use Rattle.std.specs.Prelude.{◌≡◌, ℕ, ◌≤◌, Bool, true, false, not, ◌||◌, ◌==◌, List, [], ◌∷◌, Option, Some, None, is_some, if◌then◌else◌}
 use Rattle.prop_data.specs.Tables.{Tables}
-use Rattle.uset_parse.specs.Text.{Text, ◌>>=◌, skip, behind, begins}
+use Rattle.uset_parse.specs.Text.{Text, ◌>>=◌, skip, behind}
 use Rattle.uset_parse.specs.Tree.{Tree, Steps, bracket, done, add}
 
 -- The three tables that the grammar reads by: white space of patterns, and the characters that begin and continue a name
@@ -40,18 +40,24 @@ token_at (c ∷ t) =
     else if is_special c then None
     else Some (item (chars (c ∷ [])), t)
 
--- what a bracket begins with: `[` with no `:` behind it, white space, and one `-` or none
+-- whether a hyphen stands in front, and what stands behind it
+abbrev pub hyphen_or : Text → Option Text → Bool × Text
+hyphen_or t None = (false, t)
+hyphen_or t (Some rest) = (true, rest)
+
 abbrev pub leading_at : Text → Bool × Text
-leading_at t = if begins 0x2D t then (true, drop 1 t) else (false, t)
+leading_at t = hyphen_or t (behind 0x2D t)
 
 module _ (syntax : Syntax) where
   -- the token in front, white space aside, and what stands behind it
   abbrev pub token : Text → Option (Token × Text)
   token t = token_at (skip syntax.white_space t)
 
-  -- whether the bracket begins with a hyphen, and what stands behind
+  -- What a bracket begins with: `[` with no `:` behind it, white space, and a hyphen or none; whether the hyphen is there,
+  -- and what stands behind.
   abbrev pub header : Text → Option (Bool × Text)
-  header t = behind 0x5B t >>= λ inner. (if begins 0x3A inner then None else Some (leading_at (skip syntax.white_space inner)))
+  header t = behind 0x5B t >>= λ inner.
+      (if is_some (behind 0x3A inner) then None else Some (leading_at (skip syntax.white_space inner)))
 
   -- the items one behind another up to the first `]`, and what stands behind that
   pub data ReadsItems : Text → List Item → Text → Type 0 where

@@ -2,4 +2,5 @@ pub mod Text
 pub mod Tree
 pub mod Grammar
 pub mod Fault
+pub mod Reading
 pub mod Turn

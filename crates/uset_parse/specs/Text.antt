@@ -1,5 +1,5 @@
 -- Texts as lists of characters, and what stands in front of one.
-use Rattle.std.specs.Prelude.{ℕ, Bool, false, ◌==◌, List, [], ◌∷◌, Option, Some, None, option_and_then, if◌then◌else◌}
+use Rattle.std.specs.Prelude.{ℕ, Bool, ◌==◌, List, [], ◌∷◌, Option, Some, None, option_and_then, if◌then◌else◌}
 
 abbrev pub Text : Type 0
 Text = List ℕ
@@ -17,8 +17,3 @@ skip ws (c ∷ t) = if ws c then skip ws t else c ∷ t
 abbrev pub behind : ℕ → Text → Option Text
 behind c [] = None
 behind c (d ∷ t) = if d == c then Some t else None
-
--- the character is the first
-abbrev pub begins : ℕ → Text → Bool
-begins c [] = false
-begins c (d ∷ t) = d == c

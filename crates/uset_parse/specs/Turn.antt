@@ -9,6 +9,8 @@ use Rattle.uset_parse.specs.declared.error.ParseErrorKind.{ParseErrorKind}
 use Rattle.uset_parse.specs.declared.error.ParseErrorKind.TheVariants.{Internal, Unimplemented, NoMemory}
 use Rattle.uset_parse.specs.Fault.{kind_of}
 use Rattle.uset_parse.specs.declared.bracket.OpenBracket.{OpenBracket}
+use Rattle.uset_parse.specs.declared.bracket.Step.{Step}
+use Rattle.uset_parse.specs.declared.bracket.Step.TheVariants.{Open, Closed}
 use Rattle.uset_parse.specs.declared.bracket.Awaits.{Awaits}
 use Rattle.uset_parse.specs.declared.bracket.Awaits.TheVariants.{Element, AfterSingle, RangeEnd, End}
 use Rattle.uset_parse.specs.Grammar.{Token, close, item, chars, minus}
@@ -73,3 +75,10 @@ GoesOn old token (Err error) = Refuses (turn old.awaits token) (kind_of error)
 abbrev pub Closes : OpenBracket → Result CodePointInversionList ParseError → Type 0
 Closes old (Ok set) = (added : List (ℕ × ℕ)) × (turn old.awaits Close ≡ closes added) × Gains old.builder added set
 Closes old (Err error) = Refuses (turn old.awaits Close) (kind_of error)
+
+-- what a token made of the bracket
+abbrev pub Takes : OpenBracket → CodeToken → Result Step ParseError → Type 0
+Takes old token (Ok (Open new)) = GoesOn old token (Ok new)
+Takes old token (Ok (Closed set)) =
+    (added : List (ℕ × ℕ)) × (turn old.awaits token ≡ closes added) × Gains old.builder added set
+Takes old token (Err error) = Refuses (turn old.awaits token) (kind_of error)

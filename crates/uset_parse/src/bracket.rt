@@ -1,5 +1,6 @@
 //! An open bracket.
 use crate::error::{ParseError, ParseErrorKind};
+use crate::token::Token;
 use cp_invlist::{CodePointInversionList, CodePointInversionListBuilder, CodePointRange};
 use std::alloc::Global;
 
@@ -23,13 +24,22 @@ pub(crate) struct OpenBracket {
     awaits: Awaits,
 }
 
+/// What a token made of an open bracket.
+#[derive(Drop)]
+pub(crate) enum Step {
+    /// The bracket is still open.
+    Open(OpenBracket),
+    /// The bracket was closed, with this set.
+    Closed(CodePointInversionList),
+}
+
 impl OpenBracket {
     ghost use Rattle.std.specs.Prelude.{◌≡◌, ℕ, ◌||◌, ◌&&◌, nat_le, ◌==◌, ◌∷◌, [], IfOk, IfErr, OnOk};
     ghost use Rattle.cp_invlist.specs.InversionList.{contains};
     ghost use Rattle.uset_parse.specs.declared.error.ParseErrorKind.TheVariants.{NoMemory as OutOfMemory};
     ghost use Rattle.uset_parse.specs.declared.token.Token.TheVariants.{Minus, Character};
     ghost use Rattle.uset_parse.specs.Fault.{kind_of};
-    ghost use Rattle.uset_parse.specs.Turn.{GoesOn, Closes, Gains};
+    ghost use Rattle.uset_parse.specs.Turn.{GoesOn, Closes, Gains, Takes};
 
     /// A bracket behind its header, with a hyphen as its first member where `leading` is true.
     pub(crate) fn open(alloc: Global, leading: bool) -> Result<OpenBracket, ParseError>
@@ -47,8 +57,19 @@ impl OpenBracket {
         })
     }
 
+    /// Takes a token.
+    pub(crate) fn take(self, token: Token) -> Result<Step, ParseError>
+        ensures { Takes self token result }
+    {
+        match token {
+            Token::Close => Ok(Step::Closed(self.close()?)),
+            Token::Minus => Ok(Step::Open(self.take_hyphen()?)),
+            Token::Character(c) => Ok(Step::Open(self.take_character(c)?)),
+        }
+    }
+
     /// Takes `-`.
-    pub(crate) fn take_hyphen(mut self) -> Result<OpenBracket, ParseError>
+    fn take_hyphen(mut self) -> Result<OpenBracket, ParseError>
         ensures { GoesOn self Minus result }
     {
         match self.awaits {
@@ -65,7 +86,7 @@ impl OpenBracket {
     }
 
     /// Takes a character that stands for itself.
-    pub(crate) fn take_character(mut self, c: char) -> Result<OpenBracket, ParseError>
+    fn take_character(mut self, c: char) -> Result<OpenBracket, ParseError>
         ensures { GoesOn self (Character c) result }
     {
         match self.awaits {
@@ -88,7 +109,7 @@ impl OpenBracket {
     }
 
     /// Takes `]`. The bracket's set is what it gathered.
-    pub(crate) fn close(mut self) -> Result<CodePointInversionList, ParseError>
+    fn close(mut self) -> Result<CodePointInversionList, ParseError>
         ensures { Closes self result }
     {
         match self.awaits {

@@ -1,8 +1,8 @@
 //! What stands in front of a text.
-ghost use Rattle.std.specs.Prelude.{◌≡◌, ◌<◌, ◌≤◌, ◌∷◌, [], length, IfSome, MatchOption};
+ghost use Rattle.std.specs.Prelude.{◌≡◌, ◌<◌, ◌≤◌, ◌∷◌, [], length, IfSome, MatchOption, option_map};
 ghost use Rattle.std.specs.Str.{chars};
 ghost use Rattle.cp_invlist.specs.InversionList.{contains};
-ghost use Rattle.uset_parse.specs.Text.{skip};
+ghost use Rattle.uset_parse.specs.Text.{skip, behind};
 
 use cp_invlist::CodePointInversionList;
 
@@ -14,6 +14,15 @@ pub(crate) fn split_first(text: &str) -> Option<(char, &str)>
     let mut characters = text.chars();
     let first = characters.next()?;
     Some((first, characters.as_str()))
+}
+
+/// The text behind the character, where it is the first.
+pub(crate) fn strip(text: &str, c: char) -> Option<&str>
+    ensures rest { option_map (λ rest. chars rest.now) result ≡ behind c (chars text.now) }
+    ensures shorter { IfSome result (λ rest. length rest.now < length text.now) }
+{
+    let (first, rest) = split_first(text)?;
+    if first == c { Some(rest) } else { None }
 }
 
 /// The text without the white space in front.

@@ -3,7 +3,7 @@ ghost use Rattle.std.specs.Prelude.{◌≡◌, None};
 ghost use Rattle.uset_parse.specs.declared.error.ParseErrorKind.TheVariants.{NoMemory as OutOfMemory};
 
 use cp_invlist::NoMemory;
-use std::alloc::{AllocError, AllocFailed};
+use std::alloc::AllocFailed;
 use thiserror::Error;
 
 /// What is wrong with a pattern.
@@ -65,6 +65,18 @@ impl From<NoMemory> for ParseError {
     ghost from_gives = { λ _ error. kind_of error ≡ OutOfMemory };
 
     fn from(_error: NoMemory) -> ParseError {
+        ParseErrorKind::NoMemory.into()
+    }
+}
+
+impl<T: Drop> From<AllocFailed<T>> for ParseError {
+    ghost use Rattle.std.specs.Prelude.{◌≡◌};
+    ghost use Rattle.uset_parse.specs.declared.error.ParseErrorKind.TheVariants.{NoMemory as OutOfMemory};
+    ghost use Rattle.uset_parse.specs.Fault.{kind_of};
+
+    ghost from_gives = { λ _ error. kind_of error ≡ OutOfMemory };
+
+    fn from(_error: AllocFailed<T>) -> ParseError {
         ParseErrorKind::NoMemory.into()
     }
 }

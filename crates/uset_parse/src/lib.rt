@@ -4,4 +4,8 @@
 mod bracket;
 mod cursor;
 mod error;
+mod reader;
+mod syntax;
 mod token;
+
+pub use error::{ParseError, ParseErrorKind};
