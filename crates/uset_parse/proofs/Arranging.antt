@@ -1,9 +1,8 @@
 -- What a bracket awaits is the rest of a body: the items that were taken are pushed back in front of those to come.
-use Rattle.std.proofs.Common.{◌≡◌, ℕ, ◌≤◌, Bool, true, false, ◌||◌, ◌&&◌, cond, nat_le, List, [], ◌∷◌, Option, Some, None, is_some, refl, sym, ap, ◌∙◌, subst}
-use Rattle.std.proofs.lemmas.Bool.{cases_Bool, leb-true, le-leb, true≢false}
+use Rattle.std.proofs.Common.{◌≡◌, ℕ, Bool, true, false, ◌||◌, ◌&&◌, cond, nat_le, List, [], ◌∷◌, Option, Some, None, is_some, refl, sym, ap, ◌∙◌, subst}
+use Rattle.std.proofs.lemmas.Bool.{leb-true, le-leb, true≢false}
 use Rattle.uset_parse.specs.declared.bracket.Awaits.{Awaits}
 use Rattle.uset_parse.specs.declared.bracket.Awaits.TheVariants.{Element, AfterSingle, RangeEnd, End}
-use Rattle.uset_parse.specs.declared.token.Token.{Token as CodeToken}
 use Rattle.uset_parse.specs.declared.token.Token.TheVariants.{Close, Minus, Character}
 use Rattle.uset_parse.specs.Tree.{Steps, done, add, gathers}
 use Rattle.uset_parse.specs.Grammar.{Item, chars, minus, Body, empty, hyphen, range, members}
@@ -130,22 +129,26 @@ two_more : (b x y : Bool) → ((b || x) || y) ≡ (b || (x || (y || false)))
 two_more b x y = sym (or_assoc b x y) ∙ ap (λ z. b || (x || z)) (sym (or-false y))
 
 pub closed : (awaits : Awaits) → Closed awaits (turn awaits Close)
-closed Element =
-    (record { steps = done; residual = empty; same = λ c b. sym (or-false b) },
-     λ steps h c b. only_done steps h c b ∙ sym (or-false b))
-closed (AfterSingle a) =
-    (record { steps = add a a done; residual = members empty; same = λ c b. one_more b (nat_le a c && nat_le c a) },
-     λ steps h c b. only_single a steps h c b ∙ one_more b (nat_le a c && nat_le c a))
-closed (RangeEnd a) =
-    (record {
-      steps = add a a (add 0x2D 0x2D done);
-      residual = members hyphen;
-      same = λ c b. two_more b (nat_le a c && nat_le c a) (nat_le 0x2D c && nat_le c 0x2D);
-    },
-     λ steps h c b. only_single_hyphen a steps h c b ∙ two_more b (nat_le a c && nat_le c a) (nat_le 0x2D c && nat_le c 0x2D))
-closed End =
-    (record { steps = add 0x2D 0x2D done; residual = hyphen; same = λ c b. one_more b (nat_le 0x2D c && nat_le c 0x2D) },
-     λ steps h c b. only_hyphen steps h c b ∙ one_more b (nat_le 0x2D c && nat_le c 0x2D))
+closed Element = (
+  record { steps = done; residual = empty; same = λ c b. sym (or-false b) },
+  λ steps h c b. only_done steps h c b ∙ sym (or-false b),
+)
+closed (AfterSingle a) = (
+  record { steps = add a a done; residual = members empty; same = λ c b. one_more b (nat_le a c && nat_le c a) },
+  λ steps h c b. only_single a steps h c b ∙ one_more b (nat_le a c && nat_le c a),
+)
+closed (RangeEnd a) = (
+  record {
+    steps = add a a (add 0x2D 0x2D done);
+    residual = members hyphen;
+    same = λ c b. two_more b (nat_le a c && nat_le c a) (nat_le 0x2D c && nat_le c 0x2D);
+  },
+  λ steps h c b. only_single_hyphen a steps h c b ∙ two_more b (nat_le a c && nat_le c a) (nat_le 0x2D c && nat_le c 0x2D),
+)
+closed End = (
+  record { steps = add 0x2D 0x2D done; residual = hyphen; same = λ c b. one_more b (nat_le 0x2D c && nat_le c 0x2D) },
+  λ steps h c b. only_hyphen steps h c b ∙ one_more b (nat_le 0x2D c && nat_le c 0x2D),
+)
 
 -- the turn leaves the bracket open
 abbrev leaves_open : Option Turn → Bool

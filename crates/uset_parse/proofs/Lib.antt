@@ -1,3 +1,4 @@
 pub mod TurnLemmas
 pub mod Arranging
 pub mod Standing
+pub mod OneReading

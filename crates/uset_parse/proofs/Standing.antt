@@ -1,5 +1,5 @@
 -- Where the reading of a bracket stands: what is gathered, what the bracket awaits, and the text to come.
-use Rattle.std.proofs.Common.{◌≡◌, ℕ, Bool, false, ◌||◌, ◌&&◌, ◌==◌, List, [], ◌∷◌, ◌++◌, length, get_or, Option, Some, None, refl, sym, ap, ◌∙◌, subst, arith, length-append, ◌+◌, ◌-◌, ◌≤◌}
+use Rattle.std.proofs.Common.{◌≡◌, ℕ, Bool, false, ◌||◌, ◌&&◌, ◌==◌, List, [], ◌∷◌, ◌++◌, length, get_or, Option, Some, None, refl, sym, ap, ◌∙◌, subst, arith, length-append, ◌-◌, ◌≤◌}
 use Rattle.std.specs.Str.{chars as characters, IsUtf8}
 use Rattle.std.proofs.lemmas.Str.{encodes-chars}
 use Rattle.cp_invlist.specs.InversionList.{contains}
@@ -12,11 +12,11 @@ use Rattle.uset_parse.specs.declared.token.Token.{Token as CodeToken}
 use Rattle.uset_parse.specs.declared.token.Token.TheVariants.{Close, Minus, Character}
 use Rattle.uset_parse.specs.Text.{Text}
 use Rattle.uset_parse.specs.Tree.{Tree, Steps, bracket, has, gathers}
-use Rattle.uset_parse.specs.Grammar.{Syntax, Item, chars, minus, Token, item, close, header, token, ReadsItems, ends, reads, ReadsSet, reads_bracket}
+use Rattle.uset_parse.specs.Grammar.{Syntax, Item, chars, minus, item, close, header, token, ReadsItems, ends, reads, ReadsSet, reads_bracket}
 use Rattle.uset_parse.specs.Fault.{ReadsNothing}
 use Rattle.uset_parse.specs.Reading.{Unread, IsFront}
 use Rattle.uset_parse.specs.Turn.{turn, goes_on, closes, in_added, token_seen, Gains, Refuses}
-use Rattle.uset_parse.proofs.Arranging.{Residual, Arranged, onto, Leaves, leaves_hyphen, leaves_character, Follows, follows_hyphen, follows_character, Closed, closed, hyphen_not_closed, character_not_closed}
+use Rattle.uset_parse.proofs.Arranging.{Residual, Leaves, leaves_hyphen, leaves_character, Follows, follows_hyphen, follows_character, Closed, closed, hyphen_not_closed, character_not_closed}
 
 -- the rest completes a reading of the source: the items and steps to come, and the set that they give
 pub record Completes (syntax : Syntax) (gathered : ℕ → Bool) (awaits : Awaits) (rest : Text) (members : ℕ → Bool) (end : Text) : Type 0 where
@@ -43,11 +43,11 @@ pub record OneOpen (syntax : Syntax) (source : Text) (open_brackets : List OpenB
   pub only : open_brackets ≡ innermost ∷ []
   pub stands : StandsAt syntax source (contains innermost.builder) innermost.awaits rest
 
-abbrev pair_or : {A B : Type 0} → A × B → Option (A × B) → A × B
+abbrev pub pair_or : {A B : Type 0} → A × B → Option (A × B) → A × B
 pair_or d None = d
 pair_or d (Some p) = p
 
-same_parts : {A B : Type 0} (p q : A × B) → Some p ≡ Some q → (p.0 ≡ q.0) × (p.1 ≡ q.1)
+pub same_parts : {A B : Type 0} (p q : A × B) → Some p ≡ Some q → (p.0 ≡ q.0) × (p.1 ≡ q.1)
 same_parts p q e = (ap (λ o. (pair_or p o).0) e, ap (λ o. (pair_or p o).1) e)
 
 begun_completes : (syntax : Syntax) (source rest end : Text) (leading : Bool) (tree : Tree) (members : ℕ → Bool) → header syntax source ≡ Some (leading, rest) → ReadsSet syntax source tree end →
@@ -183,14 +183,14 @@ pub token_taken : (syntax : Syntax) (source t next : Text) (taken : CodeToken) (
 token_taken syntax source t next Close old new at found goes = absurd (closed_not_open old.awaits goes.0 new.awaits goes.1)
 token_taken syntax source t next Minus old new at found goes =
     item_taken syntax source t next minus old.awaits new.awaits goes.0 (contains old.builder) (contains new.builder) at found
-        (subst (Leaves old.awaits minus) goes.1 (leaves_hyphen old.awaits))
-        (λ is steps h. subst (Follows is steps) goes.1 (follows_hyphen old.awaits is steps h))
-        goes.2
+    (subst (Leaves old.awaits minus) goes.1 (leaves_hyphen old.awaits))
+    (λ is steps h. subst (Follows is steps) goes.1 (follows_hyphen old.awaits is steps h))
+    goes.2
 token_taken syntax source t next (Character c) old new at found goes =
     item_taken syntax source t next (chars (c ∷ [])) old.awaits new.awaits goes.0 (contains old.builder) (contains new.builder) at found
-        (subst (Leaves old.awaits (chars (c ∷ []))) goes.1 (leaves_character old.awaits c))
-        (λ is steps h. subst (Follows is steps) goes.1 (follows_character old.awaits c is steps h))
-        goes.2
+    (subst (Leaves old.awaits (chars (c ∷ []))) goes.1 (leaves_character old.awaits c))
+    (λ is steps h. subst (Follows is steps) goes.1 (follows_character old.awaits c is steps h))
+    goes.2
 
 -- a token that doesn't fit stands in front
 pub token_refused : (syntax : Syntax) (source t next : Text) (taken : CodeToken) (awaits : Awaits) (gathered : ℕ → Bool) →

@@ -1,5 +1,5 @@
 -- Why a source isn't read.
-use Rattle.std.specs.Prelude.{◌≡◌, Option, Some, None}
+use Rattle.std.specs.Prelude.{◌≡◌, List, ℕ, ◌++◌, codes, Some, None}
 use Rattle.prop_data.specs.Tables.{Tables}
 use Rattle.uset_parse.specs.declared.error.ParseErrorKind.{ParseErrorKind}
 use Rattle.uset_parse.specs.declared.error.ParseErrorKind.TheVariants.{Internal, Unimplemented, NoMemory}
@@ -27,3 +27,13 @@ abbrev pub IsRefusal : Tables → Text → ParseErrorKind → Type 0
 IsRefusal tables source Internal = IsFault tables source Internal
 IsRefusal tables source Unimplemented = IsFault tables source Unimplemented
 IsRefusal tables source NoMemory = Unit {0}
+
+-- what is wrong, in words
+abbrev pub words_of : ParseErrorKind → List ℕ
+words_of Internal = codes "internal error"
+words_of Unimplemented = codes "unimplemented"
+words_of NoMemory = codes "out of memory"
+
+-- the text of a fault without a place
+abbrev pub shown : ParseErrorKind → List ℕ
+shown kind = codes "error: " ++ words_of kind

@@ -1,6 +1,6 @@
 -- The grammar of UnicodeSet patterns (UTS 35, Unicode Sets, as far as it is read): a pattern is one bracket of characters and
 -- ranges at the front of a source, and what follows it is free.
-use Rattle.std.specs.Prelude.{◌≡◌, ℕ, ◌≤◌, Bool, true, false, not, ◌||◌, ◌==◌, List, [], ◌∷◌, Option, Some, None, is_some, if◌then◌else◌}
+use Rattle.std.specs.Prelude.{◌≡◌, ℕ, ◌≤◌, Bool, true, false, ◌||◌, ◌==◌, List, [], ◌∷◌, Option, Some, None, is_some, if◌then◌else◌}
 use Rattle.prop_data.specs.Tables.{Tables}
 use Rattle.uset_parse.specs.Text.{Text, ◌>>=◌, skip, behind}
 use Rattle.uset_parse.specs.Tree.{Tree, Steps, bracket, done, add}
@@ -16,7 +16,7 @@ pub record Syntax : Type 0 where
 abbrev pub syntax_of : Tables → Option Syntax
 syntax_of tables =
     tables 51 >>= λ white_space. (tables 67 >>= λ continue. (tables 68 >>= λ start.
-        Some (record { white_space = white_space; start = start; continue = continue })))
+    Some (record { white_space = white_space; start = start; continue = continue })))
 
 pub data Item : Type 0 where
   -- the characters that it stands for

@@ -1,9 +1,11 @@
 //! Faults of a pattern.
-ghost use Rattle.std.specs.Prelude.{◌≡◌, None};
+ghost use Rattle.std.specs.Prelude.{◌≡◌, None, IfOk};
+ghost use Rattle.std.specs.String.{string_bytes};
+ghost use Rattle.uset_parse.specs.Fault.{words_of};
 ghost use Rattle.uset_parse.specs.declared.error.ParseErrorKind.TheVariants.{NoMemory as OutOfMemory};
 
 use cp_invlist::NoMemory;
-use std::alloc::AllocFailed;
+use std::alloc::{AllocFailed, Global};
 use thiserror::Error;
 
 /// What is wrong with a pattern.
@@ -28,7 +30,7 @@ pub struct ParseError {
 }
 
 impl ParseError {
-    ghost use Rattle.uset_parse.specs.Fault.{kind_of};
+    ghost use Rattle.uset_parse.specs.Fault.{kind_of, shown, words_of};
 
     /// The kind of the fault.
     pub fn kind(&self) -> ParseErrorKind
@@ -43,6 +45,26 @@ impl ParseError {
         ensures { result ≡ None }
     {
         None
+    }
+
+    /// The text of the fault, shown with its source: `error: ` and what is wrong.
+    pub fn fmt_with_source(&self, alloc: Global, _source: &str) -> Result<String, NoMemory>
+        ensures { IfOk result (λ text. string_bytes text ≡ shown (kind_of self.now)) }
+    {
+        let mut text = String::from_str(alloc, "error: ")?;
+        text.push_str(words(self.kind))?;
+        Ok(text)
+    }
+}
+
+/// What is wrong, in words.
+fn words(kind: ParseErrorKind) -> &'static str
+    ensures { result.now ≡ words_of kind }
+{
+    match kind {
+        ParseErrorKind::Internal => "internal error",
+        ParseErrorKind::Unimplemented => "unimplemented",
+        ParseErrorKind::NoMemory => "out of memory",
     }
 }
 

@@ -1,11 +1,16 @@
-//! The reader of UnicodeSet patterns.
+//! The reader of UnicodeSet patterns (UTS 35, Unicode Sets).
 #![tactic(auto)]
 
 mod bracket;
 mod cursor;
 mod error;
+pub mod laws;
+mod parse;
 mod reader;
 mod syntax;
 mod token;
+mod variables;
 
 pub use error::{ParseError, ParseErrorKind};
+pub use parse::parse_unstable_with_variables;
+pub use variables::VariableMap;

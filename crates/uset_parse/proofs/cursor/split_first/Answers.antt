@@ -1,9 +1,8 @@
-use Rattle.std.proofs.Common.{◌≡◌, ℕ, List, ◌∷◌, ◌++◌, ◌∙◌, sym, ap, encode_utf8}
-use Rattle.std.specs.Str.{chars}
+use Rattle.std.proofs.Common.{ℕ, List, ◌++◌, ◌∙◌, sym, ap, encode_utf8}
 use Rattle.std.proofs.lemmas.Str.{chars_past_char}
 use Rattle.uset_parse.proofs.cursor.split_first.Goals as goal
 
 pub returns-clause-parts : goal.returns-clause-parts
 returns-clause-parts c =
     chars_past_char c.args.text.now c.as_str.result.now c.in_ok-first.first c.utf8.text
-        (sym c.chars-characters.ensures.rest ∙ (c.in_ok-first.ensures.steps.0 ∙ ap (λ (r : List ℕ). encode_utf8 c.in_ok-first.first ++ r) (sym c.as_str.ensures)))
+    (sym c.chars-characters.ensures.rest ∙ (c.in_ok-first.ensures.steps.0 ∙ ap (λ (r : List ℕ). encode_utf8 c.in_ok-first.first ++ r) (sym c.as_str.ensures)))

@@ -1,11 +1,9 @@
-use Rattle.std.proofs.Common.{◌≡◌, ◌≤◌, [], ◌∷◌, length}
+use Rattle.std.proofs.Common.{◌≤◌, length}
 use denote.Shadow.{shadow}
 use denote.Text.{Utf8}
 use Rattle.std.specs.Str.{chars}
-use Rattle.cp_invlist.specs.InversionList.{contains}
-use Rattle.uset_parse.specs.declared.bracket.OpenBracket.{OpenBracket}
 use Rattle.uset_parse.specs.Reading.{syntax_seen}
-use Rattle.uset_parse.proofs.Standing.{StandsAt, OneOpen}
+use Rattle.uset_parse.proofs.Standing.{OneOpen}
 use Rattle.uset_parse.proofs.reader.read_set.Given as goal
 
 abbrev pub invariant-loop-bracket : goal.invariant-loop-bracket
