@@ -1,2 +1,3 @@
 pub mod RunsLemmas
 pub mod LinesLemmas
+pub mod CutLemmas

@@ -1,6 +1,7 @@
 -- The fields of a line, as their bytes.
-use Rattle.std.specs.Prelude.{ℕ, Bool, true, ◌||◌, ◌==◌, List, [], ◌∷◌, if◌then◌else◌}
+use Rattle.std.specs.Prelude.{ℕ, Bool, true, false, ◌||◌, ◌==◌, List, [], ◌∷◌, if◌then◌else◌}
 use Rattle.std.specs.List.{before_first}
+use Rattle.std.specs.Str.{bytes_eq}
 use Rattle.text_lines.specs.Lines.{onto_first}
 
 -- a space or a tab
@@ -22,3 +23,22 @@ runs (c ∷ bytes) =
 -- the fields of a line: the runs before its first `#`
 abbrev pub fields : List ℕ → List (List ℕ)
 fields line = runs (before_first (λ b. b == 0x23) line)
+
+abbrev pub sole_is : List ℕ → List (List ℕ) → Bool
+sole_is word [] = false
+sole_is word (field ∷ []) = bytes_eq field word
+sole_is word (field ∷ other ∷ more) = false
+
+-- the line has one field, and it is this word
+unfoldable pub is_sole : List ℕ → List ℕ → Bool
+is_sole word line = sole_is word (fields line)
+
+-- the lines through the first whose one field is the word
+abbrev pub through : List ℕ → List (List ℕ) → List (List ℕ)
+through word [] = []
+through word (line ∷ ls) = if is_sole word line then line ∷ [] else line ∷ through word ls
+
+-- the lines behind that line
+abbrev pub past : List ℕ → List (List ℕ) → List (List ℕ)
+past word [] = []
+past word (line ∷ ls) = if is_sole word line then ls else past word ls

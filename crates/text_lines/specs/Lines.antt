@@ -1,5 +1,5 @@
 -- The lines of a text, as its bytes.
-use Rattle.std.specs.Prelude.{ℕ, Bool, false, ◌&&◌, ◌==◌, List, [], ◌∷◌, if◌then◌else◌}
+use Rattle.std.specs.Prelude.{◌≡◌, ℕ, Bool, false, ◌&&◌, ◌==◌, List, [], ◌∷◌, ◌++◌, ◌⊎◌, if◌then◌else◌}
 
 -- puts a byte in front of the first part
 abbrev pub onto_first : ℕ → List (List ℕ) → List (List ℕ)
@@ -19,3 +19,9 @@ lines (c ∷ bytes) =
     if c == 0x0A then [] ∷ lines bytes
     else if c == 0x0D && begins_with 0x0A bytes then lines bytes
     else onto_first c (lines bytes)
+
+-- the text is cut behind the ending of a line, or at its end
+pub record IsCut (text rest : List ℕ) : Type 0 where
+  pub front : List ℕ
+  pub joins : text ≡ front ++ rest
+  pub ends : (rest ≡ []) ⊎ ((inner : List ℕ) × (front ≡ inner ++ 0x0A ∷ []))

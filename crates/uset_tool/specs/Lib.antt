@@ -1,0 +1,4 @@
+pub mod Device
+pub mod Script
+pub mod Answer
+pub mod Run

@@ -1,0 +1,8 @@
+//! The program `uset`: its sources and sinks, and what it answers.
+#![tactic(auto)]
+
+mod sink;
+mod source;
+
+pub use sink::{Sink, StdSink, SureSink, WriteError};
+pub use source::{Failed, Source, StdSource, SureSource};

@@ -1,0 +1,120 @@
+//! Sinks of bytes.
+ghost use Rattle.std.specs.Prelude.{◌≡◌, ℕ, ◌+◌, ◌<◌, ◌≤◌, ◌++◌, List, [], Option, Some, None, length, IfOk, Err};
+ghost use Rattle.uset_tool.specs.Device.{WritesFront, Rose};
+
+use std::alloc::Global;
+use std::io::Write;
+use std::marker::Model;
+use thiserror::Error;
+
+/// Why a sink took nothing.
+#[derive(Clone, Copy, Debug, Drop, PartialEq, Eq, Error)]
+pub enum WriteError {
+    /// The sink failed.
+    #[error("Failed")]
+    Failed,
+    /// A request for memory was refused.
+    #[error("NoMemory")]
+    NoMemory,
+}
+
+/// Where bytes go.
+pub trait Sink {
+    /// The bytes that were written, where the sink tells them.
+    ghost written: { Self → Option (List ℕ) };
+
+    /// How many faults were counted. The count never falls, and stands still at 2^64 - 1.
+    ghost faults: { Self → ℕ };
+
+    /// Appends the front of the piece. The answer is the number of its bytes, at least 1. `Failed`
+    /// comes only where the count of faults rose or stands at its last value. A write that is refused
+    /// appends nothing.
+    fn write(&mut self, buf: &[u8]) -> Result<usize, WriteError>
+        requires { 0 < length buf.now }
+        ensures within { IfOk result (λ n. (0 < n) × (n ≤ length buf.now)) }
+        ensures bytes { WritesFront (written self.old) (written self.new) result buf.now }
+        ensures failed { result ≡ Err WriteError.Failed → Rose (faults self.old) (faults self.new) }
+        ensures counted { faults self.old ≤ faults self.new };
+}
+
+/// A sink in memory, which never fails. A contract sees it as the bytes that were written.
+#[derive(Drop)]
+pub struct SureSink {
+    bytes: Vec<u8>,
+}
+
+impl Model for SureSink {
+    ghost use Rattle.std.specs.Prelude.{ℕ, List};
+
+    ghost Value = { List ℕ };
+
+    ghost view = { λ s. s.bytes.items };
+}
+
+impl SureSink {
+    /// A sink with nothing written.
+    pub fn new(alloc: Global) -> SureSink
+        ensures { result ≡ [] }
+    {
+        SureSink {
+            bytes: Vec::new(alloc),
+        }
+    }
+
+    /// The bytes that were written.
+    pub fn written(&self) -> &[u8]
+        ensures { result.now ≡ self.now }
+    {
+        &self.bytes
+    }
+}
+
+impl Sink for SureSink {
+    ghost written = { λ bytes. Some bytes };
+
+    ghost faults = { λ _. 0 };
+
+    fn write(&mut self, buf: &[u8]) -> Result<usize, WriteError> {
+        match self.bytes.extend_from_slice(buf) {
+            Ok(()) => Ok(buf.len()),
+            Err(_) => Err(WriteError::NoMemory),
+        }
+    }
+}
+
+/// A writer of std as a sink. It tells no bytes, and counts each error of the writer, and each write
+/// that took nothing. It takes no memory.
+#[derive(Drop)]
+pub struct StdSink<W: Write + Drop> {
+    writer: W,
+    faults: u64,
+}
+
+impl<W: Write + Drop> StdSink<W> {
+    /// A sink over the writer.
+    pub fn new(writer: W) -> StdSink<W> {
+        StdSink { writer, faults: 0 }
+    }
+
+    fn fail(&mut self) -> Result<usize, WriteError>
+        ensures error { result ≡ Err WriteError.Failed }
+        ensures counted { Rose self.old.faults self.new.faults }
+        ensures grows { self.old.faults ≤ self.new.faults }
+    {
+        self.faults = self.faults.saturating_add(1);
+        Err(WriteError::Failed)
+    }
+}
+
+impl<W: Write + Drop> Sink for StdSink<W> {
+    ghost written = { λ _. None };
+
+    ghost faults = { λ s. s.faults };
+
+    fn write(&mut self, buf: &[u8]) -> Result<usize, WriteError> {
+        match self.writer.write(buf) {
+            Ok(0) | Err(_) => self.fail(),
+            Ok(count) => Ok(count),
+        }
+    }
+}
