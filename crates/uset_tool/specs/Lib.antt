@@ -1,4 +1,1 @@
 pub mod Device
-pub mod Script
-pub mod Answer
-pub mod Run
