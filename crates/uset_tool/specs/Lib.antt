@@ -1,1 +1,3 @@
 pub mod Device
+pub mod Script
+pub mod Answer

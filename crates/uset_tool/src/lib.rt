@@ -1,6 +1,7 @@
 //! The program `uset`: its sources and sinks, and what it answers.
 #![tactic(auto)]
 
+mod answer;
 mod sink;
 mod source;
 

@@ -1,0 +1,152 @@
+//! Answers to the lines of a script.
+ghost use Rattle.std.specs.Prelude.{◌≡◌, ◌-◌, replicate, ◌++◌, ◌∷◌, [], ◌≤◌, IfOk, OnOk, false, true, codes, option_map};
+ghost use Rattle.cp_invlist.specs.InversionList.{contains};
+ghost use Rattle.std.specs.Fmt.{digits};
+ghost use Rattle.std.specs.String.{string_bytes};
+ghost use Rattle.prop_data.specs.Database.{tables_of};
+ghost use Rattle.uset_tool.specs.Answer.{code_point_text, range_text, line_end, LineAnswer, PatternAnswer, AppendsMembers, IsReadAnswer, IsFaultAnswer};
+ghost use Rattle.uset_parse.specs.Fault.{kind_of};
+ghost use Rattle.uset_tool.specs.Script.{script_line, stripped, is_silent};
+
+use cp_invlist::{CodePointInversionList, CodePointRange, NoMemory};
+use prop_data::PropertyDatabase;
+use std::alloc::{AllocError, Global};
+use uset_parse::{ParseError, ParseErrorKind, VariableMap, parse_unstable_with_variables};
+
+/// The answer to a line, and whether it is an `err` line.
+#[derive(Drop)]
+pub(crate) struct Answer {
+    pub(crate) text: String,
+    pub(crate) is_err: bool,
+}
+
+/// The zeros that fill a number of digits up to four.
+fn zeros_before(digit_count: usize) -> &'static str
+    ensures { result.now ≡ replicate (4 - digit_count) 0x30 }
+{
+    match digit_count {
+        0 => "0000",
+        1 => "000",
+        2 => "00",
+        3 => "0",
+        _ => "",
+    }
+}
+
+fn hex_digits(alloc: Global, number: u32) -> Result<String, AllocError>
+    ensures { IfOk result (λ text. string_bytes text ≡ digits 16 true number) }
+{
+    format!(in alloc; "{number:X}")
+}
+
+/// Appends a code point in upper-case hexadecimal digits, at least four.
+fn push_code_point(text: &mut String, alloc: Global, code_point: u32) -> Result<(), AllocError>
+    ensures { OnOk result (string_bytes text.new ≡ string_bytes text.old ++ code_point_text code_point) }
+{
+    let digits = hex_digits(alloc, code_point)?;
+    text.push_str(zeros_before(digits.len()))?;
+    text.push_str(&digits)
+}
+
+/// Appends a range: a blank, the first code point, and a hyphen and the last where it is another.
+fn push_range(text: &mut String, alloc: Global, range: CodePointRange) -> Result<(), AllocError>
+    ensures { OnOk result (string_bytes text.new ≡ string_bytes text.old ++ range_text range) }
+{
+    text.push_str(" ")?;
+    push_code_point(text, alloc, range.start)?;
+    if range.start == range.end {
+        return Ok(());
+    }
+    text.push_str("-")?;
+    push_code_point(text, alloc, range.end)
+}
+
+/// Appends all maximal ranges of the set.
+fn push_members(text: &mut String, alloc: Global, set: &CodePointInversionList) -> Result<(), AllocError>
+    ensures { OnOk result (AppendsMembers (string_bytes text.old) (string_bytes text.new) (contains set.now)) }
+{
+    for range in set.iter_ranges() {
+        push_range(text, alloc, range)?;
+    }
+    Ok(())
+}
+
+/// The answer to a pattern that was read.
+fn answer_read(alloc: Global, set: &CodePointInversionList, length: usize) -> Result<Answer, AllocError>
+    ensures { IfOk result (IsReadAnswer length (contains set.now)) }
+{
+    let mut text = format!(in alloc; "ok {length}")?;
+    push_members(&mut text, alloc, set)?;
+    text.push_str("\n")?;
+    Ok(Answer {
+        text,
+        is_err: false,
+    })
+}
+
+/// The answer to a pattern with a fault, or to a line that is none.
+fn answer_err(alloc: Global, words: &str) -> Result<Answer, AllocError>
+    ensures text { IfOk result (λ a. string_bytes a.text ≡ codes "err " ++ (words.now ++ line_end)) }
+    ensures err { IfOk result (λ a. a.is_err ≡ true) }
+{
+    let text = format!(in alloc; "err {words}\n")?;
+    Ok(Answer { text, is_err: true })
+}
+
+/// The answer to a pattern with a fault.
+fn answer_fault(alloc: Global, source: &str, error: ParseError) -> Result<Answer, NoMemory>
+    ensures { IfOk result (IsFaultAnswer (kind_of error)) }
+{
+    if let ParseErrorKind::NoMemory = error.kind() {
+        return Err(NoMemory);
+    }
+    let words = error.fmt_with_source(alloc, source)?;
+    Ok(answer_err(alloc, &words)?)
+}
+
+/// The answer to a pattern.
+fn answer_pattern(alloc: Global, source: &str, database: &PropertyDatabase) -> Result<Answer, NoMemory>
+    ensures { IfOk result (λ a. PatternAnswer (tables_of database.now) source.now (string_bytes a.text) a.is_err) }
+{
+    match parse_unstable_with_variables(alloc, source, &VariableMap::new(alloc), database) {
+        Ok((set, length)) => Ok(answer_read(alloc, set.code_points(), length)?),
+        Err(error) => answer_fault(alloc, source, error),
+    }
+}
+
+/// What stands behind `pat `, where the line begins with it.
+fn strip_pat(line: &str) -> Option<&str>
+    ensures { option_map (λ rest. rest.now) result ≡ stripped (codes "pat ") line.now }
+{
+    line.strip_prefix("pat ")
+}
+
+fn is_silent(line: &str) -> bool
+    ensures { result ≡ is_silent line.now }
+{
+    match line.as_bytes().first() {
+        Some(byte) => *byte == b'#',
+        None => true,
+    }
+}
+
+/// The answer to a line of a script.
+#[tactic(auto, unfolding(crate::specs::Script::script_line))]
+pub(crate) fn answer_line(
+    alloc: Global,
+    line: &str,
+    database: &PropertyDatabase,
+) -> Result<Answer, NoMemory>
+    ensures { IfOk result (λ a. LineAnswer (tables_of database.now) (script_line line.now) (string_bytes a.text) a.is_err) }
+{
+    if is_silent(line) {
+        return Ok(Answer {
+            text: String::new(alloc),
+            is_err: false,
+        });
+    }
+    match strip_pat(line) {
+        Some(source) => answer_pattern(alloc, source, database),
+        None => Ok(answer_err(alloc, "bad line")?),
+    }
+}
