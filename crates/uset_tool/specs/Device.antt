@@ -1,5 +1,7 @@
 -- What sources and sinks tell.
 use Rattle.std.specs.Prelude.{◌≡◌, ℕ, ◌+◌, ◌-◌, ◌^◌, ◌<◌, ◌≤◌, ◌⊎◌, List, [], ◌∷◌, ◌++◌, take, drop, length, Option, Some, IfSome, Result, Ok, Err}
+use Rattle.uset_tool.specs.declared.input.InputError.{InputError}
+use Rattle.uset_tool.specs.declared.input.InputError.TheVariants.{Failed, TooLong, NoMemory}
 
 -- the last value of a count of faults
 abbrev pub last_count : ℕ
@@ -32,3 +34,31 @@ pub record IsProperFront (old new : List ℕ) (text : List ℕ) : Type 0 where
   pub parts : text ≡ front ++ rest
   pub proper : 0 < length rest
   pub appended : new ≡ old ++ front
+
+-- a front of the text was appended, perhaps all of it
+pub record IsFront (old new : List ℕ) (text : List ℕ) : Type 0 where
+  pub front : List ℕ
+  pub rest : List ℕ
+  pub parts : text ≡ front ++ rest
+  pub appended : new ≡ old ++ front
+
+-- what a write of a whole text appended
+abbrev pub WritesText : {X E : Type 0} → Option (List ℕ) → Option (List ℕ) → Result X E → List ℕ → Type 0
+WritesText old new (Ok _) text = Appends old new text
+WritesText old new (Err _) text = IfSome old (λ before. (now : List ℕ) × (new ≡ Some now) × IsProperFront before now text)
+
+-- the most bytes that an input may have
+abbrev pub limit : ℕ
+limit = 2 ^ 23
+
+-- all of the input was taken, and it is within the limit
+abbrev pub TakesAll : Option (List ℕ) → Option (List ℕ) → List ℕ → Type 0
+TakesAll old new input = IfSome old (λ bytes. (bytes ≡ input) × (new ≡ Some []))
+
+-- why the input was not taken, and what was taken then
+abbrev pub Stops : InputError → Option (List ℕ) → Option (List ℕ) → ℕ → ℕ → Type 0
+Stops Failed old new faults faults_now =
+    Rose faults faults_now × IfSome old (λ bytes. (n : ℕ) × (n ≤ limit) × (new ≡ Some (drop n bytes)))
+Stops TooLong old new faults faults_now =
+    IfSome old (λ bytes. (limit < length bytes) × (new ≡ Some (drop (limit + 1) bytes)))
+Stops NoMemory old new faults faults_now = Unit {0}

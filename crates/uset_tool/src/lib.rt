@@ -2,6 +2,7 @@
 #![tactic(auto)]
 
 mod answer;
+mod input;
 mod sink;
 mod source;
 

@@ -1,6 +1,6 @@
 //! Sinks of bytes.
 ghost use Rattle.std.specs.Prelude.{◌≡◌, ℕ, ◌+◌, ◌<◌, ◌≤◌, ◌++◌, List, [], Option, Some, None, length, IfOk, Err};
-ghost use Rattle.uset_tool.specs.Device.{WritesFront, Rose};
+ghost use Rattle.uset_tool.specs.Device.{WritesFront, WritesText, Rose};
 
 use std::alloc::Global;
 use std::io::Write;
@@ -117,4 +117,18 @@ impl<W: Write + Drop> Sink for StdSink<W> {
             Ok(count) => Ok(count),
         }
     }
+}
+
+/// Writes the whole text.
+pub(crate) fn write_all<K: Sink>(sink: &mut K, text: &[u8]) -> Result<(), WriteError>
+    ensures written { WritesText (K.written sink.old) (K.written sink.new) result text.now }
+    ensures failed { result ≡ Err WriteError.Failed → Rose (K.faults sink.old) (K.faults sink.new) }
+    ensures counted { K.faults sink.old ≤ K.faults sink.new }
+{
+    let mut rest = text;
+    while !rest.is_empty() {
+        let count = sink.write(rest)?;
+        rest = rest.split_at(count).1;
+    }
+    Ok(())
 }

@@ -1,0 +1,100 @@
+-- Each line has one answer.
+use Rattle.std.proofs.Common.{◌≡◌, ℕ, ◌+◌, ◌<◌, ◌≤◌, ◌⊎◌, Bool, true, false, ◌||◌, List, [], ◌∷◌, ◌++◌, length, encode_utf8_all, refl, sym, ap, ◌∙◌, subst, inl, inr, append_assoc, arith}
+use Rattle.std.proofs.lemmas.Bool.{cases_order, true≢false}
+use Rattle.std.specs.Str.{chars}
+use Rattle.cp_invlist.specs.declared.ranges.CodePointRange.{CodePointRange}
+use Rattle.cp_invlist.specs.Ranges.{AreRangesFrom, AreMaximalRanges}
+use Rattle.prop_data.specs.Tables.{Tables}
+use Rattle.uset_parse.specs.Laws.{OneReading, NoFaultOfReading, OneFault}
+use Rattle.uset_parse.specs.Tree.{Tree, has}
+use Rattle.uset_tool.specs.Script.{ScriptLine, silent, pattern, bad, script_line}
+use Rattle.uset_tool.specs.Answer.{PatternAnswer, read, fault, read_text, fault_text, LineAnswer, ScriptAnswer, ends, answers}
+
+-- the laws of the grammar
+pub record Laws : Type 0 where
+  pub one_reading : OneReading
+  pub no_fault : NoFaultOfReading
+  pub one_fault : OneFault
+
+same_start : (m : ℕ → Bool) (n a b c d : ℕ) → n ≤ a → a ≤ b → n ≤ c → c ≤ d →
+    ((x : ℕ) → n ≤ x → x < a → m x ≡ false) → ((x : ℕ) → a ≤ x → x ≤ b → m x ≡ true) →
+    ((x : ℕ) → n ≤ x → x < c → m x ≡ false) → ((x : ℕ) → c ≤ x → x ≤ d → m x ≡ true) → a ≡ c
+same_start m n a b c d na ab nc cd gap all gap_too all_too = elim (cases_order a c) [
+  | inl e ↦ e
+  | inr (inl lt) ↦ absurd (true≢false (sym (all a (omega arith) ab) ∙ gap_too a na lt))
+  | inr (inr lt) ↦ absurd (true≢false (sym (all_too c (omega arith) cd) ∙ gap c nc lt))
+]
+
+same_end : (m : ℕ → Bool) (a b d : ℕ) → a ≤ b → a ≤ d → ((x : ℕ) → a ≤ x → x ≤ b → m x ≡ true) → m (b + 1) ≡ false → ((x : ℕ) → a ≤ x → x ≤ d → m x ≡ true) → m (d + 1) ≡ false → b ≡ d
+same_end m a b d ab ad all past all_too past_too = elim (cases_order b d) [
+  | inl e ↦ e
+  | inr (inl lt) ↦ absurd (true≢false (sym (all_too (b + 1) (omega arith) (omega arith)) ∙ past))
+  | inr (inr lt) ↦ absurd (true≢false (sym (all (d + 1) (omega arith) (omega arith)) ∙ past_too))
+]
+
+-- the maximal ranges of a set are one list
+ranges_once : (m : ℕ → Bool) (n : ℕ) (rs qs : List CodePointRange) → AreRangesFrom m n rs → AreRangesFrom m n qs → rs ≡ qs
+ranges_once m n [] [] h k = refl
+ranges_once m n [] (q ∷ qs) h k = absurd (true≢false (sym (k.3 q.start (omega arith) k.1) ∙ h q.start k.0))
+ranges_once m n (r ∷ rs) [] h k = absurd (true≢false (sym (h.3 r.start (omega arith) h.1) ∙ k r.start h.0))
+ranges_once m n (r ∷ rs) (q ∷ qs) h k =
+    let start : r.start ≡ q.start = same_start m n r.start r.end q.start q.end h.0 h.1 k.0 k.1 h.2 h.3 k.2 k.3 in
+    let all : (x : ℕ) → r.start ≤ x → x ≤ q.end → m x ≡ true = λ x le. k.3 x (omega arith) in
+    let last : r.end ≡ q.end = same_end m r.start r.end q.end h.1 (omega arith) h.3 h.4 all k.4 in
+    let more : rs ≡ qs = ranges_once m (r.end + 1) rs qs h.5 (subst (λ e. AreRangesFrom m (e + 1) qs) (sym last) k.5) in
+    λ i. record { start = start i; end = last i } ∷ more i
+
+pattern_once : Laws → (tables : Tables) (source a b : List ℕ) (e f : Bool) → PatternAnswer tables source a e → PatternAnswer tables source b f → (a ≡ b) × (e ≡ f)
+pattern_once laws tables source _ _ _ _ (read {tree} {rest} n rs h place maximal) (read {tree = other} {rest = left} k qs h_too place_too maximal_too) =
+    let one = laws.one_reading tables (chars source) tree other rest left h h_too in
+    let same_n : n ≡ k = omega (arith, ap (λ r. length (encode_utf8_all r)) one.1) in
+    let same_ranges : rs ≡ qs = ranges_once (has tree) 0 rs qs maximal (subst (λ t. AreMaximalRanges (has t) qs) (sym one.0) maximal_too) in
+    (λ i. read_text (same_n i) (same_ranges i), refl)
+pattern_once laws tables source _ _ _ _ (read {tree} {rest} n rs h place maximal) (fault {kind} k) = absurd (laws.no_fault tables (chars source) tree rest kind h k)
+pattern_once laws tables source _ _ _ _ (fault {kind} k) (read {tree} {rest} n rs h place maximal) = absurd (laws.no_fault tables (chars source) tree rest kind h k)
+pattern_once laws tables source _ _ _ _ (fault {kind} h) (fault {kind = other} k) = (ap fault_text (laws.one_fault tables (chars source) kind other h k), refl)
+
+line_once : Laws → (tables : Tables) (line : ScriptLine) (a b : List ℕ) (e f : Bool) → LineAnswer tables line a e → LineAnswer tables line b f → (a ≡ b) × (e ≡ f)
+line_once laws tables silent a b e f h k = (h.0 ∙ sym k.0, h.1 ∙ sym k.1)
+line_once laws tables (pattern source) a b e f h k = pattern_once laws tables source a b e f h k
+line_once laws tables bad a b e f h k = (h.0 ∙ sym k.0, h.1 ∙ sym k.1)
+
+pub script_once : Laws → (tables : Tables) (ls : List (List ℕ)) (a b : List ℕ) (e f : Bool) → ScriptAnswer tables ls a e → ScriptAnswer tables ls b f → (a ≡ b) × (e ≡ f)
+script_once laws tables _ _ _ _ _ ends ends = (refl, refl)
+script_once laws tables _ _ _ _ _ (answers {line} {lines} first rest err errs h more) (answers other left is_err are_errs k more_too) =
+    let one = line_once laws tables (script_line line) first other err is_err h k in
+    let two = script_once laws tables lines rest left errs are_errs more more_too in
+    (λ i. one.0 i ++ two.0 i, λ i. one.1 i || two.1 i)
+
+-- the answers to the first lines of a script, and the lines to come
+pub record SoFar (tables : Tables) (all rest : List (List ℕ)) (text : List ℕ) (errs : Bool) : Type 0 where
+  pub joins : (more : List ℕ) (e : Bool) → ScriptAnswer tables rest more e → ScriptAnswer tables all (text ++ more) (errs || e)
+  pub splits : (whole : List ℕ) (e : Bool) → ScriptAnswer tables all whole e → (more : List ℕ) × (more_errs : Bool) × ScriptAnswer tables rest more more_errs × (whole ≡ text ++ more)
+
+pub begins : (tables : Tables) (all : List (List ℕ)) → SoFar tables all all [] false
+begins tables all = record { joins = λ more e h. h; splits = λ whole e h. (whole, e, h, refl) }
+
+or_assoc : (x y z : Bool) → (x || (y || z)) ≡ ((x || y) || z)
+or_assoc true y z = refl
+or_assoc false y z = refl
+
+-- what the answers to a line and to the lines behind it are made of
+line_parts : Laws → (tables : Tables) (line : List ℕ) (lines : List (List ℕ)) (first whole : List ℕ) (err errs : Bool) → LineAnswer tables (script_line line) first err → ScriptAnswer tables (line ∷ lines) whole errs →
+    (more : List ℕ) × (more_errs : Bool) × ScriptAnswer tables lines more more_errs × (whole ≡ first ++ more)
+line_parts laws tables line lines first _ err _ h (answers other left is_err are_errs k more) =
+    (left, are_errs, more, ap (λ t. t ++ left) (sym (line_once laws tables (script_line line) first other err is_err h k).0))
+
+-- one more line is answered
+pub goes_on : Laws → (tables : Tables) (all lines rest : List (List ℕ)) (line text first : List ℕ) (errs err : Bool) → SoFar tables all lines text errs → lines ≡ line ∷ rest → LineAnswer tables (script_line line) first err →
+    SoFar tables all rest (text ++ first) (errs || err)
+goes_on laws tables all lines rest line text first errs err at parts h = record {
+  joins = λ more e k.
+      let whole = at.joins (first ++ more) (err || e) (subst (λ ls. ScriptAnswer tables ls (first ++ more) (err || e)) (sym parts) (answers first more err e h k)) in
+      let same_text = append_assoc text first more in
+      let same_errs = or_assoc errs err e in
+      subst (λ t. ScriptAnswer tables all t ((errs || err) || e)) (sym same_text) (subst (λ b. ScriptAnswer tables all (text ++ (first ++ more)) b) same_errs whole);
+  splits = λ whole e k.
+      let (more, more_errs, more_is, whole_is) = at.splits whole e k in
+      let (left, left_errs, left_is, left_parts) = line_parts laws tables line rest first more err more_errs h (subst (λ ls. ScriptAnswer tables ls more more_errs) parts more_is) in
+      (left, left_errs, left_is, whole_is ∙ (ap (λ t. text ++ t) left_parts ∙ sym (append_assoc text first left)));
+}
