@@ -1,3 +1,4 @@
 pub mod Device
 pub mod Script
 pub mod Answer
+pub mod Answered

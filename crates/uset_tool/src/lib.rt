@@ -3,6 +3,7 @@
 
 mod answer;
 mod input;
+mod script;
 mod sink;
 mod source;
 

@@ -2,6 +2,7 @@
 ghost use Rattle.std.specs.Prelude.{◌≡◌, ℕ, ◌+◌, ◌<◌, ◌≤◌, ◌++◌, List, [], Option, Some, None, length, IfOk, Err};
 ghost use Rattle.uset_tool.specs.Device.{WritesFront, WritesText, Rose};
 
+use cp_invlist::NoMemory;
 use std::alloc::Global;
 use std::io::Write;
 use std::marker::Model;
@@ -16,6 +17,17 @@ pub enum WriteError {
     /// A request for memory was refused.
     #[error("NoMemory")]
     NoMemory,
+}
+
+impl From<NoMemory> for WriteError {
+    ghost use Rattle.std.specs.Prelude.{◌≡◌};
+    ghost use Rattle.uset_tool.specs.declared.sink.WriteError.TheVariants.{NoMemory as OutOfMemory};
+
+    ghost from_gives = { λ _ error. error ≡ OutOfMemory };
+
+    fn from(_error: NoMemory) -> WriteError {
+        WriteError::NoMemory
+    }
 }
 
 /// Where bytes go.

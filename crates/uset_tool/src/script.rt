@@ -1,0 +1,40 @@
+//! The answers to a script.
+ghost use Rattle.std.specs.Prelude.{◌≡◌, ◌≤◌, Err};
+ghost use Rattle.text_lines.specs.Lines.{lines};
+ghost use Rattle.prop_data.specs.Database.{tables_of};
+ghost use Rattle.uset_tool.specs.Answered.{AnswersScript};
+ghost use Rattle.uset_tool.specs.Device.{Rose};
+
+use crate::answer::answer_line;
+use crate::sink::{Sink, WriteError, write_all};
+use prop_data::PropertyDatabase;
+use std::alloc::Global;
+use text_lines::split_line;
+use uset_parse::laws::{no_fault_of_a_reading, one_fault, one_reading};
+
+/// Answers the lines of a script one by one: each answer is written before the next line is looked
+/// at. Tells whether an `err` line is among the answers.
+pub(crate) fn answer_script<K: Sink>(
+    alloc: Global,
+    script: &str,
+    database: &PropertyDatabase,
+    sink: &mut K,
+) -> Result<bool, WriteError>
+    ensures written { AnswersScript (tables_of database.now) (lines script.now) (K.written sink.old) (K.written sink.new) result }
+    ensures failed { result ≡ Err WriteError.Failed → Rose (K.faults sink.old) (K.faults sink.new) }
+    ensures counted { K.faults sink.old ≤ K.faults sink.new }
+{
+    // The laws by which a line has one answer, so that what is written begins every answer.
+    one_reading();
+    no_fault_of_a_reading();
+    one_fault();
+    let mut rest = script;
+    let mut has_err = false;
+    while let Some((line, behind)) = split_line(rest) {
+        let answer = answer_line(alloc, line, database)?;
+        write_all(sink, answer.text.as_bytes())?;
+        has_err |= answer.is_err;
+        rest = behind;
+    }
+    Ok(has_err)
+}
