@@ -1,0 +1,91 @@
+-- What a run answers.
+use Rattle.std.specs.Prelude.{◌≡◌, ℕ, ◌+◌, ◌<◌, ◌≤◌, ◌⊎◌, Bool, true, false, List, [], ◌++◌, drop, length, codes, Option, None, Some, IfSome, if◌then◌else◌}
+use Rattle.std.specs.Str.{is_utf8}
+use Rattle.text_lines.specs.Lines.{lines}
+use Rattle.text_lines.specs.Fields.{through, past}
+use Rattle.prop_data.specs.declared.error.TableError.{TableError}
+use Rattle.prop_data.specs.TableText.{table_fault, tables_in}
+use Rattle.uset_tool.specs.declared.status.Status.{Status}
+use Rattle.uset_tool.specs.declared.status.Status.TheVariants.{Done, SomeErr, Usage, Tables, ReadFault, WriteFault, NoMemory, NotText, TooLong}
+use Rattle.uset_tool.specs.Answer.{ScriptAnswer}
+use Rattle.uset_tool.specs.Device.{limit, Appends, IsFront, IsProperFront}
+use Rattle.uset_tool.specs.Words.{is_known, table_fault_text, usage_text, not_text_text, too_long_text}
+
+-- the lines of an input through its first line that is `end` alone: the table text
+abbrev pub table_lines : List ℕ → List (List ℕ)
+table_lines input = through (codes "end") (lines input)
+
+-- the lines behind the table text: the script
+abbrev pub script_lines : List ℕ → List (List ℕ)
+script_lines input = past (codes "end") (lines input)
+
+-- The answer to an input that is text, and its status: of the table text first, then of the lines of the script.
+pub data Evaluates (input : List ℕ) : List ℕ → Status → Type 0 where
+  faulty_tables : (fault : TableError) → table_fault (table_lines input) ≡ Some fault →
+      Evaluates input (table_fault_text fault) Tables
+  script : table_fault (table_lines input) ≡ None → (text : List ℕ) (errs : Bool) →
+      ScriptAnswer (tables_in (table_lines input)) (script_lines input) text errs →
+      Evaluates input text (if errs then SomeErr else Done)
+
+-- The answer to the words and the input, and its status: of the words first, then of the length, then of UTF-8.
+pub data Answers (words : List (List ℕ)) (input : List ℕ) : List ℕ → Status → Type 0 where
+  usage : is_known words ≡ false → Answers words input usage_text Usage
+  too_long : is_known words ≡ true → limit < length input → Answers words input too_long_text TooLong
+  not_text : is_known words ≡ true → length input ≤ limit → is_utf8 input ≡ false → Answers words input not_text_text NotText
+  evaluates : {text : List ℕ} {status : Status} → is_known words ≡ true → length input ≤ limit → is_utf8 input ≡ true →
+      Evaluates input text status → Answers words input text status
+
+-- the answers of an input, each a text and a status
+abbrev pub AnswersOf : Type 1
+AnswersOf = List ℕ → Status → Type 0
+
+-- a whole answer with this status was appended
+abbrev pub IsWhole : AnswersOf → List ℕ → List ℕ → Status → Type 0
+IsWhole A before now status = (text : List ℕ) × A text status × (now ≡ before ++ text)
+
+-- What was appended to the sink: a whole answer; nothing, where the source failed; of every answer a front and not all of it,
+-- where the sink failed; and of every answer a front, where memory was refused.
+abbrev pub IsWritten : AnswersOf → List ℕ → List ℕ → Status → Type 0
+IsWritten A before now Done = IsWhole A before now Done
+IsWritten A before now SomeErr = IsWhole A before now SomeErr
+IsWritten A before now Usage = IsWhole A before now Usage
+IsWritten A before now Tables = IsWhole A before now Tables
+IsWritten A before now NotText = IsWhole A before now NotText
+IsWritten A before now TooLong = IsWhole A before now TooLong
+IsWritten A before now ReadFault = now ≡ before
+IsWritten A before now WriteFault = (text : List ℕ) (status : Status) → A text status → IsProperFront before now text
+IsWritten A before now NoMemory = (text : List ℕ) (status : Status) → A text status → IsFront before now text
+
+-- the same of a sink that tells what was written
+abbrev pub Writes : AnswersOf → Option (List ℕ) → Option (List ℕ) → Status → Type 0
+Writes A old new status = IfSome old (λ before. (now : List ℕ) × (new ≡ Some now) × IsWritten A before now status)
+
+-- the statuses that an input which is text can have
+abbrev pub is_of_text : Status → Bool
+is_of_text Done = true
+is_of_text SomeErr = true
+is_of_text Tables = true
+is_of_text WriteFault = true
+is_of_text NoMemory = true
+is_of_text Usage = false
+is_of_text ReadFault = false
+is_of_text NotText = false
+is_of_text TooLong = false
+
+-- The text was said, with the status that was wanted; or the sink failed, or refused memory.
+pub data Says (old new : Option (List ℕ)) (text : List ℕ) (wanted : Status) : Status → Type 0 where
+  said : Appends old new text → Says old new text wanted wanted
+  failed : IfSome old (λ before. (now : List ℕ) × (new ≡ Some now) × IsProperFront before now text) → Says old new text wanted WriteFault
+  refused : IfSome old (λ before. (now : List ℕ) × (new ≡ Some now) × IsProperFront before now text) → Says old new text wanted NoMemory
+
+-- What a source has left that had the input left: nothing where the whole input was answered.
+abbrev pub IsLeft : List ℕ → Option (List ℕ) → Status → Type 0
+IsLeft input left Done = left ≡ Some []
+IsLeft input left SomeErr = left ≡ Some []
+IsLeft input left Tables = left ≡ Some []
+IsLeft input left NotText = left ≡ Some []
+IsLeft input left Usage = left ≡ Some input
+IsLeft input left TooLong = (limit < length input) × (left ≡ Some (drop (limit + 1) input))
+IsLeft input left ReadFault = (n : ℕ) × (n ≤ limit) × (left ≡ Some (drop n input))
+IsLeft input left WriteFault = Unit {0}
+IsLeft input left NoMemory = Unit {0}
