@@ -16,6 +16,8 @@ ghost use Rattle.cp_strset.specs.StringList.{AreCanonical, sole_of, fault_at, fa
 ghost use Rattle.cp_strset.specs.StringSet.{contains_text};
 
 mod pattern_text;
+#[cfg(test)]
+mod tests;
 
 use cp_invlist::{CodePointInversionList, NoMemory};
 use pattern_text::{push_ranges, push_strings};
