@@ -7,10 +7,10 @@ use Rattle.cp_invlist.specs.Fault.{first_out_of_order, odd_end, first_or, fault_
 use Rattle.cp_invlist.proofs.Lists.{IsInversionList-from}
 use Rattle.cp_invlist.proofs.Partition.{odd_length, not-false, not-true}
 
-first_out_of_order-fits : (n i x : ℕ) (xs : List ℕ) → n ≤ x → x ≤ 0x11_0000 → first_out_of_order n i (x ∷ xs) ≡ first_out_of_order (suc x) (suc i) xs
+pub first_out_of_order-fits : (n i x : ℕ) (xs : List ℕ) → n ≤ x → x ≤ 0x11_0000 → first_out_of_order n i (x ∷ xs) ≡ first_out_of_order (suc x) (suc i) xs
 first_out_of_order-fits n i x xs low high = cond-true _ _ _ (and_from _ _ (le-leb n x low) (le-leb x 0x11_0000 high))
 
-first_out_of_order-fault : (n i x : ℕ) (xs : List ℕ) → (x < n) ⊎ (0x11_0000 < x) → first_out_of_order n i (x ∷ xs) ≡ Some i
+pub first_out_of_order-fault : (n i x : ℕ) (xs : List ℕ) → (x < n) ⊎ (0x11_0000 < x) → first_out_of_order n i (x ∷ xs) ≡ Some i
 first_out_of_order-fault n i x xs (inl below) = cond-false _ _ _ (and_left _ _ (lt-leb n x below))
 first_out_of_order-fault n i x xs (inr above) = cond-false _ _ _ (and_right _ _ (lt-leb x 0x11_0000 above))
 
@@ -28,7 +28,7 @@ first_out_of_order-at n i xs lt out =
 pub first_out_of_order-end : (n i : ℕ) (xs : List ℕ) → length xs ≤ i → first_out_of_order n i (drop i xs) ≡ None
 first_out_of_order-end n i xs le = at_drop_all (first_out_of_order n i) xs i le
 
-ascends_from-no_fault : (n i : ℕ) (xs : List ℕ) → first_out_of_order n i xs ≡ None → ascends_from n xs ≡ true
+pub ascends_from-no_fault : (n i : ℕ) (xs : List ℕ) → first_out_of_order n i xs ≡ None → ascends_from n xs ≡ true
 ascends_from-no_fault n i [] h = refl
 ascends_from-no_fault n i (x ∷ xs) h = elim (cases_Bool (nat_le n x && nat_le x 0x11_0000)) [
   | inl fits ↦ and_from _ _ fits (ascends_from-no_fault (suc x) (suc i) xs (sym (cond-true _ _ _ fits) ∙ h))
