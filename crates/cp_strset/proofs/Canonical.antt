@@ -10,7 +10,7 @@ use Rattle.std.specs.Str.{chars, bytes_eq}
 use Rattle.std.proofs.lemmas.Bool.{cases_Bool, cases_lt, cond-true, cond-false}
 use Rattle.std.proofs.lemmas.Cmp.{nat_list_cmp_total, alike_right}
 use Rattle.std.proofs.lemmas.List.{get_or-map, length-map}
-use Rattle.std.proofs.lemmas.List.Elements.{All-nil, All-cons, All-weaker}
+use Rattle.std.proofs.lemmas.List.Elements.{All-nil, All-cons, All-head, All-tail, All-weaker}
 use Rattle.std.proofs.lemmas.List.Kept.{AllPairs-cons}
 use Rattle.std.proofs.lemmas.List.Recursion.{or_at, or_from_places}
 use Rattle.std.proofs.lemmas.Map.Text.{is_eq-slice_cmp}
@@ -133,3 +133,27 @@ search_answers f (x ∷ xs) s (Err i) h bound found =
     ]
     )
     )
+
+one_not : (cs : List ℕ) → length cs ≢ 1 → is_some (sole_of cs) ≡ false
+one_not [] h = refl
+one_not (c ∷ []) h = absurd (h refl)
+one_not (c ∷ d ∷ cs) h = refl
+
+fault_behind-above : (p : Option (List ℕ)) (s : List ℕ) (i : ℕ) (ss : List (List ℕ)) → AreAbove p (s ∷ ss) → fault_behind p s i ≡ None
+fault_behind-above None s i ss h = refl
+fault_behind-above (Some p) s i ss h =
+    let total = nat_list_cmp_total in
+    let above : slice_cmp nat_cmp s p ≡ Greater = total.antisymm s p ∙ ap ordering_reverse (All-head (IsBelow p) s ss h) in
+    ap (λ o. fault_of_order o i) above
+
+faultless_from : (p : Option (List ℕ)) (i : ℕ) (ss : List (List ℕ)) → AreAbove p ss → AllPairs IsBelow ss → All (λ s. length (chars s) ≢ 1) ss → fault_from p i ss ≡ None
+faultless_from p i [] above pairs ones = refl
+faultless_from p i (s ∷ ss) above pairs ones =
+    let first : fault_at p s i ≡ None =
+    cond-false _ _ _ (one_not (chars s) (All-head (λ s. length (chars s) ≢ 1) s ss ones)) ∙ fault_behind-above p s i ss above in
+    let rest = faultless_from (Some s) (suc i) ss (λ k d lt. pairs 0 (suc k) d (omega arith) (omega arith))
+    (λ j k d lt short. pairs (suc j) (suc k) d (omega arith) (omega arith)) (All-tail (λ s. length (chars s) ≢ 1) s ss ones) in
+    ap (λ o. first_or o (fault_from (Some s) (suc i) ss)) first ∙ rest
+
+pub faultless-AreCanonical : (ss : List (List ℕ)) → AreCanonical ss → fault_from None 0 ss ≡ None
+faultless-AreCanonical ss h = faultless_from None 0 ss tt h.ascending h.none_of_one

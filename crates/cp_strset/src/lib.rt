@@ -15,6 +15,7 @@ ghost use Rattle.cp_strset.specs.PatternText.{pattern_text};
 ghost use Rattle.cp_strset.specs.StringList.{AreCanonical, sole_of, fault_at, fault_from};
 ghost use Rattle.cp_strset.specs.StringSet.{contains_text};
 
+pub mod laws;
 mod pattern_text;
 #[cfg(test)]
 mod tests;
