@@ -1,6 +1,6 @@
 -- A list after a range is added: everything from the range's start to the number past it is cut out, and an end of the range
 -- is put there where it lies in no range of the list.
-use Rattle.std.proofs.Common.{◌≡◌, ℕ, suc, ◌+◌, ◌-◌, ◌%◌, ◌<◌, ◌≤◌, Bool, true, false, not, ◌||◌, ◌&&◌, nat_le, nat_lt, min, List, [], ◌∷◌, ◌++◌, length, take, drop, All, refl, sym, ap, ap₂, ◌∙◌, arith, append_assoc, inl, inr, ◌⊎◌, Result, Ok, Err, OnOk, OnErr}
+use Rattle.std.proofs.Common.{◌≡◌, ℕ, suc, ◌+◌, ◌-◌, ◌%◌, ◌<◌, ◌≤◌, Bool, true, false, not, ◌||◌, ◌&&◌, nat_le, nat_lt, min, List, [], ◌∷◌, ◌++◌, length, take, drop, All, refl, sym, ap, ap₂, ◌∙◌, arith, append_assoc, inl, inr, Result, Ok, Err, OnOk, OnErr}
 use Rattle.std.specs.List.{splice}
 use Rattle.std.proofs.lemmas.Bool.{le-leb, lt-leb, cases_lt, and_left, and_right, and_from}
 use Rattle.std.proofs.lemmas.Bool.Decides.{nat_tests}
@@ -198,10 +198,6 @@ with_range-behind xs start past even =
 pub in_code_points-past : (r : CodePointRange) (past d : ℕ) → past ≡ min r.end 0x10_FFFF + 1 → (nat_le r.start d && nat_lt d past) ≡ in_code_points r d
 in_code_points-past r past d e = grind (arith, nat_tests)
 
--- a range that holds no code point
-pub in_code_points-none : (r : CodePointRange) (d : ℕ) → (r.end < r.start) ⊎ (0x10_FFFF < r.start) → in_code_points r d ≡ false
-in_code_points-none r d h = grind (arith, nat_tests)
-
 -- what a builder's list is after a range was added
 pub record Added (xs new : List ℕ) (r : CodePointRange) : Type 0 where
   pub list : IsInversionList new
@@ -241,6 +237,3 @@ Added-on_ok xs new ends r (Ok _) past low high h le bound e before after hl hh i
     Added-from_cuts xs new r past low high h le bound e before after
     (ok ∙ with_range-splice xs ends r.start past low high (is ∙ written-ends xs r.start past low high hl hh))
 Added-on_ok xs new ends r (Err _) past low high h le bound e before after hl hh is ok = tt
-
-pub Added-none : (xs : List ℕ) (r : CodePointRange) (d : ℕ) → (r.end < r.start) ⊎ (0x10_FFFF < r.start) → contains xs d ≡ (contains xs d || in_code_points r d)
-Added-none xs r d h = sym (or-false (contains xs d)) ∙ ap (λ b. contains xs d || b) (sym (in_code_points-none r d h))

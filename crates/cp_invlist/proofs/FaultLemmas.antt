@@ -1,42 +1,28 @@
 -- The first fault of a list, as a walk over the list finds it.
-use Rattle.std.proofs.Common.{◌≡◌, ℕ, suc, ◌+◌, ◌%◌, ◌<◌, ◌≤◌, true, ◌&&◌, ◌==◌, nat_le, Some, None, List, [], ◌∷◌, length, drop, get_or, refl, sym, ap, ap₂, ◌∙◌, add-one, ◌⊎◌, inl, inr}
+use Rattle.std.proofs.Common.{◌≡◌, ℕ, suc, ◌%◌, ◌<◌, ◌≤◌, true, ◌&&◌, ◌==◌, nat_le, Some, None, List, [], ◌∷◌, length, drop, refl, sym, ap, ◌∙◌, ◌⊎◌, inl, inr}
 use Rattle.std.proofs.lemmas.Bool.{le-leb, lt-leb, and_from, and_left, and_right, cond-true, cond-false, cases_Bool}
-use Rattle.std.proofs.lemmas.List.{at_drop_more, at_drop_all}
+use Rattle.std.proofs.lemmas.List.{at_drop_all}
 use Rattle.cp_invlist.specs.InversionList.{ascends_from, has_even_length, IsInversionList}
 use Rattle.cp_invlist.specs.Fault.{first_out_of_order, odd_end, first_or, fault_of}
 use Rattle.cp_invlist.proofs.Lists.{IsInversionList-from}
 use Rattle.cp_invlist.proofs.Partition.{odd_length, not-false, not-true}
 
-first_out_of_order-fits : (n i x : ℕ) (xs : List ℕ) → n ≤ x → x ≤ 0x11_0000 → first_out_of_order n i (x ∷ xs) ≡ first_out_of_order (suc x) (suc i) xs
+pub first_out_of_order-fits : (n i x : ℕ) (xs : List ℕ) → n ≤ x → x ≤ 0x11_0000 → first_out_of_order n i (x ∷ xs) ≡ first_out_of_order (suc x) (suc i) xs
 first_out_of_order-fits n i x xs low high = cond-true _ _ _ (and_from _ _ (le-leb n x low) (le-leb x 0x11_0000 high))
 
-first_out_of_order-fault : (n i x : ℕ) (xs : List ℕ) → (x < n) ⊎ (0x11_0000 < x) → first_out_of_order n i (x ∷ xs) ≡ Some i
+pub first_out_of_order-fault : (n i x : ℕ) (xs : List ℕ) → (x < n) ⊎ (0x11_0000 < x) → first_out_of_order n i (x ∷ xs) ≡ Some i
 first_out_of_order-fault n i x xs (inl below) = cond-false _ _ _ (and_left _ _ (lt-leb n x below))
 first_out_of_order-fault n i x xs (inr above) = cond-false _ _ _ (and_right _ _ (lt-leb x 0x11_0000 above))
-
--- one element on, and at an element out of order
-pub first_out_of_order-more : (n i : ℕ) (xs : List ℕ) → i < length xs → n ≤ get_or xs i 0 → get_or xs i 0 ≤ 0x11_0000 →
-    first_out_of_order n i (drop i xs) ≡ first_out_of_order (get_or xs i 0 + 1) (i + 1) (drop (i + 1) xs)
-first_out_of_order-more n i xs lt low high =
-    at_drop_more (first_out_of_order n i) xs i 0 lt ∙ first_out_of_order-fits n i (get_or xs i 0) (drop (i + 1) xs) low high
-    ∙ ap₂ (λ a b. first_out_of_order a b (drop (i + 1) xs)) (sym (add-one (get_or xs i 0))) (sym (add-one i))
-
-pub first_out_of_order-at : (n i : ℕ) (xs : List ℕ) → i < length xs → (get_or xs i 0 < n) ⊎ (0x11_0000 < get_or xs i 0) → first_out_of_order n i (drop i xs) ≡ Some i
-first_out_of_order-at n i xs lt out =
-    at_drop_more (first_out_of_order n i) xs i 0 lt ∙ first_out_of_order-fault n i (get_or xs i 0) (drop (i + 1) xs) out
 
 pub first_out_of_order-end : (n i : ℕ) (xs : List ℕ) → length xs ≤ i → first_out_of_order n i (drop i xs) ≡ None
 first_out_of_order-end n i xs le = at_drop_all (first_out_of_order n i) xs i le
 
-ascends_from-no_fault : (n i : ℕ) (xs : List ℕ) → first_out_of_order n i xs ≡ None → ascends_from n xs ≡ true
+pub ascends_from-no_fault : (n i : ℕ) (xs : List ℕ) → first_out_of_order n i xs ≡ None → ascends_from n xs ≡ true
 ascends_from-no_fault n i [] h = refl
 ascends_from-no_fault n i (x ∷ xs) h = elim (cases_Bool (nat_le n x && nat_le x 0x11_0000)) [
   | inl fits ↦ and_from _ _ fits (ascends_from-no_fault (suc x) (suc i) xs (sym (cond-true _ _ _ fits) ∙ h))
   | inr out ↦ let there : Some i ≡ None = sym (cond-false _ _ _ out) ∙ h in cc
 ]
-
-pub fault_of-out_of_order : (i : ℕ) (xs : List ℕ) → first_out_of_order 0 0 xs ≡ Some i → fault_of xs ≡ Some i
-fault_of-out_of_order i xs h = ap (λ o. first_or o (odd_end xs)) h
 
 pub fault_of-even : (xs : List ℕ) → first_out_of_order 0 0 xs ≡ None → length xs % 2 ≡ 0 → (fault_of xs ≡ None) × IsInversionList xs
 fault_of-even xs h parity =

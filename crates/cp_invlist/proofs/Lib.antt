@@ -6,3 +6,4 @@ pub mod GapsLemmas
 pub mod SizeLemmas
 pub mod FaultLemmas
 pub mod MergeLemmas
+pub mod FirstFault

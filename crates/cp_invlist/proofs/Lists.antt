@@ -1,7 +1,7 @@
 -- What inversion lists hold: order, parity and membership of their parts.
 use Rattle.std.proofs.Common.{◌≡◌, ℕ, zero, suc, ◌<◌, ◌≤◌, Bool, true, false, not, nat_le, List, [], ◌∷◌, ◌++◌, take, drop, All, refl, ap, ◌∙◌, arith, leb-true}
 use Rattle.std.proofs.lemmas.Bool.{and_parts, and_from, le-leb, lt-leb}
-use Rattle.std.proofs.lemmas.List.Elements.{All-head, All-tail, All-cons, All-nil}
+use Rattle.std.proofs.lemmas.List.Elements.{All-head, All-tail}
 use Rattle.cp_invlist.specs.InversionList.{differ, contains, ascends_from, has_even_length, IsInversionList}
 
 -- the parts of the order of a list with a first element
@@ -93,21 +93,8 @@ pub has_even_length-append : (xs ys : List ℕ) → has_even_length (xs ++ ys) �
 has_even_length-append [] ys = elim (has_even_length ys) as (λ b. b ≡ not (not b)) [ true ↦ refl | false ↦ refl ]
 has_even_length-append (x ∷ xs) ys = ap not (has_even_length-append xs ys) ∙ not_differ (has_even_length xs) (has_even_length ys)
 
--- each element is at most the end
-pub ascends_from-bound : (n c : ℕ) (xs : List ℕ) → ascends_from n xs ≡ true → 0x11_0000 ≤ c → All (λ x. x ≤ c) xs
-ascends_from-bound n c [] h le = All-nil (λ x. x ≤ c)
-ascends_from-bound n c (x ∷ xs) h le =
-    let parts = ascends_from-parts n x xs h in
-    All-cons (λ x. x ≤ c) x xs (omega arith) (ascends_from-bound (suc x) c xs parts.2 le)
-
 pub IsInversionList-parts : (xs : List ℕ) → IsInversionList xs → (ascends_from 0 xs ≡ true) × (has_even_length xs ≡ true)
 IsInversionList-parts xs h = and_parts _ _ h
 
 pub IsInversionList-from : (xs : List ℕ) → ascends_from 0 xs ≡ true → has_even_length xs ≡ true → IsInversionList xs
 IsInversionList-from xs a e = and_from _ _ a e
-
--- no number past the code points is a member
-pub contains-past : (xs : List ℕ) (c : ℕ) → IsInversionList xs → 0x10_FFFF < c → contains xs c ≡ false
-contains-past xs c h lt =
-    let parts = IsInversionList-parts xs h in
-    contains-all_at_most c xs (ascends_from-bound 0 c xs parts.0 (omega arith)) ∙ ap not parts.1

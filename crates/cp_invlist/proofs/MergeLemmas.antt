@@ -1,13 +1,12 @@
 -- A walk over the elements of two sets in order gives the merged list.
-use Rattle.std.proofs.Common.{◌≡◌, ℕ, suc, ◌+◌, ◌%◌, ◌<◌, ◌≤◌, Bool, true, false, not, ◌==◌, min, Option, Some, None, IfNone, option_to_list, List, [], ◌∷◌, ◌++◌, length, All, refl, sym, ap, ap₂, ◌∙◌, arith, subst, ◌⊎◌, inl, inr}
+use Rattle.std.proofs.Common.{◌≡◌, ℕ, suc, ◌%◌, ◌<◌, ◌≤◌, Bool, true, false, not, ◌==◌, min, Option, Some, None, IfNone, option_to_list, List, [], ◌∷◌, ◌++◌, length, All, refl, sym, ap, ap₂, ◌∙◌, arith, subst, ◌⊎◌, inl, inr}
 use mathlib.Core.Bool.{beq}
 use Rattle.std.proofs.lemmas.Bool.{le-leb, lt-leb, eq-eqb, ne_eqb, cases_lt, cases_eq, cond-true, cond-false, cases_Bool}
-use Rattle.std.proofs.lemmas.List.Elements.{All-nil, All-weaker, All-push}
-use Rattle.cp_invlist.specs.InversionList.{differ, contains, ascends_from, has_even_length, IsInversionList}
+use Rattle.std.proofs.lemmas.List.Elements.{All-weaker, All-push}
+use Rattle.cp_invlist.specs.InversionList.{differ, contains, ascends_from, has_even_length}
 use Rattle.cp_invlist.specs.Merge.{keeps, elements_behind, turned_at, turned_list, lower_of}
 use Rattle.cp_invlist.specs.declared.merge.Operation.{Operation}
-use Rattle.cp_invlist.specs.declared.merge.Operation.TheVariants.{Union, Difference, Intersection}
-use Rattle.cp_invlist.proofs.Lists.{ascends_from-parts, ascends_from-cons, ascends_from-lower, ascends_from-append, contains-append, contains-below, contains-all_at_most, has_even_length-append, IsInversionList-parts, IsInversionList-from}
+use Rattle.cp_invlist.proofs.Lists.{ascends_from-parts, ascends_from-cons, ascends_from-lower, ascends_from-append, contains-append, contains-below, contains-all_at_most, has_even_length-append}
 use Rattle.cp_invlist.proofs.Partition.{odd_length, differ-false}
 
 -- What is left of a list from a number on: whether that number stands inside the set, and which numbers from it on are members.
@@ -24,11 +23,6 @@ IsAtMostFirst x (y ∷ ys) = x ≤ y
 abbrev pub IsFirst : ℕ → List ℕ → Type 0
 IsFirst x [] = ⊥
 IsFirst x (y ∷ ys) = x ≡ y
-
-pub Tracks-start : (xs : List ℕ) → IsInversionList xs → Tracks xs xs false 0
-Tracks-start xs h =
-    let parts = IsInversionList-parts xs h in
-    record { ascends = parts.0; even = parts.1; members = λ d _. refl }
 
 not-not : (a b : Bool) → not a ≡ not b → a ≡ not (not b)
 not-not true true h = refl
@@ -98,19 +92,6 @@ pub record Merges (op : Operation) (first second out : List ℕ) (a b : Bool) (n
   pub below : All (λ x. x < n) out
   pub even : has_even_length out ≡ not (keeps op a b)
   pub members : (d : ℕ) → d < n → contains out d ≡ keeps op (contains first d) (contains second d)
-
-keeps-outside : (op : Operation) → keeps op false false ≡ false
-keeps-outside Union = refl
-keeps-outside Difference = refl
-keeps-outside Intersection = refl
-
-pub Merges-start : (op : Operation) (first second : List ℕ) → Merges op first second [] false false 0
-Merges-start op first second = record {
-  ascends = refl;
-  below = All-nil (λ x. x < 0);
-  even = ap not (sym (keeps-outside op));
-  members = λ d lt. absurd (omega arith);
-}
 
 -- behind all elements of a list
 contains-end : (out : List ℕ) (n d : ℕ) (k : Bool) → All (λ x. x < n) out → has_even_length out ≡ not k → n ≤ d → contains out d ≡ k
@@ -219,14 +200,6 @@ pub record Walks (op : Operation) (first second left right out : List ℕ) (a b 
   pub second_track : Tracks second right b at
   pub merged : Merges op first second out a b at
 
-pub Walks-start : (op : Operation) (first second : List ℕ) → IsInversionList first → IsInversionList second → Walks op first second first second [] false false
-Walks-start op first second hf hs = record {
-  at = 0;
-  first_track = Tracks-start first hf;
-  second_track = Tracks-start second hs;
-  merged = Merges-start op first second;
-}
-
 -- the lowest of the elements that are left
 pub record IsLowest (x : ℕ) (left right : List ℕ) : Type 0 where
   pub first : IsAtMostFirst x left
@@ -255,18 +228,6 @@ Walks-step op first second left right out a b x w lowest =
       });
     }
 
--- where no element is left, the list is merged
-outside_at_end : (b : Bool) → true ≡ not b → b ≡ false
-outside_at_end true h = h
-outside_at_end false h = refl
-
-pub Walks-list : (op : Operation) (first second out : List ℕ) (a b : Bool) → Walks op first second [] [] out a b → IsInversionList out
-Walks-list op first second out a b w =
-    IsInversionList-from out w.merged.ascends (
-    w.merged.even
-    ∙ ap not (ap₂ (keeps op) (outside_at_end a w.first_track.even) (outside_at_end b w.second_track.even) ∙ keeps-outside op)
-    )
-
 pub Walks-members : (op : Operation) (first second out : List ℕ) (a b : Bool) → Walks op first second [] [] out a b →
     (d : ℕ) → contains out d ≡ keeps op (contains first d) (contains second d)
 Walks-members op first second out a b w d = elim (cases_lt d w.at) [
@@ -293,23 +254,6 @@ IsLowest-from_lower (Some y) (Some z) us vs x ho hp h =
       second = omega arith;
       there = elim (cases_lt z y) [ inl lt ↦ inr (omega arith) | inr ge ↦ inl (omega arith) ];
     }
-
-pub elements_behind-shorter : (x : ℕ) (xs : List ℕ) → (length (elements_behind x xs) ≤ length xs) × (IsFirst x xs → length (elements_behind x xs) < length xs)
-elements_behind-shorter x [] = (omega arith, λ h. absurd h)
-elements_behind-shorter x (y ∷ ys) = elim (cases_eq x y) [
-  | inl same ↦ rw (eq-eqb x y same) (omega arith, λ h. omega arith)
-  | inr apart ↦ rw (ne_eqb x y apart) (omega arith, λ h. absurd (apart h))
-]
-
-pub IsLowest-shorter : (x : ℕ) (left right : List ℕ) → IsLowest x left right →
-    length (elements_behind x left) + length (elements_behind x right) < length left + length right
-IsLowest-shorter x left right h =
-    let l = elements_behind-shorter x left in
-    let r = elements_behind-shorter x right in
-    elim h.there [
-      | inl first ↦ let less = l.1 first in omega arith
-      | inr first ↦ let less = r.1 first in omega arith
-    ]
 
 -- nothing is left where there is no next element
 pub none_left : (o p : Option ℕ) (us vs : List ℕ) → IfNone o (us ≡ []) → IfNone p (vs ≡ []) → lower_of o p ≡ None →

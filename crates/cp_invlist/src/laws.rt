@@ -1,8 +1,19 @@
 //! Laws of inversion lists, each the contract of a function that does nothing.
-ghost use Rattle.std.specs.Prelude.{◌≡◌, ℕ, List};
+ghost use Rattle.std.specs.Prelude.{◌≡◌, ℕ, ◌↔◌, None, Some, List};
+ghost use Rattle.cp_invlist.specs.Fault.{fault_of, IsFirstFault};
 ghost use Rattle.cp_invlist.specs.InversionList.{contains, IsInversionList};
 
 /// Two inversion lists with the same members are the same list.
 pub fn same_members()
     ensures { (xs ys : List ℕ) → IsInversionList xs → IsInversionList ys → ((c : ℕ) → contains xs c ≡ contains ys c) → xs ≡ ys }
+{}
+
+/// The fault of a list is its first.
+pub fn first_fault()
+    ensures { (xs : List ℕ) (index : ℕ) → (fault_of xs ≡ Some index) ↔ IsFirstFault xs index }
+{}
+
+/// The inversion lists are the lists without a fault.
+pub fn faultless()
+    ensures { (xs : List ℕ) → (fault_of xs ≡ None) ↔ IsInversionList xs }
 {}

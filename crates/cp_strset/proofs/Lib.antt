@@ -1,1 +1,5 @@
 pub mod SoleChar
+pub mod Canonical
+pub mod Clones
+pub mod Written
+pub mod Equality

@@ -1,2 +1,3 @@
 pub mod StringSet
 pub mod StringList
+pub mod PatternText

@@ -1,5 +1,5 @@
 -- What a list of strings lacks to be strictly ascending by bytes with no string of one character.
-use Rattle.std.specs.Prelude.{ℕ, suc, if◌then◌else◌, Option, Some, None, is_some, List, [], ◌∷◌}
+use Rattle.std.specs.Prelude.{◌≡◌, ◌≢◌, All, AllPairs, length, ℕ, suc, if◌then◌else◌, Option, Some, None, is_some, List, [], ◌∷◌}
 use Rattle.std.specs.Ordering.{nat_cmp}
 use Rattle.std.specs.declared.cmp.Ordering.{Ordering}
 use Rattle.std.specs.declared.cmp.Ordering.TheVariants.{Less, Equal, Greater}
@@ -38,3 +38,8 @@ first_or (Some e) o = Some e
 abbrev pub fault_from : Option (List ℕ) → ℕ → List (List ℕ) → Option StringListError
 fault_from p i [] = None
 fault_from p i (s ∷ ss) = first_or (fault_at p s i) (fault_from (Some s) (suc i) ss)
+
+-- strictly ascending by bytes, and none has exactly one character
+pub record AreCanonical (ss : List (List ℕ)) : Type 0 where
+  pub ascending : AllPairs (λ s t. slice_cmp nat_cmp s t ≡ Less) ss
+  pub none_of_one : All (λ s. length (chars s) ≢ 1) ss

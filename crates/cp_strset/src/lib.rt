@@ -1,13 +1,28 @@
 //! A set of code points together with strings.
 #![tactic(auto)]
 
-ghost use Rattle.std.specs.Prelude.{◌≡◌, ℕ, ◌+◌, ◌^◌, ◌<◌, List, [], ◌∷◌, length, map, Option, Some, None, MatchOption, IfOk, OnOk, ◌↔◌};
+ghost use Rattle.std.specs.Prelude.{◌≡◌, ℕ, ◌+◌, ◌&&◌, ◌↔◌, false, nat_eq, IsTrue, IfOk, OnOk, List, length, map, None, Some};
+ghost use Rattle.std.specs.Cmp.Lexicographic.{pointwise};
+ghost use Rattle.std.specs.List.{list_any};
 ghost use Rattle.std.specs.Option.{option_copied};
+ghost use Rattle.std.specs.Str.{IsUtf8, bytes_eq, chars};
 ghost use Rattle.std.specs.String.{string_bytes};
-ghost use Rattle.std.specs.Str.{chars};
-ghost use Rattle.cp_strset.specs.StringList.{sole_of, fault_at, fault_from};
+ghost use Rattle.cp_invlist.specs.InversionList.{contains};
+ghost use Rattle.cp_invlist.specs.Ranges.{AreMaximalRanges};
+ghost use Rattle.cp_invlist.specs.Size.{count_members};
+ghost use Rattle.cp_invlist.specs.declared.ranges.CodePointRange.{CodePointRange};
+ghost use Rattle.cp_strset.specs.PatternText.{pattern_text};
+ghost use Rattle.cp_strset.specs.StringList.{AreCanonical, sole_of, fault_at, fault_from};
+ghost use Rattle.cp_strset.specs.StringSet.{contains_text};
 
-use cp_invlist::CodePointInversionList;
+pub mod laws;
+mod pattern_text;
+#[cfg(test)]
+mod tests;
+
+use cp_invlist::{CodePointInversionList, NoMemory};
+use pattern_text::{push_ranges, push_strings};
+use std::alloc::Global;
 use std::cmp::Ordering;
 use std::marker::Model;
 use thiserror::Error;
@@ -85,10 +100,113 @@ impl CodePointInversionListAndStringList {
 
     /// The strings, in order.
     pub fn strings(&self) -> &[String]
-        ensures { map string_bytes result.now ≡ self.now.strings }
+        ensures bytes { map string_bytes result.now ≡ self.now.strings }
+        ensures canonical { AreCanonical self.now.strings }
     {
         &self.strings
     }
+
+    /// Whether the text is in the set: a text of exactly one character as a code point, any other as a string.
+    pub fn contains_str(&self, s: &str) -> bool
+        ensures { result ≡ contains_text self.now s.now }
+    {
+        match sole_char(s) {
+            Some(c) => self.code_points.contains(c),
+            None => contains_string(&self.strings, s),
+        }
+    }
+
+    /// Whether the bytes are a text that is in the set. Bytes that aren't well-formed UTF-8 are in none.
+    pub fn contains_utf8(&self, s: &[u8]) -> bool
+        ensures text { IsUtf8 s.now → result ≡ contains_text self.now s.now }
+        ensures other { ¬ IsUtf8 s.now → result ≡ false }
+    {
+        match str::from_utf8(s) {
+            Ok(text) => self.contains_str(text),
+            Err(_) => false,
+        }
+    }
+
+    /// Whether the character is one of the code points.
+    pub fn contains(&self, c: char) -> bool
+        ensures { result ≡ contains self.now.code_points c }
+    {
+        self.code_points.contains(c)
+    }
+
+    /// Whether the number is one of the code points.
+    pub fn contains32(&self, c: u32) -> bool
+        ensures { result ≡ contains self.now.code_points c }
+    {
+        self.code_points.contains32(c)
+    }
+
+    /// How many code points and strings the set has together.
+    pub fn size(&self) -> usize
+        ensures { result ≡ count_members (contains self.now.code_points) 0x11_0000 + length self.now.strings }
+    {
+        self.code_points.size() + self.strings.len()
+    }
+
+    /// An equal set.
+    pub fn copy(&self, alloc: Global) -> Result<CodePointInversionListAndStringList, NoMemory>
+        ensures { IfOk result (λ s. s ≡ self.now) }
+    {
+        let code_points = self.code_points.copy(alloc)?;
+        let strings = Vec::from_clones(alloc, &self.strings)?;
+        Ok(CodePointInversionListAndStringList {
+            code_points,
+            strings,
+        })
+    }
+
+    /// The set as a pattern of UTS 35 in escapes alone. It is `[`, then each maximal range as `\u{h}` where it has one
+    /// member, else as `\u{h}-\u{h}`, then each string as `{`, `\u{h}` for each character and `}`, then `]`, where `h` is
+    /// lower-case hexadecimal with no leading zero.
+    pub fn to_pattern(&self, alloc: Global) -> Result<String, NoMemory>
+        ensures { (rs : List CodePointRange) → AreMaximalRanges (contains self.now.code_points) rs → IfOk result (λ t. string_bytes t ≡ pattern_text rs self.now.strings) }
+    {
+        let mut text = String::new(alloc);
+        text.push('[')?;
+        push_ranges(&mut text, &self.code_points)?;
+        push_strings(&mut text, &self.strings)?;
+        text.push(']')?;
+        Ok(text)
+    }
+}
+
+impl PartialEq for CodePointInversionListAndStringList {
+    ghost use Rattle.std.specs.Prelude.{◌&&◌, nat_eq};
+    ghost use Rattle.std.specs.Cmp.{partial_equiv_from_equiv, and_equiv, on_equiv};
+    ghost use Rattle.std.specs.Cmp.Lexicographic.{pointwise, lists_equiv, nat_list_eq_equiv};
+
+    ghost eq = { λ a b. pointwise nat_eq a.code_points b.code_points && pointwise (pointwise nat_eq) a.strings b.strings };
+
+    ghost laws = { partial_equiv_from_equiv (and_equiv (on_equiv (λ s. s.code_points) nat_list_eq_equiv) (on_equiv (λ s. s.strings) (lists_equiv nat_list_eq_equiv))) };
+
+    fn eq(&self, other: &CodePointInversionListAndStringList) -> bool
+        ensures value { result ≡ (pointwise nat_eq self.now.code_points other.now.code_points && pointwise (pointwise nat_eq) self.now.strings other.now.strings) }
+        ensures same { IsTrue result ↔ (self.now ≡ other.now) }
+    {
+        self.code_points == other.code_points && self.strings == other.strings
+    }
+}
+
+impl Eq for CodePointInversionListAndStringList {
+    ghost use Rattle.std.specs.Cmp.{and_equiv, on_equiv};
+    ghost use Rattle.std.specs.Cmp.Lexicographic.{lists_equiv, nat_list_eq_equiv};
+
+    ghost laws = { and_equiv (on_equiv (λ s. s.code_points) nat_list_eq_equiv) (on_equiv (λ s. s.strings) (lists_equiv nat_list_eq_equiv)) };
+}
+
+// Whether the text is one of the strings, by binary search.
+fn contains_string(strings: &[String], text: &str) -> bool
+    requires { fault_from None 0 (map string_bytes strings.now) ≡ None }
+    ensures { result ≡ list_any (λ s. bytes_eq s text.now) (map string_bytes strings.now) }
+{
+    strings
+        .binary_search_by(|string| string.as_str().cmp(text))
+        .is_ok()
 }
 
 // The character of a text that has exactly one.

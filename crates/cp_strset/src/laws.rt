@@ -1,0 +1,8 @@
+//! Laws of lists of strings, each the contract of a function that does nothing.
+ghost use Rattle.std.specs.Prelude.{◌≡◌, ℕ, ◌↔◌, None, List};
+ghost use Rattle.cp_strset.specs.StringList.{fault_from, AreCanonical};
+
+/// The lists without a fault are those that are strictly ascending by bytes and have no string of one character.
+pub fn faultless()
+    ensures { (strings : List (List ℕ)) → (fault_from None 0 strings ≡ None) ↔ AreCanonical strings }
+{}
