@@ -1,3 +1,4 @@
 pub mod AnswerLemmas
 pub mod DeviceLemmas
 pub mod Once
+pub mod RunLemmas

@@ -1,13 +1,18 @@
 -- What a run answers.
-use Rattle.std.specs.Prelude.{◌≡◌, ℕ, ◌+◌, ◌<◌, ◌≤◌, ◌⊎◌, Bool, true, false, List, [], ◌++◌, drop, length, codes, Option, None, Some, IfSome, if◌then◌else◌}
+use Rattle.std.specs.Prelude.{◌≡◌, ℕ, ◌+◌, ◌<◌, ◌≤◌, ◌⊎◌, Bool, true, false, List, [], ◌++◌, drop, length, codes, Option, None, Some, IfSome, Ok, Err, if◌then◌else◌}
 use Rattle.std.specs.Str.{is_utf8}
 use Rattle.text_lines.specs.Lines.{lines}
 use Rattle.text_lines.specs.Fields.{through, past}
+use Rattle.prop_data.specs.declared.error.LoadError.{LoadError}
+use Rattle.prop_data.specs.declared.error.LoadError.TheVariants.{Table, NoMemory as LoadRefused}
 use Rattle.prop_data.specs.declared.error.TableError.{TableError}
+use Rattle.prop_data.specs.Tables.{Tables as Members}
 use Rattle.prop_data.specs.TableText.{table_fault, tables_in}
 use Rattle.uset_tool.specs.declared.status.Status.{Status}
 use Rattle.uset_tool.specs.declared.status.Status.TheVariants.{Done, SomeErr, Usage, Tables, ReadFault, WriteFault, NoMemory, NotText, TooLong}
+use Rattle.uset_tool.specs.declared.sink.WriteError.TheVariants.{Failed, NoMemory as OutOfMemory}
 use Rattle.uset_tool.specs.Answer.{ScriptAnswer}
+use Rattle.uset_tool.specs.Answered.{AnswersScript}
 use Rattle.uset_tool.specs.Device.{limit, Appends, IsFront, IsProperFront}
 use Rattle.uset_tool.specs.Words.{is_known, table_fault_text, usage_text, not_text_text, too_long_text}
 
@@ -77,6 +82,23 @@ pub data Says (old new : Option (List ℕ)) (text : List ℕ) (wanted : Status) 
   said : Appends old new text → Says old new text wanted wanted
   failed : IfSome old (λ before. (now : List ℕ) × (new ≡ Some now) × IsProperFront before now text) → Says old new text wanted WriteFault
   refused : IfSome old (λ before. (now : List ℕ) × (new ≡ Some now) × IsProperFront before now text) → Says old new text wanted NoMemory
+
+-- the fault was said, or nothing where memory was refused
+abbrev pub SaysError : LoadError → Option (List ℕ) → Option (List ℕ) → Status → Type 0
+SaysError (Table fault) old new result = Says old new (table_fault_text fault) Tables result
+SaysError LoadRefused old new result = (new ≡ old) × (result ≡ NoMemory)
+
+-- the answers to the lines of a script with a status
+abbrev pub ScriptWrites : Members → List (List ℕ) → Option (List ℕ) → Option (List ℕ) → Status → Type 0
+ScriptWrites tables ls old new Done = AnswersScript tables ls old new (Ok false)
+ScriptWrites tables ls old new SomeErr = AnswersScript tables ls old new (Ok true)
+ScriptWrites tables ls old new WriteFault = AnswersScript tables ls old new (Err Failed)
+ScriptWrites tables ls old new NoMemory = AnswersScript tables ls old new (Err OutOfMemory)
+ScriptWrites tables ls old new Usage = ⊥
+ScriptWrites tables ls old new Tables = ⊥
+ScriptWrites tables ls old new ReadFault = ⊥
+ScriptWrites tables ls old new NotText = ⊥
+ScriptWrites tables ls old new TooLong = ⊥
 
 -- What a source has left that had the input left: nothing where the whole input was answered.
 abbrev pub IsLeft : List ℕ → Option (List ℕ) → Status → Type 0

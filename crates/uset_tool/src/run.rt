@@ -2,8 +2,10 @@
 ghost use Rattle.std.specs.Prelude.{◌≡◌, ◌≢◌, ◌≤◌, true, false, map, IfSome, codes};
 ghost use Rattle.std.specs.String.{string_bytes};
 ghost use Rattle.uset_tool.specs.Device.{Rose};
-ghost use Rattle.uset_tool.specs.Words.{is_known};
-ghost use Rattle.uset_tool.specs.Run.{Answers, Evaluates, Writes, IsLeft, Says, is_of_text};
+ghost use Rattle.uset_tool.specs.Words.{is_known, table_fault_text};
+ghost use Rattle.text_lines.specs.Lines.{lines};
+ghost use Rattle.prop_data.specs.Database.{tables_of};
+ghost use Rattle.uset_tool.specs.Run.{Answers, Evaluates, Writes, IsLeft, Says, SaysError, ScriptWrites, is_of_text};
 
 use crate::input::{InputError, read_input};
 use crate::script::answer_script;
@@ -25,5 +27,93 @@ fn say<K: Sink>(sink: &mut K, text: &str, wanted: Status) -> Status
         Ok(()) => wanted,
         Err(WriteError::Failed) => Status::WriteFault,
         Err(WriteError::NoMemory) => Status::NoMemory,
+    }
+}
+
+/// Says the first fault of the table text.
+fn say_fault<K: Sink>(alloc: Global, fault: TableError, sink: &mut K) -> Status
+    ensures says { Says (K.written sink.old) (K.written sink.new) (table_fault_text fault) Status.Tables result }
+    ensures failed { result ≡ Status.WriteFault → Rose (K.faults sink.old) (K.faults sink.new) }
+    ensures counted { K.faults sink.old ≤ K.faults sink.new }
+{
+    match table_fault_text(alloc, fault) {
+        Ok(text) => say(sink, &text, Status::Tables),
+        Err(_) => Status::NoMemory,
+    }
+}
+
+/// Says why the table text gave no database.
+fn say_load_error<K: Sink>(alloc: Global, error: LoadError, sink: &mut K) -> Status
+    ensures says { SaysError error (K.written sink.old) (K.written sink.new) result }
+    ensures failed { result ≡ Status.WriteFault → Rose (K.faults sink.old) (K.faults sink.new) }
+    ensures counted { K.faults sink.old ≤ K.faults sink.new }
+{
+    match error {
+        LoadError::Table(fault) => say_fault(alloc, fault, sink),
+        LoadError::NoMemory => Status::NoMemory,
+    }
+}
+
+/// Answers the lines of a script.
+fn answer<K: Sink>(
+    alloc: Global,
+    script: &str,
+    database: &PropertyDatabase,
+    sink: &mut K,
+) -> Status
+    ensures written { ScriptWrites (tables_of database.now) (lines script.now) (K.written sink.old) (K.written sink.new) result }
+    ensures failed { result ≡ Status.WriteFault → Rose (K.faults sink.old) (K.faults sink.new) }
+    ensures counted { K.faults sink.old ≤ K.faults sink.new }
+{
+    match answer_script(alloc, script, database, sink) {
+        Ok(false) => Status::Done,
+        Ok(true) => Status::SomeErr,
+        Err(WriteError::Failed) => Status::WriteFault,
+        Err(WriteError::NoMemory) => Status::NoMemory,
+    }
+}
+
+/// Answers an input that is text: a table text and a script behind it.
+fn eval<K: Sink>(alloc: Global, input: &str, sink: &mut K) -> Status
+    ensures written { Writes (Evaluates input.now) (K.written sink.old) (K.written sink.new) result }
+    ensures status { is_of_text result ≡ true }
+    ensures failed { result ≡ Status.WriteFault → Rose (K.faults sink.old) (K.faults sink.new) }
+    ensures counted { K.faults sink.old ≤ K.faults sink.new }
+{
+    let (tables, script) = split_behind(input, b"end");
+    match PropertyDatabase::from_text(alloc, tables) {
+        Ok(database) => answer(alloc, script, &database, sink),
+        Err(error) => say_load_error(alloc, error, sink),
+    }
+}
+
+/// Runs the program: the words after its name, the bytes of the source, and the answer to the sink.
+/// The one known list of words is `eval`: the input is a table text through its first line that is
+/// `end` alone, and then a script. At most 2^23 bytes are an input.
+pub fn run<S: Source, K: Sink>(
+    alloc: Global,
+    words: &Vec<String>,
+    source: &mut S,
+    sink: &mut K,
+) -> Status
+    ensures written { IfSome (S.left source.old) (λ input. Writes (Answers (map string_bytes words.now.items) input) (K.written sink.old) (K.written sink.new) result) }
+    ensures left { IfSome (S.left source.old) (λ input. IsLeft input (S.left source.new) result) }
+    ensures usage { (result ≡ Status.Usage → is_known (map string_bytes words.now.items) ≡ false) }
+    ensures read_fault_words { result ≡ Status.ReadFault → is_known (map string_bytes words.now.items) ≡ true }
+    ensures read_fault { result ≡ Status.ReadFault → Rose (S.faults source.old) (S.faults source.new) }
+    ensures write_fault { result ≡ Status.WriteFault → Rose (K.faults sink.old) (K.faults sink.new) }
+{
+    if !is_known(words) {
+        return say(sink, "usage: uset COMMAND\n", Status::Usage);
+    }
+    let input = match read_input(alloc, source) {
+        Ok(input) => input,
+        Err(InputError::Failed) => return Status::ReadFault,
+        Err(InputError::TooLong) => return say(sink, "input is too long\n", Status::TooLong),
+        Err(InputError::NoMemory) => return Status::NoMemory,
+    };
+    match str::from_utf8(&input) {
+        Ok(text) => eval(alloc, text, sink),
+        Err(_) => say(sink, "input is not UTF-8\n", Status::NotText),
     }
 }
