@@ -1,9 +1,9 @@
 -- What was taken and what was written so far.
-use Rattle.std.proofs.Common.{◌≡◌, ℕ, ◌+◌, ◌-◌, ◌<◌, ◌≤◌, ◌⊎◌, List, [], ◌∷◌, ◌++◌, take, drop, length, Option, None, Some, IfSome, Result, Ok, Err, refl, sym, ap, ◌∙◌, inl, inr, append_assoc, length-append, arith, subst}
+use Rattle.std.proofs.Common.{◌≡◌, ℕ, ◌+◌, ◌<◌, ◌≤◌, List, ◌++◌, take, drop, length, Option, None, Some, IfSome, Result, Ok, sym, ap, ◌∙◌, inl, inr, append_assoc, length-append, arith}
 use Rattle.std.proofs.lemmas.List.{take-append-drop}
 use Rattle.std.proofs.Math.Seq.{drop-append_seam}
 use Rattle.uset_tool.specs.declared.sink.WriteError.{WriteError}
-use Rattle.uset_tool.specs.Device.{limit, Rose, last_count, ReadsFront, WritesFront, Appends, IsProperFront, WritesText}
+use Rattle.uset_tool.specs.Device.{limit, Rose, WritesFront, Appends}
 
 -- the count rose within a longer time
 pub Rose-within : (a b c d : ℕ) → a ≤ b → Rose b c → c ≤ d → Rose a d
@@ -38,6 +38,7 @@ pub too_long : (old now : Option (List ℕ)) (input : List ℕ) → Taken old no
 too_long None now input taken over within = tt
 too_long (Some bytes) now input taken over within =
     let (rest, parts, left) = taken.told in
-    let len : length input ≡ limit + 1 = omega arith in
-    (omega (arith, ap length parts ∙ length-append input rest),
-     left ∙ ap Some (sym (ap (λ n. drop n bytes) (sym len) ∙ (ap (drop (length input)) parts ∙ drop-append_seam input rest))))
+    let len : length input ≡ limit + 1 = omega arith in (
+      omega (arith, ap length parts ∙ length-append input rest),
+      left ∙ ap Some (sym (ap (λ n. drop n bytes) (sym len) ∙ (ap (drop (length input)) parts ∙ drop-append_seam input rest))),
+    )

@@ -2,3 +2,4 @@ pub mod AnswerLemmas
 pub mod DeviceLemmas
 pub mod Once
 pub mod RunLemmas
+pub mod Complete

@@ -1,16 +1,16 @@
 -- Each line has one answer.
-use Rattle.std.proofs.Common.{◌≡◌, ℕ, ◌+◌, ◌<◌, ◌≤◌, ◌⊎◌, Bool, true, false, ◌||◌, List, [], ◌∷◌, ◌++◌, length, encode_utf8_all, refl, sym, ap, ◌∙◌, subst, inl, inr, append_assoc, append-nil, length-append, Option, None, Some, IfSome, Err, arith}
+use Rattle.std.proofs.Common.{◌≡◌, ℕ, ◌+◌, ◌<◌, ◌≤◌, Bool, true, false, ◌||◌, List, [], ◌∷◌, ◌++◌, length, encode_utf8_all, refl, sym, ap, ◌∙◌, subst, inl, inr, append_assoc, append-nil, length-append, Option, None, Some, IfSome, Err, arith}
 use Rattle.std.proofs.lemmas.Bool.{cases_order, true≢false}
 use Rattle.std.specs.Str.{chars}
 use Rattle.cp_invlist.specs.declared.ranges.CodePointRange.{CodePointRange}
 use Rattle.cp_invlist.specs.Ranges.{AreRangesFrom, AreMaximalRanges}
 use Rattle.prop_data.specs.Tables.{Tables}
 use Rattle.uset_parse.specs.Laws.{OneReading, NoFaultOfReading, OneFault}
-use Rattle.uset_parse.specs.Tree.{Tree, has}
+use Rattle.uset_parse.specs.Tree.{has}
 use Rattle.uset_tool.specs.declared.sink.WriteError.{WriteError}
 use Rattle.uset_tool.specs.declared.sink.WriteError.TheVariants.{Failed, NoMemory}
 use Rattle.uset_tool.specs.Answered.{StopsWithin, AnswersScript}
-use Rattle.uset_tool.specs.Device.{Appends, IsProperFront, IsFront}
+use Rattle.uset_tool.specs.Device.{Appends, IsProperFront}
 use Rattle.uset_tool.specs.Script.{ScriptLine, silent, pattern, bad, script_line}
 use Rattle.uset_tool.specs.Answer.{PatternAnswer, read, fault, read_text, fault_text, LineAnswer, ScriptAnswer, ends, answers}
 
@@ -128,11 +128,14 @@ pub write_stops : Laws → (tables : Tables) (all lines rest : List (List ℕ)) 
     IfSome middle (λ told. (now : List ℕ) × (new ≡ Some now) × IsProperFront told now first) → AnswersScript tables all old new (Err e)
 write_stops laws tables all lines rest line so_far first errs err None middle new e at parts h appended stopped = tt
 write_stops laws tables all lines rest line so_far first errs err (Some before) middle new e at parts h appended stopped =
-    let (now, new_is, front) = rw appended at stopped in
-    (now, new_is, λ text es k.
-        let (more, more_errs, more_is, text_is) = at.splits text es k in
-        let (left, left_errs, left_is, left_parts) = line_parts laws tables line rest first more err more_errs h (subst (λ ls. ScriptAnswer tables ls more more_errs) parts more_is) in
-        proper_is_front e before now text (Front-behind before so_far now first left text (text_is ∙ ap (λ t. so_far ++ t) left_parts) front))
+    let (now, new_is, front) = rw appended at stopped in (
+      now,
+      new_is,
+      λ text es k.
+          let (more, more_errs, more_is, text_is) = at.splits text es k in
+          let (left, left_errs, left_is, left_parts) = line_parts laws tables line rest first more err more_errs h (subst (λ ls. ScriptAnswer tables ls more more_errs) parts more_is) in
+          proper_is_front e before now text (Front-behind before so_far now first left text (text_is ∙ ap (λ t. so_far ++ t) left_parts) front),
+    )
 
 -- one more answer was written
 pub write_goes_on : (old middle new : Option (List ℕ)) (so_far first : List ℕ) → Appends old middle so_far → Appends middle new first → Appends old new (so_far ++ first)
@@ -143,7 +146,8 @@ write_goes_on (Some before) middle new so_far first a b = (rw a at b) ∙ ap Som
 pub all_answered : (tables : Tables) (all : List (List ℕ)) (so_far : List ℕ) (errs : Bool) (old new : Option (List ℕ)) → SoFar tables all [] so_far errs → Appends old new so_far →
     IfSome old (λ before. (text : List ℕ) × ScriptAnswer tables all text errs × (new ≡ Some (before ++ text)))
 all_answered tables all so_far errs None new at appended = tt
-all_answered tables all so_far errs (Some before) new at appended =
-    (so_far,
-     subst (λ t. ScriptAnswer tables all t errs) (append-nil so_far) (subst (λ b. ScriptAnswer tables all (so_far ++ []) b) (or-false errs) (at.joins [] false ends)),
-     appended)
+all_answered tables all so_far errs (Some before) new at appended = (
+  so_far,
+  subst (λ t. ScriptAnswer tables all t errs) (append-nil so_far) (subst (λ b. ScriptAnswer tables all (so_far ++ []) b) (or-false errs) (at.joins [] false ends)),
+  appended,
+)

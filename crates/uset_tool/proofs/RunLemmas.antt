@@ -1,5 +1,5 @@
 -- What was appended to the sink, and the answers of the input.
-use Rattle.std.proofs.Common.{◌≡◌, ℕ, ◌+◌, ◌<◌, ◌≤◌, Bool, true, false, List, [], ◌∷◌, ◌++◌, length, drop, codes, Option, None, Some, IfSome, refl, sym, ap, ◌∙◌, subst, append-nil, arith}
+use Rattle.std.proofs.Common.{◌≡◌, ℕ, ◌+◌, ◌<◌, ◌≤◌, Bool, true, false, List, [], ◌++◌, length, drop, Option, None, Some, IfSome, refl, sym, ap, ◌∙◌, subst, append-nil, arith}
 use Rattle.std.proofs.lemmas.Bool.{both_ways, false≢true, false_from_ne_true}
 use Rattle.std.specs.Str.{is_utf8, IsUtf8}
 use Rattle.std.proofs.lemmas.Str.{IsUtf8-from_is_utf8, is_utf8-from_IsUtf8}
@@ -12,7 +12,7 @@ use Rattle.prop_data.specs.TableText.{table_fault, tables_in}
 use Rattle.uset_tool.specs.declared.status.Status.{Status}
 use Rattle.uset_tool.specs.declared.status.Status.TheVariants.{Done, SomeErr, Usage, Tables, ReadFault, WriteFault, NoMemory, NotText, TooLong}
 use Rattle.uset_tool.specs.Answer.{ScriptAnswer}
-use Rattle.uset_tool.specs.Device.{limit, TakesAll, Appends, IsFront, IsProperFront}
+use Rattle.uset_tool.specs.Device.{limit, TakesAll, IsFront, IsProperFront}
 use Rattle.uset_tool.specs.Words.{is_known, table_fault_text, usage_text, not_text_text, too_long_text}
 use Rattle.uset_tool.specs.Run.{table_lines, script_lines, Evaluates, faulty_tables, script, Answers, usage, too_long, not_text, evaluates, IsWhole, IsWritten, Writes, is_of_text, Says, SaysError, said, failed, refused, ScriptWrites}
 
@@ -41,7 +41,7 @@ says_writes A (Some before) new text wanted _ (refused stopped) answer one whole
     let (now, new_is, front) = stopped in
     (now, new_is, λ t s h. subst (λ u. IsFront before now u) (sym (one t s h)) (record { front = front.front; rest = front.rest; parts = front.parts; appended = front.appended }))
 
-no_fault_here : (o : Option TableError) (fault : TableError) → o ≡ None → o ≡ Some fault → ⊥
+pub no_fault_here : (o : Option TableError) (fault : TableError) → o ≡ None → o ≡ Some fault → ⊥
 no_fault_here o fault none e = cc
 
 abbrev fault_or : TableError → Option TableError → TableError

@@ -1,5 +1,5 @@
 -- What sources and sinks tell.
-use Rattle.std.specs.Prelude.{◌≡◌, ℕ, ◌+◌, ◌-◌, ◌^◌, ◌<◌, ◌≤◌, ◌⊎◌, List, [], ◌∷◌, ◌++◌, take, drop, length, Option, Some, IfSome, Result, Ok, Err}
+use Rattle.std.specs.Prelude.{◌≡◌, ℕ, ◌+◌, ◌-◌, ◌^◌, ◌<◌, ◌≤◌, ◌⊎◌, List, [], ◌++◌, take, drop, length, Option, Some, IfSome, Result, Ok, Err}
 use Rattle.uset_tool.specs.declared.input.InputError.{InputError}
 use Rattle.uset_tool.specs.declared.input.InputError.TheVariants.{Failed, TooLong, NoMemory}
 
@@ -10,6 +10,10 @@ last_count = 2 ^ 64 - 1
 -- the count rose, or stands at its last value
 abbrev pub Rose : ℕ → ℕ → Type 0
 Rose old new = (old < new) ⊎ (last_count ≤ new)
+
+-- no fault was counted
+abbrev pub NoFault : ℕ → ℕ → Type 0
+NoFault old new = Rose old new → ⊥
 
 -- A read took its bytes off the front of what was left and put them at the front of the buffer, and took none only where
 -- nothing was left; a read that failed took nothing.

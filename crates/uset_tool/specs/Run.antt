@@ -111,3 +111,18 @@ IsLeft input left TooLong = (limit < length input) × (left ≡ Some (drop (limi
 IsLeft input left ReadFault = (n : ℕ) × (n ≤ limit) × (left ≡ Some (drop n input))
 IsLeft input left WriteFault = Unit {0}
 IsLeft input left NoMemory = Unit {0}
+
+-- whatever the answer is, it has this status, or memory was refused
+abbrev pub IsSettled : AnswersOf → Status → Type 0
+IsSettled A result = (text : List ℕ) (status : Status) → A text status → (result ≡ status) ⊎ (result ≡ NoMemory)
+
+-- the words are known, and the input is within the limit, is text, and has a table text without a fault
+pub record IsAccepted (words : List (List ℕ)) (input : List ℕ) : Type 0 where
+  pub known : is_known words ≡ true
+  pub within : length input ≤ limit
+  pub text : is_utf8 input ≡ true
+  pub tables : table_fault (table_lines input) ≡ None
+
+-- all lines were answered, or memory was refused
+abbrev pub IsAnswered : Status → Type 0
+IsAnswered result = (result ≡ Done) ⊎ ((result ≡ SomeErr) ⊎ (result ≡ NoMemory))

@@ -62,7 +62,11 @@ fn push_range(text: &mut String, alloc: Global, range: CodePointRange) -> Result
 }
 
 /// Appends all maximal ranges of the set.
-fn push_members(text: &mut String, alloc: Global, set: &CodePointInversionList) -> Result<(), AllocError>
+fn push_members(
+    text: &mut String,
+    alloc: Global,
+    set: &CodePointInversionList,
+) -> Result<(), AllocError>
     ensures { OnOk result (AppendsMembers (string_bytes text.old) (string_bytes text.new) (contains set.now)) }
 {
     for range in set.iter_ranges() {
@@ -72,7 +76,11 @@ fn push_members(text: &mut String, alloc: Global, set: &CodePointInversionList) 
 }
 
 /// The answer to a pattern that was read.
-fn answer_read(alloc: Global, set: &CodePointInversionList, length: usize) -> Result<Answer, AllocError>
+fn answer_read(
+    alloc: Global,
+    set: &CodePointInversionList,
+    length: usize,
+) -> Result<Answer, AllocError>
     ensures { IfOk result (IsReadAnswer length (contains set.now)) }
 {
     let mut text = format!(in alloc; "ok {length}")?;
@@ -105,7 +113,11 @@ fn answer_fault(alloc: Global, source: &str, error: ParseError) -> Result<Answer
 }
 
 /// The answer to a pattern.
-fn answer_pattern(alloc: Global, source: &str, database: &PropertyDatabase) -> Result<Answer, NoMemory>
+fn answer_pattern(
+    alloc: Global,
+    source: &str,
+    database: &PropertyDatabase,
+) -> Result<Answer, NoMemory>
     ensures { IfOk result (λ a. PatternAnswer (tables_of database.now) source.now (string_bytes a.text) a.is_err) }
 {
     match parse_unstable_with_variables(alloc, source, &VariableMap::new(alloc), database) {

@@ -1,11 +1,11 @@
 //! A run of the program.
 ghost use Rattle.std.specs.Prelude.{◌≡◌, ◌≢◌, ◌≤◌, true, false, map, IfSome, codes};
 ghost use Rattle.std.specs.String.{string_bytes};
-ghost use Rattle.uset_tool.specs.Device.{Rose};
+ghost use Rattle.uset_tool.specs.Device.{Rose, NoFault};
 ghost use Rattle.uset_tool.specs.Words.{is_known, table_fault_text};
 ghost use Rattle.text_lines.specs.Lines.{lines};
 ghost use Rattle.prop_data.specs.Database.{tables_of};
-ghost use Rattle.uset_tool.specs.Run.{Answers, Evaluates, Writes, IsLeft, Says, SaysError, ScriptWrites, is_of_text};
+ghost use Rattle.uset_tool.specs.Run.{Answers, Evaluates, Writes, IsLeft, IsSettled, IsAccepted, IsAnswered, Says, SaysError, ScriptWrites, is_of_text};
 
 use crate::input::{InputError, read_input};
 use crate::script::answer_script;
@@ -16,6 +16,7 @@ use crate::words::{is_known, table_fault_text};
 use prop_data::{LoadError, PropertyDatabase, TableError};
 use std::alloc::Global;
 use text_lines::split_behind;
+use uset_parse::laws::{no_fault_of_a_reading, one_fault, one_reading};
 
 /// Writes a text, and gives the status that is wanted where all of it was written.
 fn say<K: Sink>(sink: &mut K, text: &str, wanted: Status) -> Status
@@ -55,12 +56,7 @@ fn say_load_error<K: Sink>(alloc: Global, error: LoadError, sink: &mut K) -> Sta
 }
 
 /// Answers the lines of a script.
-fn answer<K: Sink>(
-    alloc: Global,
-    script: &str,
-    database: &PropertyDatabase,
-    sink: &mut K,
-) -> Status
+fn answer<K: Sink>(alloc: Global, script: &str, database: &PropertyDatabase, sink: &mut K) -> Status
     ensures written { ScriptWrites (tables_of database.now) (lines script.now) (K.written sink.old) (K.written sink.new) result }
     ensures failed { result ≡ Status.WriteFault → Rose (K.faults sink.old) (K.faults sink.new) }
     ensures counted { K.faults sink.old ≤ K.faults sink.new }
@@ -87,10 +83,8 @@ fn eval<K: Sink>(alloc: Global, input: &str, sink: &mut K) -> Status
     }
 }
 
-/// Runs the program: the words after its name, the bytes of the source, and the answer to the sink.
-/// The one known list of words is `eval`: the input is a table text through its first line that is
-/// `end` alone, and then a script. At most 2^23 bytes are an input.
-pub fn run<S: Source, K: Sink>(
+/// Answers the words and the input.
+fn answer_words<S: Source, K: Sink>(
     alloc: Global,
     words: &Vec<String>,
     source: &mut S,
@@ -98,7 +92,7 @@ pub fn run<S: Source, K: Sink>(
 ) -> Status
     ensures written { IfSome (S.left source.old) (λ input. Writes (Answers (map string_bytes words.now.items) input) (K.written sink.old) (K.written sink.new) result) }
     ensures left { IfSome (S.left source.old) (λ input. IsLeft input (S.left source.new) result) }
-    ensures usage { (result ≡ Status.Usage → is_known (map string_bytes words.now.items) ≡ false) }
+    ensures usage { result ≡ Status.Usage → is_known (map string_bytes words.now.items) ≡ false }
     ensures read_fault_words { result ≡ Status.ReadFault → is_known (map string_bytes words.now.items) ≡ true }
     ensures read_fault { result ≡ Status.ReadFault → Rose (S.faults source.old) (S.faults source.new) }
     ensures write_fault { result ≡ Status.WriteFault → Rose (K.faults sink.old) (K.faults sink.new) }
@@ -116,4 +110,40 @@ pub fn run<S: Source, K: Sink>(
         Ok(text) => eval(alloc, text, sink),
         Err(_) => say(sink, "input is not UTF-8\n", Status::NotText),
     }
+}
+
+/// Runs the program: the words after its name, the bytes of the source, and the answer to the sink.
+/// The one known list of words is `eval`: the input is a table text through its first line that is
+/// `end` alone, and then a script. At most 2^23 bytes are an input. What is
+/// written is the answer that the grammar and the tables give, as `written` says; `settled` and
+/// `complete` say that without a fault of the source or the sink no other end comes but want of
+/// memory.
+pub fn run<S: Source, K: Sink>(
+    alloc: Global,
+    words: &Vec<String>,
+    source: &mut S,
+    sink: &mut K,
+) -> Status
+    ensures written { IfSome (S.left source.old) (λ input. Writes (Answers (map string_bytes words.now.items) input) (K.written sink.old) (K.written sink.new) result) }
+    ensures left { IfSome (S.left source.old) (λ input. IsLeft input (S.left source.new) result) }
+
+    // Why the run ended before an answer.
+    ensures usage { result ≡ Status.Usage → is_known (map string_bytes words.now.items) ≡ false }
+    ensures read_fault_words { result ≡ Status.ReadFault → is_known (map string_bytes words.now.items) ≡ true }
+    ensures read_fault { result ≡ Status.ReadFault → Rose (S.faults source.old) (S.faults source.new) }
+    ensures write_fault { result ≡ Status.WriteFault → Rose (K.faults sink.old) (K.faults sink.new) }
+
+    // Where no fault was counted, the status is that of the answer, or memory was refused.
+    ensures settled { IfSome (S.left source.old) (λ input. IfSome (K.written sink.old) (λ before.
+        NoFault (S.faults source.old) (S.faults source.new) → NoFault (K.faults sink.old) (K.faults sink.new) →
+        IsSettled (Answers (map string_bytes words.now.items) input) result)) }
+    ensures complete { IfSome (S.left source.old) (λ input. IfSome (K.written sink.old) (λ before.
+        NoFault (S.faults source.old) (S.faults source.new) → NoFault (K.faults sink.old) (K.faults sink.new) →
+        IsAccepted (map string_bytes words.now.items) input → IsAnswered result)) }
+{
+    // The laws by which an input has one answer.
+    one_reading();
+    no_fault_of_a_reading();
+    one_fault();
+    answer_words(alloc, words, source, sink)
 }

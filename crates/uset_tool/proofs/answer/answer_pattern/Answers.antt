@@ -14,5 +14,5 @@ returns-in_ok-answer_read-in-Ok c =
 pub returns-in-Err : goal.returns-in-Err
 returns-in-Err c =
     IfOk-weaker c.answer_fault.result (IsFaultAnswer (kind_of c.in-Err.error)) (λ (a : Answer). PatternAnswer (tables_of c.args.database.now) c.args.source.now (string_bytes a.text) a.is_err)
-        (λ a h. fault_answer (tables_of c.args.database.now) c.args.source.now (kind_of c.in-Err.error) a c.in-Err.ensures.refused h)
-        c.answer_fault.ensures
+    (λ a h. fault_answer (tables_of c.args.database.now) c.args.source.now (kind_of c.in-Err.error) a c.in-Err.ensures.refused h)
+    c.answer_fault.ensures

@@ -1,4 +1,4 @@
-use Rattle.std.proofs.Common.{◌≤◌, ◌-◌, ◌+◌, length, vec_len}
+use Rattle.std.proofs.Common.{◌≤◌, ◌-◌, ◌+◌, vec_len}
 use Rattle.uset_tool.specs.Device.{limit}
 use Rattle.uset_tool.proofs.DeviceLemmas.{Taken}
 use Rattle.uset_tool.proofs.input.read_input.Given as goal

@@ -1,4 +1,4 @@
-use Rattle.std.proofs.Common.{◌≡◌, List, ℕ, ap, ◌∙◌, sym, subst}
+use Rattle.std.proofs.Common.{List, ℕ, ap, ◌∙◌, sym, subst}
 use Rattle.prop_data.specs.Database.{IsFault}
 use Rattle.prop_data.specs.TableText.{table_fault, tables_in}
 use Rattle.uset_tool.proofs.RunLemmas.{script_writes, load_error_writes}

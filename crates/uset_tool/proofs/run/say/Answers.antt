@@ -1,4 +1,3 @@
-use Rattle.std.proofs.Common.{◌≡◌}
 use Rattle.uset_tool.specs.Run.{said, failed, refused}
 use Rattle.uset_tool.proofs.run.say.Goals as goal
 

@@ -1,9 +1,7 @@
-use Rattle.std.proofs.Common.{◌≡◌, ◌≤◌, ℕ, List, ◌∷◌, ◌++◌, ap, sym, ◌∙◌, subst, rules, arith}
+use Rattle.std.proofs.Common.{◌++◌, ap, subst, rules, arith}
 use Rattle.std.proofs.lemmas.Result.{err_from_is_err_and}
 use Rattle.text_lines.specs.Lines.{lines}
 use Rattle.prop_data.specs.Database.{tables_of}
-use Rattle.uset_tool.specs.Answer.{LineAnswer}
-use Rattle.uset_tool.specs.Script.{script_line}
 use Rattle.uset_tool.proofs.Once.{Laws, SoFar, goes_on, write_stops, write_goes_on, all_answered}
 use Rattle.uset_tool.proofs.script.answer_script.Goals as goal
 
@@ -21,11 +19,15 @@ loop-line-preserved g c =
     let laws : Laws = record { one_reading = c.one_reading.ensures; no_fault = c.no_fault_of_a_reading.ensures; one_fault = c.one_fault.ensures } in
     let tables = tables_of c.args.database.now in
     let answer = rw (← c.as_bytes.ensures.value) at c.in_ok-answer.ensures in
-    let (so_far, at, appended) = c.loop-line.invariant.2 in
-    (search rules, omega (arith, c.loop-line.invariant.1, c.in_ok-write_all.ensures.counted),
-     (so_far ++ c.as_bytes.result.now,
-      goes_on laws tables _ _ _ c.in-Some.line.now so_far c.as_bytes.result.now _ _ at c.in-Some.ensures.parts answer,
-      write_goes_on _ _ _ so_far c.as_bytes.result.now appended c.in_ok-write_all.ensures.written))
+    let (so_far, at, appended) = c.loop-line.invariant.2 in (
+      search rules,
+      omega (arith, c.loop-line.invariant.1, c.in_ok-write_all.ensures.counted),
+      (
+        so_far ++ c.as_bytes.result.now,
+        goes_on laws tables _ _ _ c.in-Some.line.now so_far c.as_bytes.result.now _ _ at c.in-Some.ensures.parts answer,
+        write_goes_on _ _ _ so_far c.as_bytes.result.now appended c.in_ok-write_all.ensures.written,
+      ),
+    )
 
 pub returns-clause-written : goal.returns-clause-written
 returns-clause-written g c =

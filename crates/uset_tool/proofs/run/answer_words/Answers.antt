@@ -1,0 +1,25 @@
+use Rattle.std.proofs.Common.{sym, ◌∙◌}
+use Rattle.uset_tool.proofs.RunLemmas.{usage_run, too_long_run, not_text_run, text_run}
+use Rattle.uset_tool.proofs.run.answer_words.Goals as goal
+
+pub returns-then-not-is_known-clause-written : goal.returns-then-not-is_known-clause-written
+returns-then-not-is_known-clause-written g c =
+    let words = rw c.deref.ensures.value at c.is_known.ensures in
+    usage_run _ _ _ _ _ (sym words ∙ c.if-not-is_known.true) c.say.ensures.says
+
+pub returns-in-Err-TooLong-clause-written : goal.returns-in-Err-TooLong-clause-written
+returns-in-Err-TooLong-clause-written g c =
+    let words = rw c.deref.ensures.value at c.is_known.ensures in
+    too_long_run _ _ _ _ _ _ (sym words ∙ c.if-not-is_known.false) (rw c.in-Err-TooLong.field-0-is at c.in-Err-TooLong.ensures.stopped) c.say-in-Err-TooLong.ensures.says
+
+pub returns-in-Ok-from_utf8-clause-written : goal.returns-in-Ok-from_utf8-clause-written
+returns-in-Ok-from_utf8-clause-written g c =
+    let words = rw c.deref.ensures.value at c.is_known.ensures in
+    let text = rw c.deref-2.ensures.value at c.in-Ok-from_utf8.ensures.cases in
+    text_run _ _ _ _ _ _ _ _ (sym words ∙ c.if-not-is_known.false) c.in-Ok.ensures.whole c.in-Ok.ensures.short text.0 text.1 c.eval.ensures.status c.eval.ensures.written
+
+pub returns-clause-written : goal.returns-clause-written
+returns-clause-written g c =
+    let words = rw c.deref.ensures.value at c.is_known.ensures in
+    let no_text = rw c.deref-2.ensures.value at c.in-Err.ensures.cases in
+    not_text_run _ _ _ _ _ _ _ (sym words ∙ c.if-not-is_known.false) c.in-Ok.ensures.whole c.in-Ok.ensures.short no_text.0 c.say-in-Err.ensures.says
