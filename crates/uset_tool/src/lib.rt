@@ -1,15 +1,16 @@
-//! The program `uset`: its sources and sinks, and what it answers.
+//! The program `uset` as a library: its sources and sinks, its statuses, and its run.
 #![tactic(auto)]
 
 mod answer;
 mod input;
-mod run;
+mod program;
 mod script;
 mod sink;
 mod source;
 mod status;
 mod words;
 
+pub use program::run;
 pub use sink::{Sink, StdSink, SureSink, WriteError};
 pub use source::{Failed, Source, StdSource, SureSource};
 pub use status::Status;

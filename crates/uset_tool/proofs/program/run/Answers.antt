@@ -1,6 +1,6 @@
 use Rattle.uset_tool.proofs.Once.{Laws}
 use Rattle.uset_tool.proofs.Complete.{settled_run, complete_run}
-use Rattle.uset_tool.proofs.run.run.Goals as goal
+use Rattle.uset_tool.proofs.program.run.Goals as goal
 
 pub returns-clause-settled : goal.returns-clause-settled
 returns-clause-settled g c =

@@ -2,7 +2,7 @@ use Rattle.std.proofs.Common.{List, ℕ, ap, ◌∙◌, sym, subst}
 use Rattle.prop_data.specs.Database.{IsFault}
 use Rattle.prop_data.specs.TableText.{table_fault, tables_in}
 use Rattle.uset_tool.proofs.RunLemmas.{script_writes, load_error_writes}
-use Rattle.uset_tool.proofs.run.eval.Goals as goal
+use Rattle.uset_tool.proofs.program.eval.Goals as goal
 
 pub returns-in-Ok-clause-written : goal.returns-in-Ok-clause-written
 returns-in-Ok-clause-written g c =

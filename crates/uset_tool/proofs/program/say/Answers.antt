@@ -1,5 +1,5 @@
 use Rattle.uset_tool.specs.Run.{said, failed, refused}
-use Rattle.uset_tool.proofs.run.say.Goals as goal
+use Rattle.uset_tool.proofs.program.say.Goals as goal
 
 pub returns-in-Ok-clause-says : goal.returns-in-Ok-clause-says
 returns-in-Ok-clause-says g c = said (rw c.as_bytes.ensures.value at c.in-Ok.ensures.written)

@@ -1,6 +1,6 @@
 use Rattle.std.proofs.Common.{sym, ◌∙◌}
 use Rattle.uset_tool.proofs.RunLemmas.{usage_run, too_long_run, not_text_run, text_run}
-use Rattle.uset_tool.proofs.run.answer_words.Goals as goal
+use Rattle.uset_tool.proofs.program.answer_words.Goals as goal
 
 pub returns-then-not-is_known-clause-written : goal.returns-then-not-is_known-clause-written
 returns-then-not-is_known-clause-written g c =
