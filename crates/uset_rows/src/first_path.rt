@@ -1,0 +1,81 @@
+//! Patterns that are read, and the edges of the program.
+use crate::run_in_memory;
+use std::alloc::{AllocError, Global};
+use std::io::Cursor;
+use std::test::Fail;
+use uset_tool::{Sink, Source, Status, StdSink, StdSource, SureSource};
+
+/// The three syntax tables for ASCII.
+pub(crate) const SYNTAX: &str =
+    "set XID_Start\n41-5A\n61-7A\nset XID_Continue\n30-39\n41-5A\n5F\n61-7A\nset Pattern_White_Space\n9-D\n20\n85\n200E-200F\n2028-2029\nend\n";
+
+/// The one word `eval`.
+pub(crate) fn eval(alloc: Global) -> Result<Vec<String>, AllocError> {
+    let mut words = Vec::new(alloc);
+    words.push(String::from_str(alloc, "eval")?)?;
+    Ok(words)
+}
+
+#[test]
+fn patterns_are_answered_with_their_ranges(rt: HostRuntime) -> Result<(), Fail> {
+    let alloc = rt.alloc();
+    let words = eval(alloc)?;
+    for (line, expected) in [
+        ("pat [a-z0]", "ok 6 0030 0061-007A\n"),
+        ("pat [a-b-] x", "ok 6 002D 0061-0062\n"),
+        ("pat [ - a]", "ok 6 002D 0061\n"),
+        ("# a comment", ""),
+        ("", ""),
+    ] {
+        let input = format!(in alloc; "{SYNTAX}{line}\n")?;
+        let (status, sink) = run_in_memory(alloc, &words, input.into_bytes());
+        assert_eq!(rt; sink.written(), expected.as_bytes(), "at {line}");
+        assert_eq!(rt; status.code(), 0, "at {line}");
+    }
+    Ok(())
+}
+
+#[test]
+fn a_reader_of_std_is_a_source(rt: HostRuntime) -> Result<(), Fail> {
+    let mut source = StdSource::new(Cursor::new(b"ab".as_slice()));
+    let mut buffer = [0u8; 4];
+    assert_eq!(rt; source.read(&mut buffer)?, 2);
+    assert_eq!(rt; buffer, [b'a', b'b', 0, 0]);
+    assert_eq!(rt; source.read(&mut buffer)?, 0);
+    Ok(())
+}
+
+#[test]
+fn a_writer_of_std_is_a_sink(rt: HostRuntime) -> Result<(), Fail> {
+    let mut sink = StdSink::new(Vec::new(rt.alloc()));
+    assert_eq!(rt; sink.write(b"ab")?, 2);
+    Ok(())
+}
+
+#[test]
+fn a_source_in_memory_gives_its_bytes_once(rt: HostRuntime) -> Result<(), Fail> {
+    let mut source = SureSource::new(b"abc".to_vec(rt.alloc())?);
+    let mut buffer = [0u8; 2];
+    assert_eq!(rt; source.read(&mut buffer)?, 2);
+    assert_eq!(rt; buffer, [b'a', b'b']);
+    assert_eq!(rt; source.read(&mut buffer)?, 1);
+    assert_eq!(rt; source.read(&mut buffer)?, 0);
+    Ok(())
+}
+
+#[test]
+fn statuses_have_their_numbers(rt: HostRuntime) {
+    for (number, status) in [
+        (0, Status::Done),
+        (1, Status::SomeErr),
+        (2, Status::Usage),
+        (3, Status::Tables),
+        (4, Status::ReadFault),
+        (5, Status::WriteFault),
+        (6, Status::NoMemory),
+        (7, Status::NotText),
+        (8, Status::TooLong),
+    ] {
+        assert_eq!(rt; status.code(), number);
+    }
+}

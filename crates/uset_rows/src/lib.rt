@@ -1,0 +1,26 @@
+//! Whole runs of the program in memory.
+#![tactic(auto)]
+
+ghost use Rattle.std.specs.Prelude.{◌≡◌, ◌≢◌, [], map};
+ghost use Rattle.std.specs.String.{string_bytes};
+ghost use Rattle.uset_tool.specs.Run.{Answers, IsWritten};
+
+use std::alloc::Global;
+use uset_tool::{Status, SureSink, SureSource, run};
+
+#[cfg(test)]
+mod first_path;
+#[cfg(test)]
+mod refusals;
+
+/// Runs the program over the input. In memory neither source nor sink fails.
+pub fn run_in_memory(alloc: Global, words: &Vec<String>, input: Vec<u8>) -> (Status, SureSink)
+    ensures no_read_fault { result.0 ≢ Status.ReadFault }
+    ensures no_write_fault { result.0 ≢ Status.WriteFault }
+    ensures written { IsWritten (Answers (map string_bytes words.now.items) input.items) [] result.1 result.0 }
+{
+    let mut source = SureSource::new(input);
+    let mut sink = SureSink::new(alloc);
+    let status = run(alloc, words, &mut source, &mut sink);
+    (status, sink)
+}
