@@ -1,0 +1,5 @@
+pub mod ConversionLemmas
+pub mod CoverLemmas
+pub mod RunsLemmas
+pub mod SearchLemmas
+pub mod SetLemmas

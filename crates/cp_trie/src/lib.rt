@@ -1,0 +1,14 @@
+//! Maps from code points to values.
+#![tactic(auto)]
+
+mod convert;
+mod error;
+mod ranges;
+mod runs;
+mod trie;
+mod value;
+
+pub use error::{ConvertError, TrieError, ValueError};
+pub use ranges::{CodePointMapRange, TrieRanges};
+pub use trie::CodePointTrie;
+pub use value::TrieValue;
