@@ -3,12 +3,14 @@
 
 mod convert;
 mod error;
+mod mapped;
 mod ranges;
 mod runs;
 mod trie;
 mod value;
 
 pub use error::{ConvertError, TrieError, ValueError};
+pub use mapped::TrieRangesMapped;
 pub use ranges::{CodePointMapRange, TrieRanges};
 pub use trie::CodePointTrie;
 pub use value::TrieValue;

@@ -1,5 +1,6 @@
 //! The map: its runs, and what it answers.
-ghost use Rattle.std.specs.Prelude.{◌≡◌, ℕ, ◌<◌, ◌&&◌, [], List, Some, None, MatchOption, IfErr, IfOk, OnOk};
+ghost use Rattle.std.specs.Prelude.{◌≡◌, ℕ, ◌<◌, ◌≤◌, ◌&&◌, [], List, Some, None, MatchOption, IfErr, IfOk, OnOk};
+ghost use Rattle.std.specs.Iterator.{IsFinite, AlwaysYields};
 ghost use Rattle.cp_invlist.specs.InversionList.{contains, is_code_point};
 ghost use Rattle.cp_trie.specs.Map.{value_at};
 ghost use Rattle.cp_trie.specs.Runs.{value_in, AreMaximalRuns};
@@ -7,6 +8,7 @@ ghost use Rattle.cp_trie.specs.Faults.{first_fault};
 ghost use Rattle.cp_trie.specs.declared.ranges.CodePointMapRange.{CodePointMapRange};
 
 use crate::error::TrieError;
+use crate::mapped::TrieRangesMapped;
 use crate::ranges::{CodePointMapRange, TrieRanges};
 use crate::runs::{first_fault, joined};
 use crate::value::TrieValue;
@@ -100,6 +102,23 @@ impl<T: TrieValue> CodePointTrie<T> {
         ensures only { (rs : List (CodePointMapRange T)) → AreMaximalRuns T.eq (value_at self.now) rs → rs ≡ result }
     {
         TrieRanges::new(&self.runs)
+    }
+
+    /// The maximal runs of code points whose mapped values are equal by `==`, in order, each with the mapped value of
+    /// its first code point. The mapping may be called on the value of each code point, and answers there by a
+    /// function of the value. It is called as the walk goes.
+    pub fn iter_ranges_mapped<U: Copy + Eq, F: Fn(T) -> U>(
+        &self,
+        map: F,
+    ) -> TrieRangesMapped<'_, T, U, F>
+        requires callable { (c : ℕ) → c ≤ 0x10_FFFF → F.pre map (value_at self.now c) }
+        requires determined { (c : ℕ) (u w : U) → c ≤ 0x10_FFFF → F.post map (value_at self.now c) u → F.post map (value_at self.now c) w → u ≡ w }
+        ensures can_next { ⟦<TrieRangesMapped<'static, T, U, F> as Iterator>⟧.can_next result }
+        ensures ends { IsFinite (⟦<TrieRangesMapped<'static, T, U, F> as Iterator>⟧.remaining result) }
+        // the walk gives the maximal runs of the mapped values, one after another, and then nothing
+        ensures maximal { (f : T → U) → ((c : ℕ) → c ≤ 0x10_FFFF → F.post map (value_at self.now c) (f (value_at self.now c))) → (rs : List (CodePointMapRange U)) × AreMaximalRuns U.eq (λ c. f (value_at self.now c)) rs × AlwaysYields ⟦<TrieRangesMapped<'static, T, U, F> as Iterator>⟧.next_gives (λ run. run) result rs }
+    {
+        TrieRangesMapped::new(&self.runs, map)
     }
 
     /// The code points with the value, gathered in one pass over the runs.
