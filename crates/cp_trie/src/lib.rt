@@ -6,6 +6,8 @@ mod error;
 mod mapped;
 mod ranges;
 mod runs;
+#[cfg(test)]
+mod tests;
 mod trie;
 mod value;
 
