@@ -1,0 +1,3 @@
+pub mod MirroringGlyph
+pub mod NumberedLaws
+pub mod Tables

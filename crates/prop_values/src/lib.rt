@@ -1,0 +1,29 @@
+//! The types of the enumerated properties of characters, and the numbers that their values are packed into.
+#![tactic(auto)]
+
+mod bidi;
+mod block;
+mod breaks;
+mod glyph;
+mod hangul;
+mod indic;
+mod joining;
+mod layout;
+mod marks;
+mod numeric;
+mod property;
+mod script;
+mod tables;
+
+pub use bidi::BidiClass;
+pub use block::Block;
+pub use breaks::{GraphemeClusterBreak, LineBreak, SentenceBreak, WordBreak};
+pub use hangul::HangulSyllableType;
+pub use indic::{IndicConjunctBreak, IndicSyllabicCategory};
+pub use joining::{JoiningGroup, JoiningType};
+pub use layout::{EastAsianWidth, VerticalOrientation};
+pub use marks::CanonicalCombiningClass;
+pub use numeric::NumericType;
+pub use property::EnumeratedProperty;
+pub use script::Script;
+pub use tables::{MapTable, NamesTable};
