@@ -1,3 +1,5 @@
+pub mod Category
+pub mod CategoryLaws
 pub mod MirroringGlyph
 pub mod NumberedLaws
 pub mod Tables

@@ -4,6 +4,7 @@
 mod bidi;
 mod block;
 mod breaks;
+mod category;
 mod glyph;
 mod hangul;
 mod indic;
@@ -18,6 +19,7 @@ mod tables;
 pub use bidi::BidiClass;
 pub use block::Block;
 pub use breaks::{GraphemeClusterBreak, LineBreak, SentenceBreak, WordBreak};
+pub use category::{GeneralCategory, GeneralCategoryOutOfBoundsError};
 pub use hangul::HangulSyllableType;
 pub use indic::{IndicConjunctBreak, IndicSyllabicCategory};
 pub use joining::{JoiningGroup, JoiningType};
