@@ -2,6 +2,8 @@ pub mod Category
 pub mod CategoryLaws
 pub mod GlyphLaws
 pub mod GlyphPacking
+pub mod GroupLaws
+pub mod Groups
 pub mod MirroringGlyph
 pub mod NumberedLaws
 pub mod ScriptWithExt
