@@ -7,4 +7,5 @@ pub mod Groups
 pub mod MirroringGlyph
 pub mod NumberedLaws
 pub mod ScriptWithExt
+pub mod Subtag
 pub mod Tables

@@ -15,6 +15,7 @@ mod marks;
 mod numeric;
 mod property;
 mod script;
+mod subtag;
 mod tables;
 
 pub use bidi::BidiClass;
@@ -31,4 +32,5 @@ pub use marks::CanonicalCombiningClass;
 pub use numeric::NumericType;
 pub use property::EnumeratedProperty;
 pub use script::{Script, ScriptWithExt};
+pub use subtag::Subtag;
 pub use tables::{MapTable, NamesTable};
