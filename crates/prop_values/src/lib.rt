@@ -17,6 +17,8 @@ mod property;
 mod script;
 mod subtag;
 mod tables;
+#[cfg(test)]
+mod tests;
 
 pub use bidi::BidiClass;
 pub use block::Block;
