@@ -1,0 +1,29 @@
+//! The binary properties of code points and the emoji sets: their names and the numbers of their tables.
+#![tactic(auto)]
+
+mod ecma262;
+mod emoji;
+mod property;
+mod table;
+#[cfg(test)]
+mod tests;
+mod types;
+
+pub use ecma262::ecma262_table;
+pub use emoji::{BasicEmoji, EmojiSet};
+pub use property::BinaryProperty;
+pub use table::{EmojiTable, SetTable};
+pub use types::{
+    Alnum, Alphabetic, AsciiHexDigit, BidiControl, BidiMirrored, Blank, CaseIgnorable,
+    CaseSensitive, Cased, ChangesWhenCasefolded, ChangesWhenCasemapped, ChangesWhenLowercased,
+    ChangesWhenNfkcCasefolded, ChangesWhenTitlecased, ChangesWhenUppercased, Dash,
+    DefaultIgnorableCodePoint, Deprecated, Diacritic, Emoji, EmojiComponent, EmojiModifier,
+    EmojiModifierBase, EmojiPresentation, ExtendedPictographic, Extender, FullCompositionExclusion,
+    Graph, GraphemeBase, GraphemeExtend, GraphemeLink, HexDigit, Hyphen, IdCompatMathContinue,
+    IdCompatMathStart, IdContinue, IdStart, Ideographic, IdsBinaryOperator, IdsTrinaryOperator,
+    IdsUnaryOperator, JoinControl, LogicalOrderException, Lowercase, Math, ModifierCombiningMark,
+    NfcInert, NfdInert, NfkcInert, NfkdInert, NoncharacterCodePoint, PatternSyntax,
+    PatternWhiteSpace, PrependedConcatenationMark, Print, QuotationMark, Radical,
+    RegionalIndicator, SegmentStarter, SentenceTerminal, SoftDotted, TerminalPunctuation,
+    UnifiedIdeograph, Uppercase, VariationSelector, WhiteSpace, Xdigit, XidContinue, XidStart,
+};
