@@ -3,6 +3,7 @@
 
 mod ecma262;
 mod emoji;
+mod posix;
 mod property;
 mod table;
 #[cfg(test)]
@@ -11,19 +12,20 @@ mod types;
 
 pub use ecma262::ecma262_table;
 pub use emoji::{BasicEmoji, EmojiSet};
+pub use posix::{Alnum, Blank, Graph, Print, Xdigit};
 pub use property::BinaryProperty;
 pub use table::{EmojiTable, SetTable};
 pub use types::{
-    Alnum, Alphabetic, AsciiHexDigit, BidiControl, BidiMirrored, Blank, CaseIgnorable,
-    CaseSensitive, Cased, ChangesWhenCasefolded, ChangesWhenCasemapped, ChangesWhenLowercased,
-    ChangesWhenNfkcCasefolded, ChangesWhenTitlecased, ChangesWhenUppercased, Dash,
-    DefaultIgnorableCodePoint, Deprecated, Diacritic, Emoji, EmojiComponent, EmojiModifier,
-    EmojiModifierBase, EmojiPresentation, ExtendedPictographic, Extender, FullCompositionExclusion,
-    Graph, GraphemeBase, GraphemeExtend, GraphemeLink, HexDigit, Hyphen, IdCompatMathContinue,
-    IdCompatMathStart, IdContinue, IdStart, Ideographic, IdsBinaryOperator, IdsTrinaryOperator,
-    IdsUnaryOperator, JoinControl, LogicalOrderException, Lowercase, Math, ModifierCombiningMark,
-    NfcInert, NfdInert, NfkcInert, NfkdInert, NoncharacterCodePoint, PatternSyntax,
-    PatternWhiteSpace, PrependedConcatenationMark, Print, QuotationMark, Radical,
-    RegionalIndicator, SegmentStarter, SentenceTerminal, SoftDotted, TerminalPunctuation,
-    UnifiedIdeograph, Uppercase, VariationSelector, WhiteSpace, Xdigit, XidContinue, XidStart,
+    Alphabetic, AsciiHexDigit, BidiControl, BidiMirrored, CaseIgnorable, CaseSensitive, Cased,
+    ChangesWhenCasefolded, ChangesWhenCasemapped, ChangesWhenLowercased, ChangesWhenNfkcCasefolded,
+    ChangesWhenTitlecased, ChangesWhenUppercased, Dash, DefaultIgnorableCodePoint, Deprecated,
+    Diacritic, Emoji, EmojiComponent, EmojiModifier, EmojiModifierBase, EmojiPresentation,
+    ExtendedPictographic, Extender, FullCompositionExclusion, GraphemeBase, GraphemeExtend,
+    GraphemeLink, HexDigit, Hyphen, IdCompatMathContinue, IdCompatMathStart, IdContinue, IdStart,
+    Ideographic, IdsBinaryOperator, IdsTrinaryOperator, IdsUnaryOperator, JoinControl,
+    LogicalOrderException, Lowercase, Math, ModifierCombiningMark, NfcInert, NfdInert, NfkcInert,
+    NfkdInert, NoncharacterCodePoint, PatternSyntax, PatternWhiteSpace, PrependedConcatenationMark,
+    QuotationMark, Radical, RegionalIndicator, SegmentStarter, SentenceTerminal, SoftDotted,
+    TerminalPunctuation, UnifiedIdeograph, Uppercase, VariationSelector, WhiteSpace, XidContinue,
+    XidStart,
 };

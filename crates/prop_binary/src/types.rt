@@ -1,4 +1,4 @@
-//! The types of the binary properties.
+//! The types of the binary properties of Unicode and ICU.
 use crate::property::BinaryProperty;
 use crate::table::SetTable;
 
@@ -12,18 +12,6 @@ impl BinaryProperty for AsciiHexDigit {
     const SHORT_NAME: &'static [u8] = b"AHex";
 
     const TABLE: SetTable = SetTable::ASCII_HEX_DIGIT;
-}
-
-/// The property `alnum`.
-#[derive(Debug)]
-pub struct Alnum;
-
-impl BinaryProperty for Alnum {
-    const NAME: &'static [u8] = b"alnum";
-
-    const SHORT_NAME: &'static [u8] = b"alnum";
-
-    const TABLE: SetTable = SetTable::ALNUM;
 }
 
 /// The property `Alphabetic`.
@@ -60,18 +48,6 @@ impl BinaryProperty for BidiMirrored {
     const SHORT_NAME: &'static [u8] = b"Bidi_M";
 
     const TABLE: SetTable = SetTable::BIDI_MIRRORED;
-}
-
-/// The property `blank`.
-#[derive(Debug)]
-pub struct Blank;
-
-impl BinaryProperty for Blank {
-    const NAME: &'static [u8] = b"blank";
-
-    const SHORT_NAME: &'static [u8] = b"blank";
-
-    const TABLE: SetTable = SetTable::BLANK;
 }
 
 /// The property `Cased`.
@@ -312,18 +288,6 @@ impl BinaryProperty for ExtendedPictographic {
     const SHORT_NAME: &'static [u8] = b"ExtPict";
 
     const TABLE: SetTable = SetTable::EXTENDED_PICTOGRAPHIC;
-}
-
-/// The property `graph`.
-#[derive(Debug)]
-pub struct Graph;
-
-impl BinaryProperty for Graph {
-    const NAME: &'static [u8] = b"graph";
-
-    const SHORT_NAME: &'static [u8] = b"graph";
-
-    const TABLE: SetTable = SetTable::GRAPH;
 }
 
 /// The property `Grapheme_Base`.
@@ -638,18 +602,6 @@ impl BinaryProperty for PrependedConcatenationMark {
     const TABLE: SetTable = SetTable::PREPENDED_CONCATENATION_MARK;
 }
 
-/// The property `print`.
-#[derive(Debug)]
-pub struct Print;
-
-impl BinaryProperty for Print {
-    const NAME: &'static [u8] = b"print";
-
-    const SHORT_NAME: &'static [u8] = b"print";
-
-    const TABLE: SetTable = SetTable::PRINT;
-}
-
 /// The property `Quotation_Mark`.
 #[derive(Debug)]
 pub struct QuotationMark;
@@ -792,18 +744,6 @@ impl BinaryProperty for WhiteSpace {
     const SHORT_NAME: &'static [u8] = b"WSpace";
 
     const TABLE: SetTable = SetTable::WHITE_SPACE;
-}
-
-/// The property `xdigit`.
-#[derive(Debug)]
-pub struct Xdigit;
-
-impl BinaryProperty for Xdigit {
-    const NAME: &'static [u8] = b"xdigit";
-
-    const SHORT_NAME: &'static [u8] = b"xdigit";
-
-    const TABLE: SetTable = SetTable::XDIGIT;
 }
 
 /// The property `XID_Continue`.
