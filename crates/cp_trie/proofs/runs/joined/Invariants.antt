@@ -1,0 +1,8 @@
+use Rattle.std.proofs.Common.{◌≡◌, ◌++◌, drop}
+use Rattle.cp_trie.specs.Joined.{joined_from, joined}
+use Rattle.cp_trie.proofs.runs.joined.Given as goal
+
+-- those that are done, and those that the pending run and the rest make, are those of all runs
+abbrev pub invariant-loop-run : goal.invariant-loop-run
+invariant-loop-run g l =
+    l.joined.items ++ joined_from g.T.PartialEq.eq l.pending (drop l.run-index l.rest) ≡ joined g.T.PartialEq.eq l.fn.runs

@@ -1,0 +1,13 @@
+-- A map from code points to values, with one value past the end.
+use Rattle.std.specs.Prelude.{ℕ, List}
+use Rattle.cp_trie.specs.Runs.{value_in}
+use Rattle.cp_trie.specs.declared.ranges.CodePointMapRange.{CodePointMapRange}
+
+-- A map as its maximal runs in order, however it is kept, and the value past the end. So maps with the same values are the same.
+pub record CodePointMap (V : Type 0) : Type 0 where
+  pub runs : List (CodePointMapRange V)
+  pub error_value : V
+
+-- the value at a number: past 10FFFF it is the error value
+abbrev pub value_at : {V : Type 0} → CodePointMap V → ℕ → V
+value_at m c = value_in m.runs m.error_value c

@@ -1,0 +1,48 @@
+//! The conversion of a map to another type of values.
+ghost use Rattle.std.specs.Prelude.{◌≡◌, ℕ, Some, None, List, IfOk, MatchResult};
+ghost use Rattle.cp_trie.specs.Conversion.{conversion, first_refused, NamesRefused};
+ghost use Rattle.cp_trie.specs.Map.{value_at};
+ghost use Rattle.cp_trie.specs.Runs.{AreMaximalRuns};
+ghost use Rattle.cp_trie.specs.declared.ranges.CodePointMapRange.{CodePointMapRange};
+
+use crate::error::ConvertError;
+use crate::ranges::CodePointMapRange;
+use crate::trie::CodePointTrie;
+use crate::value::TrieValue;
+use std::alloc::Global;
+
+impl<T: TrieValue> CodePointTrie<T> {
+    /// The map whose values are those that the numbers of this map's values unpack to, the error value's too.
+    /// `Value` names the first maximal run whose value does not convert, or the number of maximal runs where the
+    /// error value alone does not.
+    pub fn try_into_converted<P: TrieValue>(
+        self,
+        alloc: Global,
+    ) -> Result<CodePointTrie<P>, ConvertError>
+        ensures values { IfOk result (λ map. (c : ℕ) → conversion T.packed P.unpacked (value_at self c) ≡ Some (value_at map c)) }
+        ensures past_end { IfOk result (λ map. conversion T.packed P.unpacked self.error_value ≡ Some map.error_value) }
+        ensures refusal { (rs : List (CodePointMapRange T)) → AreMaximalRuns T.eq (value_at self) rs → MatchResult result (λ _. first_refused (conversion T.packed P.unpacked) self.error_value rs ≡ None) (λ e. NamesRefused e (first_refused (conversion T.packed P.unpacked) self.error_value rs)) }
+    {
+        let mut runs = Vec::new(alloc);
+        for (index, run) in self.runs.iter().enumerate() {
+            let Some(value) = converted(run.value) else {
+                return Err(ConvertError::Value { index });
+            };
+            let range = run.range;
+            runs.push(CodePointMapRange { range, value })?;
+        }
+        let Some(error_value) = converted(self.error_value) else {
+            return Err(ConvertError::Value {
+                index: self.runs.len(),
+            });
+        };
+        Ok(CodePointTrie::from_cover(alloc, &runs, error_value)?)
+    }
+}
+
+// The value of the other type that the number of this one unpacks to, if there is one.
+fn converted<T: TrieValue, P: TrieValue>(value: T) -> Option<P>
+    ensures { result ≡ conversion T.packed P.unpacked value }
+{
+    P::try_from_u32(value.to_u32()).ok()
+}

@@ -1,0 +1,18 @@
+//! Maps from code points to values.
+#![tactic(auto)]
+
+mod convert;
+mod error;
+mod mapped;
+mod ranges;
+mod runs;
+#[cfg(test)]
+mod tests;
+mod trie;
+mod value;
+
+pub use error::{ConvertError, TrieError, ValueError};
+pub use mapped::TrieRangesMapped;
+pub use ranges::{CodePointMapRange, TrieRanges};
+pub use trie::CodePointTrie;
+pub use value::TrieValue;

@@ -1,0 +1,150 @@
+//! The map: its runs, and what it answers.
+ghost use Rattle.std.specs.Prelude.{◌≡◌, ℕ, ◌<◌, ◌≤◌, ◌&&◌, [], List, Some, None, MatchOption, IfErr, IfOk, OnOk};
+ghost use Rattle.std.specs.Iterator.{IsFinite, AlwaysYields};
+ghost use Rattle.cp_invlist.specs.InversionList.{contains, is_code_point};
+ghost use Rattle.cp_trie.specs.Map.{value_at};
+ghost use Rattle.cp_trie.specs.Runs.{value_in, AreMaximalRuns};
+ghost use Rattle.cp_trie.specs.Faults.{first_fault};
+ghost use Rattle.cp_trie.specs.declared.ranges.CodePointMapRange.{CodePointMapRange};
+
+use crate::error::TrieError;
+use crate::mapped::TrieRangesMapped;
+use crate::ranges::{CodePointMapRange, TrieRanges};
+use crate::runs::{first_fault, joined};
+use crate::value::TrieValue;
+use cp_invlist::{CodePointInversionList, CodePointInversionListBuilder, NoMemory};
+use std::alloc::{AllocError, Global};
+use std::marker::Model;
+
+/// A map from code points, surrogates included, to values, with one value for all numbers past 10FFFF. A contract
+/// sees it as its maximal runs and that value, and speaks of the value at each number.
+#[derive(Drop)]
+pub struct CodePointTrie<T: TrieValue> {
+    pub(crate) runs: Vec<CodePointMapRange<T>>,
+    pub(crate) error_value: T,
+}
+
+impl<T: TrieValue> Model for CodePointTrie<T> {
+    ghost use Rattle.cp_trie.specs.Map.{CodePointMap};
+    ghost use Rattle.cp_trie.specs.Runs.{value_in, AreMaximalRuns};
+
+    ghost Value = { CodePointMap T };
+
+    ghost view = { λ s. record { runs = s.runs.items; error_value = s.error_value } };
+
+    ghost invariant = { λ s. AreMaximalRuns T.eq (value_in s.runs.items s.error_value) s.runs.items };
+}
+
+impl<T: TrieValue> CodePointTrie<T> {
+    /// The map of these runs, which cover 0 to 10FFFF in order, with this value past the end. Neighbours may have the
+    /// same value. The runs are tested in order, and the first fault is named: `Gap` where a run does not start one
+    /// past the end of the run before it, the first at 0; else `Order` where its end is below its start or above
+    /// 10FFFF; after all runs `Gap` with their number where they do not reach 10FFFF.
+    pub fn try_from_runs(
+        alloc: Global,
+        runs: Vec<CodePointMapRange<T>>,
+        error_value: T,
+    ) -> Result<CodePointTrie<T>, TrieError>
+        ensures values { IfOk result (λ map. (c : ℕ) → value_at map c ≡ value_in runs.items error_value c) }
+        ensures past_end { IfOk result (λ map. map.error_value ≡ error_value) }
+        ensures faults { MatchOption (first_fault runs.items) (IfErr result (λ e. e ≡ TrieError.NoMemory)) (λ e. result ≡ Err e) }
+    {
+        if let Some(fault) = first_fault(&runs) {
+            return Err(fault);
+        }
+        Ok(CodePointTrie::from_cover(alloc, &runs, error_value)?)
+    }
+
+    // The map of runs that cover 0 to 10FFFF in order.
+    pub(crate) fn from_cover(
+        alloc: Global,
+        runs: &[CodePointMapRange<T>],
+        error_value: T,
+    ) -> Result<CodePointTrie<T>, AllocError>
+        requires { first_fault runs.now ≡ None }
+        ensures values { IfOk result (λ map. (c : ℕ) → value_at map c ≡ value_in runs.now error_value c) }
+        ensures past_end { IfOk result (λ map. map.error_value ≡ error_value) }
+    {
+        let runs = joined(alloc, runs)?;
+        Ok(CodePointTrie { runs, error_value })
+    }
+
+    /// The value of a number: past 10FFFF it is the error value. It is found by binary search.
+    pub fn get32(&self, c: u32) -> T
+        ensures value { result ≡ value_at self.now c }
+        ensures past_end { 0x10_FFFF < c → result ≡ self.now.error_value }
+    {
+        let index = self.runs.partition_point(|run| run.range.end < c);
+        match self.runs.get(index) {
+            Some(run) => run.value,
+            None => self.error_value,
+        }
+    }
+
+    /// The value of a character.
+    pub fn get(&self, c: char) -> T
+        ensures { result ≡ value_at self.now c }
+    {
+        self.get32(u32::from(c))
+    }
+
+    /// The value of each number past 10FFFF.
+    pub fn error_value(&self) -> T
+        ensures value { result ≡ self.now.error_value }
+        ensures past_end { (c : ℕ) → 0x10_FFFF < c → value_at self.now c ≡ result }
+    {
+        self.error_value
+    }
+
+    /// The maximal runs of code points with the same value, in order. They cover 0 to 10FFFF once.
+    pub fn iter_ranges(&self) -> TrieRanges<'_, T>
+        ensures maximal { AreMaximalRuns T.eq (value_at self.now) result }
+        ensures only { (rs : List (CodePointMapRange T)) → AreMaximalRuns T.eq (value_at self.now) rs → rs ≡ result }
+    {
+        TrieRanges::new(&self.runs)
+    }
+
+    /// The maximal runs of code points whose mapped values are equal by `==`, in order, each with the mapped value of
+    /// its first code point. The mapping may be called on the value of each code point, and answers there by a
+    /// function of the value. It is called as the walk goes.
+    pub fn iter_ranges_mapped<U: Copy + Eq, F: Fn(T) -> U>(
+        &self,
+        map: F,
+    ) -> TrieRangesMapped<'_, T, U, F>
+        requires callable { (c : ℕ) → c ≤ 0x10_FFFF → F.pre map (value_at self.now c) }
+        requires determined { (c : ℕ) (u w : U) → c ≤ 0x10_FFFF → F.post map (value_at self.now c) u → F.post map (value_at self.now c) w → u ≡ w }
+        ensures can_next { ⟦<TrieRangesMapped<'static, T, U, F> as Iterator>⟧.can_next result }
+        ensures ends { IsFinite (⟦<TrieRangesMapped<'static, T, U, F> as Iterator>⟧.remaining result) }
+        // the walk gives the maximal runs of the mapped values, one after another, and then nothing
+        ensures maximal { (f : T → U) → ((c : ℕ) → c ≤ 0x10_FFFF → F.post map (value_at self.now c) (f (value_at self.now c))) → (rs : List (CodePointMapRange U)) × AreMaximalRuns U.eq (λ c. f (value_at self.now c)) rs × AlwaysYields ⟦<TrieRangesMapped<'static, T, U, F> as Iterator>⟧.next_gives (λ run. run) result rs }
+    {
+        TrieRangesMapped::new(&self.runs, map)
+    }
+
+    /// The code points with the value, gathered in one pass over the runs.
+    pub fn get_set_for_value(
+        &self,
+        alloc: Global,
+        value: T,
+    ) -> Result<CodePointInversionList, NoMemory>
+        ensures { IfOk result (λ set. (c : ℕ) → contains set c ≡ (is_code_point c && T.eq (value_at self.now c) value)) }
+    {
+        let mut builder = CodePointInversionListBuilder::new(alloc);
+        for run in &self.runs {
+            if run.value == value {
+                builder.add_range32(run.range)?;
+            }
+        }
+        Ok(builder.build())
+    }
+
+    /// An equal map.
+    pub fn copy(&self, alloc: Global) -> Result<CodePointTrie<T>, NoMemory>
+        ensures { IfOk result (λ map. map ≡ self.now) }
+    {
+        Ok(CodePointTrie {
+            runs: Vec::from_slice(alloc, &self.runs)?,
+            error_value: self.error_value,
+        })
+    }
+}

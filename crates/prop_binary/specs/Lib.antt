@@ -1,0 +1,2 @@
+pub mod Ecma262
+pub mod Tables

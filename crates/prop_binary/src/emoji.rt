@@ -1,0 +1,26 @@
+//! Emoji sets.
+use crate::table::EmojiTable;
+
+/// A set of emoji characters and sequences (UTS 51, section 1.4.9).
+pub trait EmojiSet {
+    /// The long name of the set.
+    const NAME: &'static [u8];
+
+    /// The short name of the set.
+    const SHORT_NAME: &'static [u8];
+
+    /// The table of the set.
+    const TABLE: EmojiTable;
+}
+
+/// The emoji that show as pictures by themselves, and those that a variation selector makes so.
+#[derive(Debug)]
+pub struct BasicEmoji;
+
+impl EmojiSet for BasicEmoji {
+    const NAME: &'static [u8] = b"Basic_Emoji";
+
+    const SHORT_NAME: &'static [u8] = b"Basic_Emoji";
+
+    const TABLE: EmojiTable = EmojiTable::BASIC_EMOJI;
+}

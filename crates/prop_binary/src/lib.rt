@@ -1,0 +1,31 @@
+//! The binary properties of code points and the emoji sets: their names and the numbers of their tables.
+#![tactic(auto)]
+
+mod ecma262;
+mod emoji;
+mod posix;
+mod property;
+mod table;
+#[cfg(test)]
+mod tests;
+mod types;
+
+pub use ecma262::ecma262_table;
+pub use emoji::{BasicEmoji, EmojiSet};
+pub use posix::{Alnum, Blank, Graph, Print, Xdigit};
+pub use property::BinaryProperty;
+pub use table::{EmojiTable, SetTable};
+pub use types::{
+    Alphabetic, AsciiHexDigit, BidiControl, BidiMirrored, CaseIgnorable, CaseSensitive, Cased,
+    ChangesWhenCasefolded, ChangesWhenCasemapped, ChangesWhenLowercased, ChangesWhenNfkcCasefolded,
+    ChangesWhenTitlecased, ChangesWhenUppercased, Dash, DefaultIgnorableCodePoint, Deprecated,
+    Diacritic, Emoji, EmojiComponent, EmojiModifier, EmojiModifierBase, EmojiPresentation,
+    ExtendedPictographic, Extender, FullCompositionExclusion, GraphemeBase, GraphemeExtend,
+    GraphemeLink, HexDigit, Hyphen, IdCompatMathContinue, IdCompatMathStart, IdContinue, IdStart,
+    Ideographic, IdsBinaryOperator, IdsTrinaryOperator, IdsUnaryOperator, JoinControl,
+    LogicalOrderException, Lowercase, Math, ModifierCombiningMark, NfcInert, NfdInert, NfkcInert,
+    NfkdInert, NoncharacterCodePoint, PatternSyntax, PatternWhiteSpace, PrependedConcatenationMark,
+    QuotationMark, Radical, RegionalIndicator, SegmentStarter, SentenceTerminal, SoftDotted,
+    TerminalPunctuation, UnifiedIdeograph, Uppercase, VariationSelector, WhiteSpace, XidContinue,
+    XidStart,
+};

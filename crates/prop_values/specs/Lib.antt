@@ -1,0 +1,11 @@
+pub mod Category
+pub mod CategoryLaws
+pub mod GlyphLaws
+pub mod GlyphPacking
+pub mod GroupLaws
+pub mod Groups
+pub mod MirroringGlyph
+pub mod NumberedLaws
+pub mod ScriptWithExt
+pub mod Subtag
+pub mod Tables

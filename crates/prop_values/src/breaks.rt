@@ -1,0 +1,256 @@
+//! The classes of the break algorithms.
+ghost use Rattle.std.specs.Prelude.{◌≡◌, refl};
+ghost use Rattle.std.proofs.Common.{lit<};
+ghost use Rattle.prop_values.specs.NumberedLaws.{value_below, value_below-again, value_below-is_some, same_by_number};
+
+use crate::property::EnumeratedProperty;
+use crate::tables::MapTable;
+use cp_trie::{TrieValue, ValueError};
+
+/// The line breaking class of a character (UAX 14).
+#[derive(Clone, Copy, Debug, PartialEq, Eq, PartialOrd, Ord, Hash)]
+pub struct LineBreak(pub(crate) u8);
+
+impl LineBreak {
+    pub const Unknown: LineBreak = LineBreak(0);
+
+    /// The number of the value.
+    pub fn to_icu4c_value(self) -> u8
+        ensures { result ≡ self.0 }
+    {
+        self.0
+    }
+
+    /// The value of the number.
+    pub fn from_icu4c_value(value: u8) -> LineBreak
+        ensures { result.0 ≡ value }
+    {
+        LineBreak(value)
+    }
+}
+
+impl Default for LineBreak {
+    ghost is_default = { λ value. value.0 ≡ 0 };
+
+    fn default() -> LineBreak {
+        LineBreak::Unknown
+    }
+}
+
+impl TrieValue for LineBreak {
+    ghost unpacked = { value_below 256 (λ n. record { 0 = n }) };
+
+    ghost packed = { λ value. value.0 };
+
+    ghost unpacks_again = { value_below-again 256 (λ n. record { 0 = n }) (λ value. value.0) (λ _. refl) };
+
+    ghost eq_is_same = { same_by_number (λ n. record { 0 = n }) (λ value. value.0) (λ _. refl) };
+
+    fn try_from_u32(i: u32) -> Result<LineBreak, ValueError> {
+        u8::try_from_u32(i).map(LineBreak)
+    }
+
+    fn to_u32(self) -> u32 {
+        u32::from(self.0)
+    }
+}
+
+impl EnumeratedProperty for LineBreak {
+    ghost TABLE = { record { number = 7; in_range = lit< tt } };
+
+    const NAME: &'static [u8] = b"Line_Break";
+
+    const SHORT_NAME: &'static [u8] = b"lb";
+
+    const TABLE: MapTable = MapTable::LINE_BREAK;
+
+    ghost accepted = { λ n _. value_below-is_some 256 (λ m. record { 0 = m }) n };
+
+    ghost default_packed = { λ _ is. is };
+}
+
+/// The class of a character in the breaking of grapheme clusters (UAX 29, section 3).
+#[derive(Clone, Copy, Debug, PartialEq, Eq, PartialOrd, Ord, Hash)]
+pub struct GraphemeClusterBreak(pub(crate) u8);
+
+impl GraphemeClusterBreak {
+    pub const Other: GraphemeClusterBreak = GraphemeClusterBreak(0);
+
+    /// The number of the value.
+    pub fn to_icu4c_value(self) -> u8
+        ensures { result ≡ self.0 }
+    {
+        self.0
+    }
+
+    /// The value of the number.
+    pub fn from_icu4c_value(value: u8) -> GraphemeClusterBreak
+        ensures { result.0 ≡ value }
+    {
+        GraphemeClusterBreak(value)
+    }
+}
+
+impl Default for GraphemeClusterBreak {
+    ghost is_default = { λ value. value.0 ≡ 0 };
+
+    fn default() -> GraphemeClusterBreak {
+        GraphemeClusterBreak::Other
+    }
+}
+
+impl TrieValue for GraphemeClusterBreak {
+    ghost unpacked = { value_below 256 (λ n. record { 0 = n }) };
+
+    ghost packed = { λ value. value.0 };
+
+    ghost unpacks_again = { value_below-again 256 (λ n. record { 0 = n }) (λ value. value.0) (λ _. refl) };
+
+    ghost eq_is_same = { same_by_number (λ n. record { 0 = n }) (λ value. value.0) (λ _. refl) };
+
+    fn try_from_u32(i: u32) -> Result<GraphemeClusterBreak, ValueError> {
+        u8::try_from_u32(i).map(GraphemeClusterBreak)
+    }
+
+    fn to_u32(self) -> u32 {
+        u32::from(self.0)
+    }
+}
+
+impl EnumeratedProperty for GraphemeClusterBreak {
+    ghost TABLE = { record { number = 8; in_range = lit< tt } };
+
+    const NAME: &'static [u8] = b"Grapheme_Cluster_Break";
+
+    const SHORT_NAME: &'static [u8] = b"GCB";
+
+    const TABLE: MapTable = MapTable::GRAPHEME_CLUSTER_BREAK;
+
+    ghost accepted = { λ n _. value_below-is_some 256 (λ m. record { 0 = m }) n };
+
+    ghost default_packed = { λ _ is. is };
+}
+
+/// The class of a character in the breaking of words (UAX 29, section 4).
+#[derive(Clone, Copy, Debug, PartialEq, Eq, PartialOrd, Ord, Hash)]
+pub struct WordBreak(pub(crate) u8);
+
+impl WordBreak {
+    pub const Other: WordBreak = WordBreak(0);
+
+    /// The number of the value.
+    pub fn to_icu4c_value(self) -> u8
+        ensures { result ≡ self.0 }
+    {
+        self.0
+    }
+
+    /// The value of the number.
+    pub fn from_icu4c_value(value: u8) -> WordBreak
+        ensures { result.0 ≡ value }
+    {
+        WordBreak(value)
+    }
+}
+
+impl Default for WordBreak {
+    ghost is_default = { λ value. value.0 ≡ 0 };
+
+    fn default() -> WordBreak {
+        WordBreak::Other
+    }
+}
+
+impl TrieValue for WordBreak {
+    ghost unpacked = { value_below 256 (λ n. record { 0 = n }) };
+
+    ghost packed = { λ value. value.0 };
+
+    ghost unpacks_again = { value_below-again 256 (λ n. record { 0 = n }) (λ value. value.0) (λ _. refl) };
+
+    ghost eq_is_same = { same_by_number (λ n. record { 0 = n }) (λ value. value.0) (λ _. refl) };
+
+    fn try_from_u32(i: u32) -> Result<WordBreak, ValueError> {
+        u8::try_from_u32(i).map(WordBreak)
+    }
+
+    fn to_u32(self) -> u32 {
+        u32::from(self.0)
+    }
+}
+
+impl EnumeratedProperty for WordBreak {
+    ghost TABLE = { record { number = 9; in_range = lit< tt } };
+
+    const NAME: &'static [u8] = b"Word_Break";
+
+    const SHORT_NAME: &'static [u8] = b"WB";
+
+    const TABLE: MapTable = MapTable::WORD_BREAK;
+
+    ghost accepted = { λ n _. value_below-is_some 256 (λ m. record { 0 = m }) n };
+
+    ghost default_packed = { λ _ is. is };
+}
+
+/// The class of a character in the breaking of sentences (UAX 29, section 5).
+#[derive(Clone, Copy, Debug, PartialEq, Eq, PartialOrd, Ord, Hash)]
+pub struct SentenceBreak(pub(crate) u8);
+
+impl SentenceBreak {
+    pub const Other: SentenceBreak = SentenceBreak(0);
+
+    /// The number of the value.
+    pub fn to_icu4c_value(self) -> u8
+        ensures { result ≡ self.0 }
+    {
+        self.0
+    }
+
+    /// The value of the number.
+    pub fn from_icu4c_value(value: u8) -> SentenceBreak
+        ensures { result.0 ≡ value }
+    {
+        SentenceBreak(value)
+    }
+}
+
+impl Default for SentenceBreak {
+    ghost is_default = { λ value. value.0 ≡ 0 };
+
+    fn default() -> SentenceBreak {
+        SentenceBreak::Other
+    }
+}
+
+impl TrieValue for SentenceBreak {
+    ghost unpacked = { value_below 256 (λ n. record { 0 = n }) };
+
+    ghost packed = { λ value. value.0 };
+
+    ghost unpacks_again = { value_below-again 256 (λ n. record { 0 = n }) (λ value. value.0) (λ _. refl) };
+
+    ghost eq_is_same = { same_by_number (λ n. record { 0 = n }) (λ value. value.0) (λ _. refl) };
+
+    fn try_from_u32(i: u32) -> Result<SentenceBreak, ValueError> {
+        u8::try_from_u32(i).map(SentenceBreak)
+    }
+
+    fn to_u32(self) -> u32 {
+        u32::from(self.0)
+    }
+}
+
+impl EnumeratedProperty for SentenceBreak {
+    ghost TABLE = { record { number = 10; in_range = lit< tt } };
+
+    const NAME: &'static [u8] = b"Sentence_Break";
+
+    const SHORT_NAME: &'static [u8] = b"SB";
+
+    const TABLE: MapTable = MapTable::SENTENCE_BREAK;
+
+    ghost accepted = { λ n _. value_below-is_some 256 (λ m. record { 0 = m }) n };
+
+    ghost default_packed = { λ _ is. is };
+}

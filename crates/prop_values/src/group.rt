@@ -1,0 +1,376 @@
+//! Groups of general categories.
+ghost use Rattle.std.specs.Prelude.{◌≡◌, ◌%◌, ◌^◌, ◌&&◌, ◌||◌, not, true, false, map};
+ghost use Rattle.prop_values.specs.Category.{number_of};
+ghost use Rattle.prop_values.specs.Groups.{has, named_groups, packed_group, unpacked_group, number_in, bits_in};
+ghost use Rattle.prop_values.specs.GroupLaws.{unpacked_group-again};
+ghost use Rattle.prop_values.specs.NumberedLaws.{same_by_number};
+ghost use Rattle.std.proofs.Common.{refl};
+ghost use Rattle.prop_values.specs.declared.category.GeneralCategory.{GeneralCategory};
+
+use crate::category::GeneralCategory;
+use cp_trie::{TrieValue, ValueError};
+
+/// A set of general categories (UAX 44, section 5.7.1). As a number it has the bit of each of its categories.
+#[derive(Clone, Copy, Debug, PartialEq, Eq)]
+pub struct GeneralCategoryGroup(pub(crate) u32);
+
+// The bits of all categories.
+const ALL: u32 = 0x3FFF_FFFF;
+
+// The number of the groups that have none of their own.
+const OTHERS: u16 = 0xFF00;
+
+// The groups that have a number of their own, each behind that number.
+const PACKINGS: [(u16, u32); 38] = [
+    (0, 1 << 0),
+    (1, 1 << 1),
+    (2, 1 << 2),
+    (3, 1 << 3),
+    (4, 1 << 4),
+    (5, 1 << 5),
+    (6, 1 << 6),
+    (7, 1 << 7),
+    (8, 1 << 8),
+    (9, 1 << 9),
+    (10, 1 << 10),
+    (11, 1 << 11),
+    (12, 1 << 12),
+    (13, 1 << 13),
+    (14, 1 << 14),
+    (15, 1 << 15),
+    (16, 1 << 16),
+    (17, 1 << 17),
+    (18, 1 << 18),
+    (19, 1 << 19),
+    (20, 1 << 20),
+    (21, 1 << 21),
+    (22, 1 << 22),
+    (23, 1 << 23),
+    (24, 1 << 24),
+    (25, 1 << 25),
+    (26, 1 << 26),
+    (27, 1 << 27),
+    (28, 1 << 28),
+    (29, 1 << 29),
+    (0xFFFF, 0xE),
+    (0xFFFE, 0x3E),
+    (0xFFFD, 0x1C0),
+    (0xFFFC, 0xE00),
+    (0xFFFB, 0x7000),
+    (0xFFFA, 0x78001),
+    (0xFFF9, 0x30F80000),
+    (0xFFF8, 0xF000000),
+];
+
+impl GeneralCategoryGroup {
+    pub const Unassigned: GeneralCategoryGroup = GeneralCategoryGroup(1 << 0);
+
+    pub const Cn: GeneralCategoryGroup = GeneralCategoryGroup(1 << 0);
+
+    pub const UppercaseLetter: GeneralCategoryGroup = GeneralCategoryGroup(1 << 1);
+
+    pub const Lu: GeneralCategoryGroup = GeneralCategoryGroup(1 << 1);
+
+    pub const LowercaseLetter: GeneralCategoryGroup = GeneralCategoryGroup(1 << 2);
+
+    pub const Ll: GeneralCategoryGroup = GeneralCategoryGroup(1 << 2);
+
+    pub const TitlecaseLetter: GeneralCategoryGroup = GeneralCategoryGroup(1 << 3);
+
+    pub const Lt: GeneralCategoryGroup = GeneralCategoryGroup(1 << 3);
+
+    pub const ModifierLetter: GeneralCategoryGroup = GeneralCategoryGroup(1 << 4);
+
+    pub const Lm: GeneralCategoryGroup = GeneralCategoryGroup(1 << 4);
+
+    pub const OtherLetter: GeneralCategoryGroup = GeneralCategoryGroup(1 << 5);
+
+    pub const Lo: GeneralCategoryGroup = GeneralCategoryGroup(1 << 5);
+
+    pub const NonspacingMark: GeneralCategoryGroup = GeneralCategoryGroup(1 << 6);
+
+    pub const Mn: GeneralCategoryGroup = GeneralCategoryGroup(1 << 6);
+
+    pub const EnclosingMark: GeneralCategoryGroup = GeneralCategoryGroup(1 << 7);
+
+    pub const Me: GeneralCategoryGroup = GeneralCategoryGroup(1 << 7);
+
+    pub const SpacingMark: GeneralCategoryGroup = GeneralCategoryGroup(1 << 8);
+
+    pub const Mc: GeneralCategoryGroup = GeneralCategoryGroup(1 << 8);
+
+    pub const DecimalNumber: GeneralCategoryGroup = GeneralCategoryGroup(1 << 9);
+
+    pub const Nd: GeneralCategoryGroup = GeneralCategoryGroup(1 << 9);
+
+    pub const LetterNumber: GeneralCategoryGroup = GeneralCategoryGroup(1 << 10);
+
+    pub const Nl: GeneralCategoryGroup = GeneralCategoryGroup(1 << 10);
+
+    pub const OtherNumber: GeneralCategoryGroup = GeneralCategoryGroup(1 << 11);
+
+    pub const No: GeneralCategoryGroup = GeneralCategoryGroup(1 << 11);
+
+    pub const SpaceSeparator: GeneralCategoryGroup = GeneralCategoryGroup(1 << 12);
+
+    pub const Zs: GeneralCategoryGroup = GeneralCategoryGroup(1 << 12);
+
+    pub const LineSeparator: GeneralCategoryGroup = GeneralCategoryGroup(1 << 13);
+
+    pub const Zl: GeneralCategoryGroup = GeneralCategoryGroup(1 << 13);
+
+    pub const ParagraphSeparator: GeneralCategoryGroup = GeneralCategoryGroup(1 << 14);
+
+    pub const Zp: GeneralCategoryGroup = GeneralCategoryGroup(1 << 14);
+
+    pub const Control: GeneralCategoryGroup = GeneralCategoryGroup(1 << 15);
+
+    pub const Cc: GeneralCategoryGroup = GeneralCategoryGroup(1 << 15);
+
+    pub const Format: GeneralCategoryGroup = GeneralCategoryGroup(1 << 16);
+
+    pub const Cf: GeneralCategoryGroup = GeneralCategoryGroup(1 << 16);
+
+    pub const PrivateUse: GeneralCategoryGroup = GeneralCategoryGroup(1 << 17);
+
+    pub const Co: GeneralCategoryGroup = GeneralCategoryGroup(1 << 17);
+
+    pub const Surrogate: GeneralCategoryGroup = GeneralCategoryGroup(1 << 18);
+
+    pub const Cs: GeneralCategoryGroup = GeneralCategoryGroup(1 << 18);
+
+    pub const DashPunctuation: GeneralCategoryGroup = GeneralCategoryGroup(1 << 19);
+
+    pub const Pd: GeneralCategoryGroup = GeneralCategoryGroup(1 << 19);
+
+    pub const OpenPunctuation: GeneralCategoryGroup = GeneralCategoryGroup(1 << 20);
+
+    pub const Ps: GeneralCategoryGroup = GeneralCategoryGroup(1 << 20);
+
+    pub const ClosePunctuation: GeneralCategoryGroup = GeneralCategoryGroup(1 << 21);
+
+    pub const Pe: GeneralCategoryGroup = GeneralCategoryGroup(1 << 21);
+
+    pub const ConnectorPunctuation: GeneralCategoryGroup = GeneralCategoryGroup(1 << 22);
+
+    pub const Pc: GeneralCategoryGroup = GeneralCategoryGroup(1 << 22);
+
+    pub const OtherPunctuation: GeneralCategoryGroup = GeneralCategoryGroup(1 << 23);
+
+    pub const Po: GeneralCategoryGroup = GeneralCategoryGroup(1 << 23);
+
+    pub const MathSymbol: GeneralCategoryGroup = GeneralCategoryGroup(1 << 24);
+
+    pub const Sm: GeneralCategoryGroup = GeneralCategoryGroup(1 << 24);
+
+    pub const CurrencySymbol: GeneralCategoryGroup = GeneralCategoryGroup(1 << 25);
+
+    pub const Sc: GeneralCategoryGroup = GeneralCategoryGroup(1 << 25);
+
+    pub const ModifierSymbol: GeneralCategoryGroup = GeneralCategoryGroup(1 << 26);
+
+    pub const Sk: GeneralCategoryGroup = GeneralCategoryGroup(1 << 26);
+
+    pub const OtherSymbol: GeneralCategoryGroup = GeneralCategoryGroup(1 << 27);
+
+    pub const So: GeneralCategoryGroup = GeneralCategoryGroup(1 << 27);
+
+    pub const InitialPunctuation: GeneralCategoryGroup = GeneralCategoryGroup(1 << 28);
+
+    pub const Pi: GeneralCategoryGroup = GeneralCategoryGroup(1 << 28);
+
+    pub const FinalPunctuation: GeneralCategoryGroup = GeneralCategoryGroup(1 << 29);
+
+    pub const Pf: GeneralCategoryGroup = GeneralCategoryGroup(1 << 29);
+
+    pub const CasedLetter: GeneralCategoryGroup = GeneralCategoryGroup(0xE);
+
+    pub const LC: GeneralCategoryGroup = GeneralCategoryGroup(0xE);
+
+    pub const Letter: GeneralCategoryGroup = GeneralCategoryGroup(0x3E);
+
+    pub const L: GeneralCategoryGroup = GeneralCategoryGroup(0x3E);
+
+    pub const Mark: GeneralCategoryGroup = GeneralCategoryGroup(0x1C0);
+
+    pub const M: GeneralCategoryGroup = GeneralCategoryGroup(0x1C0);
+
+    pub const Number: GeneralCategoryGroup = GeneralCategoryGroup(0xE00);
+
+    pub const N: GeneralCategoryGroup = GeneralCategoryGroup(0xE00);
+
+    pub const Separator: GeneralCategoryGroup = GeneralCategoryGroup(0x7000);
+
+    pub const Z: GeneralCategoryGroup = GeneralCategoryGroup(0x7000);
+
+    pub const Other: GeneralCategoryGroup = GeneralCategoryGroup(0x78001);
+
+    pub const C: GeneralCategoryGroup = GeneralCategoryGroup(0x78001);
+
+    pub const Punctuation: GeneralCategoryGroup = GeneralCategoryGroup(0x30F80000);
+
+    pub const P: GeneralCategoryGroup = GeneralCategoryGroup(0x30F80000);
+
+    pub const Symbol: GeneralCategoryGroup = GeneralCategoryGroup(0xF000000);
+
+    pub const S: GeneralCategoryGroup = GeneralCategoryGroup(0xF000000);
+
+    /// The short names with their groups.
+    pub fn names() -> [(&'static str, GeneralCategoryGroup); 38]
+        ensures { map (λ row. (row.0.now, row.1.0)) result ≡ named_groups }
+    {
+        [
+            ("Lu", GeneralCategoryGroup::Lu),
+            ("Ll", GeneralCategoryGroup::Ll),
+            ("Lt", GeneralCategoryGroup::Lt),
+            ("Lm", GeneralCategoryGroup::Lm),
+            ("Lo", GeneralCategoryGroup::Lo),
+            ("LC", GeneralCategoryGroup::LC),
+            ("L", GeneralCategoryGroup::L),
+            ("Mn", GeneralCategoryGroup::Mn),
+            ("Me", GeneralCategoryGroup::Me),
+            ("Mc", GeneralCategoryGroup::Mc),
+            ("M", GeneralCategoryGroup::M),
+            ("Nd", GeneralCategoryGroup::Nd),
+            ("Nl", GeneralCategoryGroup::Nl),
+            ("No", GeneralCategoryGroup::No),
+            ("N", GeneralCategoryGroup::N),
+            ("Zs", GeneralCategoryGroup::Zs),
+            ("Zl", GeneralCategoryGroup::Zl),
+            ("Zp", GeneralCategoryGroup::Zp),
+            ("Z", GeneralCategoryGroup::Z),
+            ("Cc", GeneralCategoryGroup::Cc),
+            ("Cf", GeneralCategoryGroup::Cf),
+            ("Co", GeneralCategoryGroup::Co),
+            ("Cs", GeneralCategoryGroup::Cs),
+            ("Cn", GeneralCategoryGroup::Cn),
+            ("C", GeneralCategoryGroup::C),
+            ("Pd", GeneralCategoryGroup::Pd),
+            ("Ps", GeneralCategoryGroup::Ps),
+            ("Pe", GeneralCategoryGroup::Pe),
+            ("Pc", GeneralCategoryGroup::Pc),
+            ("Pi", GeneralCategoryGroup::Pi),
+            ("Pf", GeneralCategoryGroup::Pf),
+            ("Po", GeneralCategoryGroup::Po),
+            ("P", GeneralCategoryGroup::P),
+            ("Sm", GeneralCategoryGroup::Sm),
+            ("Sc", GeneralCategoryGroup::Sc),
+            ("Sk", GeneralCategoryGroup::Sk),
+            ("So", GeneralCategoryGroup::So),
+            ("S", GeneralCategoryGroup::S),
+        ]
+    }
+
+    /// Whether the group has the category.
+    pub fn contains(self, val: GeneralCategory) -> bool
+        ensures { result ≡ has self val }
+    {
+        (self.0 >> val.to_u32()) & 1 == 1
+    }
+
+    /// The group of the other categories.
+    pub fn complement(self) -> GeneralCategoryGroup
+        ensures { (c : GeneralCategory) → has result c ≡ not (has self c) }
+    {
+        GeneralCategoryGroup(!self.0 & ALL)
+    }
+
+    /// The group of all categories.
+    pub fn all() -> GeneralCategoryGroup
+        ensures bits { result.0 ≡ 0x3FFF_FFFF }
+        ensures members { (c : GeneralCategory) → has result c ≡ true }
+    {
+        GeneralCategoryGroup(ALL)
+    }
+
+    /// The group of no category.
+    pub fn empty() -> GeneralCategoryGroup
+        ensures bits { result.0 ≡ 0 }
+        ensures members { (c : GeneralCategory) → has result c ≡ false }
+    {
+        GeneralCategoryGroup(0)
+    }
+
+    /// The categories that one of the two has.
+    pub fn union(self, other: GeneralCategoryGroup) -> GeneralCategoryGroup
+        ensures { (c : GeneralCategory) → has result c ≡ (has self c || has other c) }
+    {
+        GeneralCategoryGroup(self.0 | other.0)
+    }
+
+    /// The categories that both have.
+    pub fn intersection(self, other: GeneralCategoryGroup) -> GeneralCategoryGroup
+        ensures { (c : GeneralCategory) → has result c ≡ (has self c && has other c) }
+    {
+        GeneralCategoryGroup(self.0 & other.0)
+    }
+}
+
+impl From<GeneralCategory> for GeneralCategoryGroup {
+    ghost from_gives = { λ category group. group.0 ≡ 2 ^ number_of category };
+
+    fn from(category: GeneralCategory) -> GeneralCategoryGroup {
+        GeneralCategoryGroup(1 << category.to_u32())
+    }
+}
+
+impl From<u32> for GeneralCategoryGroup {
+    ghost from_gives = { λ bits group. group.0 ≡ bits % 2 ^ 30 };
+
+    fn from(bits: u32) -> GeneralCategoryGroup {
+        GeneralCategoryGroup(bits & ALL)
+    }
+}
+
+impl From<GeneralCategoryGroup> for u32 {
+    ghost from_gives = { λ group bits. bits ≡ group.0 };
+
+    fn from(group: GeneralCategoryGroup) -> u32 {
+        group.0
+    }
+}
+
+// The number of the first row with these bits.
+fn number_of_bits(rows: &[(u16, u32)], bits: u32) -> u16
+    ensures { result ≡ number_in rows.now bits }
+{
+    for (number, known) in rows {
+        if *known == bits {
+            return *number;
+        }
+    }
+    OTHERS
+}
+
+// The bits of the first row with this number.
+fn bits_of_number(rows: &[(u16, u32)], number: u16) -> u32
+    ensures { result ≡ bits_in rows.now number }
+{
+    for (known, bits) in rows {
+        if *known == number {
+            return *bits;
+        }
+    }
+    0
+}
+
+impl TrieValue for GeneralCategoryGroup {
+    ghost unpacked = { unpacked_group };
+
+    ghost packed = { packed_group };
+
+    ghost unpacks_again = { unpacked_group-again };
+
+    ghost eq_is_same = { same_by_number (λ n. record { 0 = n }) (λ group. group.0) (λ _. refl) };
+
+    fn try_from_u32(i: u32) -> Result<GeneralCategoryGroup, ValueError> {
+        match u16::try_from(i) {
+            Ok(number) => Ok(GeneralCategoryGroup(bits_of_number(&PACKINGS, number))),
+            Err(_) => Err(ValueError { value: i }),
+        }
+    }
+
+    fn to_u32(self) -> u32 {
+        u32::from(number_of_bits(&PACKINGS, self.0))
+    }
+}

@@ -1,0 +1,84 @@
+//! The type of Hangul syllables.
+ghost use Rattle.std.specs.Prelude.{◌≡◌, refl};
+ghost use Rattle.std.proofs.Common.{lit<};
+ghost use Rattle.prop_values.specs.NumberedLaws.{value_below, value_below-again, value_below-is_some, same_by_number};
+
+use crate::property::EnumeratedProperty;
+use crate::tables::MapTable;
+use cp_trie::{TrieValue, ValueError};
+
+/// The type of a Hangul syllable or jamo (UAX 44, section 5.3).
+#[derive(Clone, Copy, Debug, PartialEq, Eq, PartialOrd, Ord, Hash)]
+pub struct HangulSyllableType(pub(crate) u8);
+
+impl HangulSyllableType {
+    pub const NotApplicable: HangulSyllableType = HangulSyllableType(0);
+
+    pub const LeadingJamo: HangulSyllableType = HangulSyllableType(1);
+
+    pub const VowelJamo: HangulSyllableType = HangulSyllableType(2);
+
+    pub const TrailingJamo: HangulSyllableType = HangulSyllableType(3);
+
+    pub const LVSyllable: HangulSyllableType = HangulSyllableType(4);
+
+    pub const LVTSyllable: HangulSyllableType = HangulSyllableType(5);
+
+    pub const LeadingVowelSyllable: HangulSyllableType = HangulSyllableType(4);
+
+    pub const LeadingVowelTrailingSyllable: HangulSyllableType = HangulSyllableType(5);
+
+    /// The number of the value.
+    pub fn to_icu4c_value(self) -> u8
+        ensures { result ≡ self.0 }
+    {
+        self.0
+    }
+
+    /// The value of the number.
+    pub fn from_icu4c_value(value: u8) -> HangulSyllableType
+        ensures { result.0 ≡ value }
+    {
+        HangulSyllableType(value)
+    }
+}
+
+impl Default for HangulSyllableType {
+    ghost is_default = { λ value. value.0 ≡ 0 };
+
+    fn default() -> HangulSyllableType {
+        HangulSyllableType::NotApplicable
+    }
+}
+
+impl TrieValue for HangulSyllableType {
+    ghost unpacked = { value_below 256 (λ n. record { 0 = n }) };
+
+    ghost packed = { λ value. value.0 };
+
+    ghost unpacks_again = { value_below-again 256 (λ n. record { 0 = n }) (λ value. value.0) (λ _. refl) };
+
+    ghost eq_is_same = { same_by_number (λ n. record { 0 = n }) (λ value. value.0) (λ _. refl) };
+
+    fn try_from_u32(i: u32) -> Result<HangulSyllableType, ValueError> {
+        u8::try_from_u32(i).map(HangulSyllableType)
+    }
+
+    fn to_u32(self) -> u32 {
+        u32::from(self.0)
+    }
+}
+
+impl EnumeratedProperty for HangulSyllableType {
+    ghost TABLE = { record { number = 5; in_range = lit< tt } };
+
+    const NAME: &'static [u8] = b"Hangul_Syllable_Type";
+
+    const SHORT_NAME: &'static [u8] = b"hst";
+
+    const TABLE: MapTable = MapTable::HANGUL_SYLLABLE_TYPE;
+
+    ghost accepted = { λ n _. value_below-is_some 256 (λ m. record { 0 = m }) n };
+
+    ghost default_packed = { λ _ is. is };
+}

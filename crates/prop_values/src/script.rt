@@ -1,0 +1,192 @@
+//! Scripts.
+ghost use Rattle.std.specs.Prelude.{◌≡◌, ◌%◌, ◌==◌, nat_lt, refl};
+ghost use Rattle.std.proofs.Common.{lit<};
+ghost use Rattle.prop_values.specs.NumberedLaws.{value_below, value_below-again, value_below-is_some, same_by_number};
+ghost use Rattle.prop_values.specs.ScriptWithExt.{kind_of, with_extensions};
+
+use crate::property::EnumeratedProperty;
+use crate::tables::MapTable;
+use cp_trie::{TrieValue, ValueError};
+
+/// The script of a character (UAX 24).
+#[derive(Clone, Copy, Debug, PartialEq, Eq, PartialOrd, Ord, Hash)]
+pub struct Script(pub(crate) u16);
+
+impl Script {
+    pub const Common: Script = Script(0);
+
+    pub const Inherited: Script = Script(1);
+
+    pub const Bengali: Script = Script(4);
+
+    pub const Cyrillic: Script = Script(8);
+
+    pub const Devanagari: Script = Script(10);
+
+    pub const Ethiopic: Script = Script(11);
+
+    pub const Ethiopian: Script = Script(11);
+
+    pub const Han: Script = Script(17);
+
+    pub const Latin: Script = Script(25);
+
+    pub const Thai: Script = Script(38);
+
+    pub const Unknown: Script = Script(103);
+
+    pub const Lisu: Script = Script(131);
+
+    pub const Chisoi: Script = Script(60000);
+
+    /// The number of the value.
+    pub fn to_icu4c_value(self) -> u16
+        ensures { result ≡ self.0 }
+    {
+        self.0
+    }
+
+    /// The value of the number.
+    pub fn from_icu4c_value(value: u16) -> Script
+        ensures { result.0 ≡ value }
+    {
+        Script(value)
+    }
+}
+
+impl Default for Script {
+    ghost is_default = { λ value. value.0 ≡ 103 };
+
+    fn default() -> Script {
+        Script::Unknown
+    }
+}
+
+impl TrieValue for Script {
+    ghost unpacked = { value_below 65536 (λ n. record { 0 = n }) };
+
+    ghost packed = { λ value. value.0 };
+
+    ghost unpacks_again = { value_below-again 65536 (λ n. record { 0 = n }) (λ value. value.0) (λ _. refl) };
+
+    ghost eq_is_same = { same_by_number (λ n. record { 0 = n }) (λ value. value.0) (λ _. refl) };
+
+    fn try_from_u32(i: u32) -> Result<Script, ValueError> {
+        u16::try_from_u32(i).map(Script)
+    }
+
+    fn to_u32(self) -> u32 {
+        u32::from(self.0)
+    }
+}
+
+impl EnumeratedProperty for Script {
+    ghost TABLE = { record { number = 4; in_range = lit< tt } };
+
+    const NAME: &'static [u8] = b"Script";
+
+    const SHORT_NAME: &'static [u8] = b"sc";
+
+    const TABLE: MapTable = MapTable::SCRIPT;
+
+    ghost accepted = { λ n _. value_below-is_some 65536 (λ m. record { 0 = m }) n };
+
+    ghost default_packed = { λ _ is. is };
+}
+
+/// A script, or the place of a list of scripts, as the map of script extensions (UAX 24, section 2.8) keeps it for a
+/// code point. The kind stands above the low ten bits: 0 for a script alone, 1 for Common, 2 for Inherited and 3 for
+/// another script, each with a list at the index in the low ten bits. Above 3 the whole number is a script.
+#[derive(Clone, Copy, Debug, PartialEq, Eq)]
+pub struct ScriptWithExt(pub u16);
+
+// The low ten bits are below this number, which the kind counts.
+const KIND_UNIT: u16 = 1024;
+
+impl ScriptWithExt {
+    /// The script Unknown alone.
+    pub const Unknown: ScriptWithExt = ScriptWithExt(103);
+
+    /// The low ten bits of the script's number, which are a script alone.
+    pub fn single(script: Script) -> ScriptWithExt
+        ensures { result.0 ≡ script.0 % 1024 }
+    {
+        ScriptWithExt(script.0 % KIND_UNIT)
+    }
+
+    /// Extensions of a script, whose list has the low ten bits of the number as its index.
+    pub fn new(script: Script, extensions: u16) -> ScriptWithExt
+        ensures { result.0 ≡ with_extensions script.0 extensions }
+    {
+        let kind = if script == Script::Common {
+            1
+        } else if script == Script::Inherited {
+            2
+        } else {
+            3
+        };
+        ScriptWithExt(kind * KIND_UNIT + extensions % KIND_UNIT)
+    }
+
+    /// Whether the script is Common with a list of extensions.
+    pub fn is_common(&self) -> bool
+        ensures { result ≡ (kind_of self.now.0 == 1) }
+    {
+        self.0 / KIND_UNIT == 1
+    }
+
+    /// Whether the script is Inherited with a list of extensions.
+    pub fn is_inherited(&self) -> bool
+        ensures { result ≡ (kind_of self.now.0 == 2) }
+    {
+        self.0 / KIND_UNIT == 2
+    }
+
+    /// Whether the script is another one, which is the first of the list.
+    pub fn is_other(&self) -> bool
+        ensures { result ≡ (kind_of self.now.0 == 3) }
+    {
+        self.0 / KIND_UNIT == 3
+    }
+
+    /// Whether the kind is above 0.
+    pub fn has_extensions(&self) -> bool
+        ensures { result ≡ nat_lt 0 (kind_of self.now.0) }
+    {
+        self.0 / KIND_UNIT > 0
+    }
+}
+
+impl From<ScriptWithExt> for u32 {
+    ghost from_gives = { λ value number. number ≡ value.0 };
+
+    fn from(value: ScriptWithExt) -> u32 {
+        u32::from(value.0)
+    }
+}
+
+impl From<ScriptWithExt> for Script {
+    ghost from_gives = { λ value script. script.0 ≡ value.0 };
+
+    fn from(value: ScriptWithExt) -> Script {
+        Script(value.0)
+    }
+}
+
+impl TrieValue for ScriptWithExt {
+    ghost unpacked = { value_below 65536 (λ n. record { 0 = n }) };
+
+    ghost packed = { λ value. value.0 };
+
+    ghost unpacks_again = { value_below-again 65536 (λ n. record { 0 = n }) (λ value. value.0) (λ _. refl) };
+
+    ghost eq_is_same = { same_by_number (λ n. record { 0 = n }) (λ value. value.0) (λ _. refl) };
+
+    fn try_from_u32(i: u32) -> Result<ScriptWithExt, ValueError> {
+        u16::try_from_u32(i).map(ScriptWithExt)
+    }
+
+    fn to_u32(self) -> u32 {
+        u32::from(self.0)
+    }
+}
