@@ -8,6 +8,8 @@ pub mod laws;
 mod parse;
 mod reader;
 mod syntax;
+#[cfg(test)]
+mod tests;
 mod token;
 mod variables;
 

@@ -1,0 +1,101 @@
+use crate::laws::{no_fault_of_a_reading, one_fault, one_reading};
+use crate::{ParseError, ParseErrorKind, VariableMap, parse_unstable_with_variables};
+use prop_data::PropertyDatabase;
+use std::test::Fail;
+
+/// The three syntax tables for ASCII.
+const SYNTAX: &str =
+    "set XID_Start\n41-5A\n61-7A\nset XID_Continue\n30-39\n41-5A\n5F\n61-7A\nset Pattern_White_Space\n9-D\n20\n85\n200E-200F\n2028-2029\nend\n";
+
+#[test]
+fn a_bracket_at_the_front_is_read(rt: HostRuntime) -> Result<(), Fail> {
+    let alloc = rt.alloc();
+    let database = PropertyDatabase::from_text(alloc, SYNTAX)?;
+    let variables = VariableMap::new(alloc);
+    for (source, list, read) in [
+        ("[a-z0]", [0x30, 0x31, 0x61, 0x7B].as_slice(), 6),
+        ("[a-b-] x", &[0x2D, 0x2E, 0x61, 0x63], 6),
+        ("[ - a]", &[0x2D, 0x2E, 0x61, 0x62], 6),
+        ("[]", &[], 2),
+        ("[-]", &[0x2D, 0x2E], 3),
+        ("[é\u{2028}a-]]", &[0x2D, 0x2E, 0x61, 0x62, 0xE9, 0xEA], 9),
+        ("[a\u{10FFFF}]b]", &[0x61, 0x62, 0x10FFFF, 0x110000], 7),
+    ] {
+        let (set, length) = parse_unstable_with_variables(alloc, source, &variables, &database)?;
+        assert_eq!(rt; set.code_points().get_inversion_list(), list, "at {source}");
+        assert_eq!(rt; length, read, "at {source}");
+        assert!(rt; set.strings().is_empty());
+    }
+    Ok(())
+}
+
+#[test]
+fn what_the_grammar_does_not_read_is_unimplemented(rt: HostRuntime) -> Result<(), Fail> {
+    let alloc = rt.alloc();
+    let database = PropertyDatabase::from_text(alloc, SYNTAX)?;
+    let variables = VariableMap::new(alloc);
+    for source in [
+        "", "a", " [a]", "[", "[a", "[^a]", "[:a:]", "[b-a]", "[--a]", "[a-b-c]", "[a&b]", "[$a]",
+        "[[a]]", "[{a}]", "[\\a]",
+    ] {
+        let Err(error) = parse_unstable_with_variables(alloc, source, &variables, &database) else {
+            panic!(rt; "{source} is read");
+        };
+        assert_eq!(rt; error.kind(), ParseErrorKind::Unimplemented, "at {source}");
+        assert_eq!(rt; error.offset(), None, "at {source}");
+    }
+    Ok(())
+}
+
+#[test]
+fn an_absent_syntax_table_is_internal(rt: HostRuntime) -> Result<(), Fail> {
+    let alloc = rt.alloc();
+    let variables = VariableMap::new(alloc);
+    for tables in [
+        "set XID_Start\nset XID_Continue\nend\n",
+        "set XID_Start\nset Pattern_White_Space\nend\n",
+        "set XID_Continue\nset Pattern_White_Space\nend\n",
+    ] {
+        let database = PropertyDatabase::from_text(alloc, tables)?;
+        let Err(error) = parse_unstable_with_variables(alloc, "[a]", &variables, &database) else {
+            panic!(rt; "[a] is read");
+        };
+        assert_eq!(rt; error.kind(), ParseErrorKind::Internal);
+        assert_eq!(rt; error.offset(), None);
+    }
+    Ok(())
+}
+
+#[test]
+fn faults_are_told_in_words(rt: HostRuntime) -> Result<(), Fail> {
+    let alloc = rt.alloc();
+    for (kind, shown, display) in [
+        (
+            ParseErrorKind::Internal,
+            "error: internal error",
+            "Something unexpected went wrong with our code. Please file a bug report on GitHub.",
+        ),
+        (
+            ParseErrorKind::Unimplemented,
+            "error: unimplemented",
+            "The provided syntax is not supported by us.",
+        ),
+        (
+            ParseErrorKind::NoMemory,
+            "error: out of memory",
+            "Out of memory",
+        ),
+    ] {
+        let error: ParseError = kind.into();
+        assert_eq!(rt; error.fmt_with_source(alloc, "[a")?.as_str(), shown);
+        assert_eq!(rt; format!(in alloc; "{error}")?.as_str(), display);
+    }
+    Ok(())
+}
+
+#[test]
+fn the_laws_hold() {
+    one_reading();
+    no_fault_of_a_reading();
+    one_fault();
+}
