@@ -2,3 +2,4 @@ pub mod TurnLemmas
 pub mod Arranging
 pub mod Standing
 pub mod OneReading
+mod Examples

@@ -1,9 +1,13 @@
 -- What was taken and what was written so far.
-use Rattle.std.proofs.Common.{◌≡◌, ℕ, ◌+◌, ◌<◌, ◌≤◌, List, ◌++◌, take, drop, length, Option, None, Some, IfSome, Result, Ok, sym, ap, ◌∙◌, inl, inr, append_assoc, length-append, arith}
+use Rattle.std.proofs.Common.{◌≡◌, ℕ, ◌+◌, ◌<◌, ◌≤◌, List, ◌++◌, take, drop, length, Option, None, Some, IfSome, IfErr, Result, Ok, Err, sym, ap, ◌∙◌, inl, inr, append_assoc, length-append, arith}
 use Rattle.std.proofs.lemmas.List.{take-append-drop}
-use Rattle.std.proofs.Math.Seq.{drop-append_seam}
+use Rattle.std.proofs.Math.Seq.{drop-append_seam, drop-append-add}
 use Rattle.uset_tool.specs.declared.sink.WriteError.{WriteError}
-use Rattle.uset_tool.specs.Device.{limit, Rose, WritesFront, Appends}
+use Rattle.uset_tool.specs.declared.source.Failed.{Failed}
+use Rattle.uset_tool.specs.declared.input.InputError.{InputError}
+use Rattle.uset_tool.specs.declared.input.InputError.TheVariants.{NoMemory}
+use Rattle.std.specs.Result.{IsErrAnd}
+use Rattle.uset_tool.specs.Device.{limit, Rose, ReadsFront, WritesFront, Appends, TookFront, Stops}
 
 -- the count rose within a longer time
 pub Rose-within : (a b c d : ℕ) → a ≤ b → Rose b c → c ≤ d → Rose a d
@@ -42,3 +46,18 @@ too_long (Some bytes) now input taken over within =
       omega (arith, ap length parts ∙ length-append input rest),
       left ∙ ap Some (sym (ap (λ n. drop n bytes) (sym len) ∙ (ap (drop (length input)) parts ∙ drop-append_seam input rest))),
     )
+
+abbrev pub was_read : ℕ → Result ℕ Failed
+was_read n = Ok n
+
+-- memory was refused to the bytes of one more read
+pub refused_front : (old now new : Option (List ℕ)) (input buf : List ℕ) (n : ℕ) → Taken old now input → ReadsFront now new (was_read n) buf → length input + n ≤ limit + 1 → IfSome old (λ bytes. TookFront bytes new (limit + 1))
+refused_front None now new input buf n taken read within = tt
+refused_front (Some bytes) now new input buf n taken read within =
+    let (rest, parts, left) = taken.told in
+    let here = rw left at read in
+    (length input + n, within, here.2 ∙ ap Some (sym (ap (drop (length input + n)) parts ∙ drop-append-add input rest n)))
+
+pub stops_refused : {X : Type 0} (result : Result X InputError) (old new : Option (List ℕ)) (faults faults_now : ℕ) → IsErrAnd result (λ e. e ≡ NoMemory) → IfSome old (λ bytes. TookFront bytes new (limit + 1)) → IfErr result (λ e. Stops e old new faults faults_now)
+stops_refused (Ok x) old new faults faults_now refused front = tt
+stops_refused (Err e) old new faults faults_now refused front = rw refused front

@@ -3,3 +3,5 @@ pub mod DeviceLemmas
 pub mod Once
 pub mod RunLemmas
 pub mod Complete
+mod LeftLemmas
+mod Examples

@@ -59,10 +59,14 @@ limit = 2 ^ 23
 abbrev pub TakesAll : Option (List ℕ) → Option (List ℕ) → List ℕ → Type 0
 TakesAll old new input = IfSome old (λ bytes. (bytes ≡ input) × (new ≡ Some []))
 
+-- the source has left what stands behind a front of the input of at most so many bytes
+abbrev pub TookFront : List ℕ → Option (List ℕ) → ℕ → Type 0
+TookFront input left most = (n : ℕ) × (n ≤ most) × (left ≡ Some (drop n input))
+
 -- why the input was not taken, and what was taken then
 abbrev pub Stops : InputError → Option (List ℕ) → Option (List ℕ) → ℕ → ℕ → Type 0
 Stops Failed old new faults faults_now =
-    Rose faults faults_now × IfSome old (λ bytes. (n : ℕ) × (n ≤ limit) × (new ≡ Some (drop n bytes)))
+    Rose faults faults_now × IfSome old (λ bytes. TookFront bytes new limit)
 Stops TooLong old new faults faults_now =
     IfSome old (λ bytes. (limit < length bytes) × (new ≡ Some (drop (limit + 1) bytes)))
-Stops NoMemory old new faults faults_now = Unit {0}
+Stops NoMemory old new faults faults_now = IfSome old (λ bytes. TookFront bytes new (limit + 1))

@@ -13,7 +13,7 @@ use Rattle.uset_tool.specs.declared.status.Status.TheVariants.{Done, SomeErr, Us
 use Rattle.uset_tool.specs.declared.sink.WriteError.TheVariants.{Failed, NoMemory as OutOfMemory}
 use Rattle.uset_tool.specs.Answer.{ScriptAnswer}
 use Rattle.uset_tool.specs.Answered.{AnswersScript}
-use Rattle.uset_tool.specs.Device.{limit, Appends, IsFront, IsProperFront}
+use Rattle.uset_tool.specs.Device.{limit, Appends, IsFront, IsProperFront, TookFront}
 use Rattle.uset_tool.specs.Words.{is_known, table_fault_text, usage_text, not_text_text, too_long_text}
 
 -- the lines of an input through its first line that is `end` alone: the table text
@@ -100,7 +100,8 @@ ScriptWrites tables ls old new ReadFault = ⊥
 ScriptWrites tables ls old new NotText = ⊥
 ScriptWrites tables ls old new TooLong = ⊥
 
--- What a source has left that had the input left: nothing where the whole input was answered.
+-- What a source has left that had the input left: nothing where the whole input was answered, and never was more taken than
+-- one byte past the limit.
 abbrev pub IsLeft : List ℕ → Option (List ℕ) → Status → Type 0
 IsLeft input left Done = left ≡ Some []
 IsLeft input left SomeErr = left ≡ Some []
@@ -108,9 +109,9 @@ IsLeft input left Tables = left ≡ Some []
 IsLeft input left NotText = left ≡ Some []
 IsLeft input left Usage = left ≡ Some input
 IsLeft input left TooLong = (limit < length input) × (left ≡ Some (drop (limit + 1) input))
-IsLeft input left ReadFault = (n : ℕ) × (n ≤ limit) × (left ≡ Some (drop n input))
-IsLeft input left WriteFault = Unit {0}
-IsLeft input left NoMemory = Unit {0}
+IsLeft input left ReadFault = TookFront input left limit
+IsLeft input left WriteFault = TookFront input left (limit + 1)
+IsLeft input left NoMemory = TookFront input left (limit + 1)
 
 -- whatever the answer is, it has this status, or memory was refused
 abbrev pub IsSettled : AnswersOf → Status → Type 0

@@ -1,4 +1,5 @@
 use Rattle.std.proofs.Common.{sym, ◌∙◌}
+use Rattle.uset_tool.proofs.LeftLemmas.{usage_left, too_long_left, not_text_left, text_left}
 use Rattle.uset_tool.proofs.RunLemmas.{usage_run, too_long_run, not_text_run, text_run}
 use Rattle.uset_tool.proofs.program.answer_words.Goals as goal
 
@@ -23,3 +24,16 @@ returns-clause-written g c =
     let words = rw c.deref.ensures.value at c.is_known.ensures in
     let no_text = rw c.deref-2.ensures.value at c.in-Err.ensures.cases in
     not_text_run _ _ _ _ _ _ _ (sym words ∙ c.if-not-is_known.false) c.in-Ok.ensures.whole c.in-Ok.ensures.short no_text.0 c.say-in-Err.ensures.says
+
+pub returns-then-not-is_known-clause-left : goal.returns-then-not-is_known-clause-left
+returns-then-not-is_known-clause-left g c = usage_left _ _ _ _ _ c.say.ensures.says
+
+pub returns-in-Err-TooLong-clause-left : goal.returns-in-Err-TooLong-clause-left
+returns-in-Err-TooLong-clause-left g c =
+    too_long_left _ _ _ _ _ _ (rw c.in-Err-TooLong.field-0-is at c.in-Err-TooLong.ensures.stopped) c.say-in-Err-TooLong.ensures.says
+
+pub returns-in-Ok-from_utf8-clause-left : goal.returns-in-Ok-from_utf8-clause-left
+returns-in-Ok-from_utf8-clause-left g c = text_left _ _ _ _ c.in-Ok.ensures.whole c.in-Ok.ensures.short c.eval.ensures.status
+
+pub returns-clause-left : goal.returns-clause-left
+returns-clause-left g c = not_text_left _ _ _ _ _ _ _ c.in-Ok.ensures.whole c.in-Ok.ensures.short c.say-in-Err.ensures.says

@@ -1,0 +1,80 @@
+-- The answers of the program, computed on small scripts.
+use Rattle.std.proofs.Common.{◌≡◌, true, false, [], ◌∷◌, codes, refl}
+use Rattle.std.specs.Prelude.{Some, None}
+use Rattle.std.specs.Fmt.{digits}
+use Rattle.cp_invlist.specs.declared.ranges.CodePointRange.{CodePointRange}
+use Rattle.prop_data.specs.declared.error.TableErrorKind.TheVariants.{RangeOrder}
+use Rattle.text_lines.specs.Fields.{is_sole}
+use Rattle.prop_data.specs.Line.{line_of, is_header_word}
+use Rattle.prop_data.specs.Numbers.{range, hyphen_parts, hex}
+use Rattle.prop_data.specs.SetTable.{set_number}
+use Rattle.prop_data.specs.TableText.{table_fault, at_line, header_fault, row_fault}
+use Rattle.uset_parse.specs.declared.error.ParseErrorKind.TheVariants.{Unimplemented}
+use Rattle.uset_tool.specs.Answer.{range_text, read_text, fault_text, bad_line_text}
+use Rattle.uset_tool.specs.Script.{silent, pattern, bad, script_line}
+use Rattle.uset_tool.specs.Words.{is_known, table_fault_text}
+use Rattle.uset_tool.specs.Run.{table_lines, script_lines}
+
+abbrev zero : CodePointRange
+zero = record { start = 0x30; end = 0x30 }
+
+abbrev letters : CodePointRange
+letters = record { start = 0x61; end = 0x7A }
+
+one_code_point : range_text zero ≡ codes " 0030"
+unfolding digits
+one_code_point = refl
+
+above_four_digits : range_text (record { start = 0xFFFF; end = 0x10_FFFF }) ≡ codes " FFFF-10FFFF"
+unfolding digits
+above_four_digits = refl
+
+-- the answer to `pat [a-z0]`
+letters_and_zero : read_text 6 (zero ∷ letters ∷ []) ≡ codes "ok 6 0030 0061-007A\n"
+unfolding digits
+letters_and_zero = refl
+
+-- the answer to `pat [a&b]`
+unimplemented : fault_text Unimplemented ≡ codes "err error: unimplemented\n"
+unimplemented = refl
+
+bad_line : bad_line_text ≡ codes "err bad line\n"
+bad_line = refl
+
+pattern_line : script_line (codes "pat [a]") ≡ pattern (codes "[a]")
+unfolding script_line
+pattern_line = refl
+
+other_line : script_line (codes "hello") ≡ bad
+unfolding script_line
+other_line = refl
+
+comment_line : script_line (codes "# pat [a]") ≡ silent
+unfolding script_line
+comment_line = refl
+
+eval_is_known : is_known (codes "eval" ∷ []) ≡ true
+eval_is_known = refl
+
+two_words_are_unknown : is_known (codes "eval" ∷ codes "x" ∷ []) ≡ false
+two_words_are_unknown = refl
+
+tables_end_with_end : table_lines (codes "set XID_Start\nend #\npat [a]\n") ≡ codes "set XID_Start" ∷ codes "end #" ∷ []
+unfolding is_sole
+tables_end_with_end = refl
+
+script_stands_behind : script_lines (codes "set XID_Start\nend\npat [a]\n\nx") ≡ codes "pat [a]" ∷ [] ∷ codes "x" ∷ []
+unfolding is_sole
+script_stands_behind = refl
+
+tables_told : table_fault_text (at_line 3 RangeOrder) ≡ codes "tables line 3: RangeOrder\n"
+unfolding digits
+tables_told = refl
+
+fault_of_descending_rows : table_fault (table_lines (codes "set XID_Start\n61-7A\n41\nend\n")) ≡ Some (at_line 3 RangeOrder)
+unfolding is_sole line_of is_header_word set_number header_fault range hyphen_parts hex row_fault
+fault_of_descending_rows = refl
+
+no_fault_of_one_row : table_fault (table_lines (codes "set XID_Start\n61-7A # letters\nend\n")) ≡ None
+unfolding is_sole line_of is_header_word set_number header_fault range hyphen_parts hex row_fault
+no_fault_of_one_row = refl
