@@ -98,57 +98,44 @@ fn a_second_table_of_a_name_is_told(rt: HostRuntime) {
 }
 
 #[test]
-fn faulty_rows_are_told(rt: HostRuntime) {
-    for (text, line, kind) in [
-        (
-            "set XID_Start\n0000041\nend\n",
-            2,
-            TableErrorKind::BadNumber,
-        ),
-        ("set XID_Start\n41-\nend\n", 2, TableErrorKind::BadNumber),
-        ("set XID_Start\n-41\nend\n", 2, TableErrorKind::BadNumber),
-        ("set XID_Start\n4G\nend\n", 2, TableErrorKind::BadNumber),
-        (
-            "set XID_Start\n41-42-43\nend\n",
-            2,
-            TableErrorKind::BadNumber,
-        ),
-        ("set XID_Start\nends\nend\n", 2, TableErrorKind::BadNumber),
-        ("set XID_Start\n110000\nend\n", 2, TableErrorKind::TooLarge),
-        (
-            "set XID_Start\n41-110000\nend\n",
-            2,
-            TableErrorKind::TooLarge,
-        ),
-        ("set XID_Start\n5A-41\nend\n", 2, TableErrorKind::RangeOrder),
-        (
-            "set XID_Start\n41-4F\n4F-5A\nend\n",
-            3,
-            TableErrorKind::RangeOrder,
-        ),
-        (
-            "set XID_Start\n41\n41\nend\n",
-            3,
-            TableErrorKind::RangeOrder,
-        ),
-        (
-            "set XID_Start\n61\n\n41\nend\n",
-            4,
-            TableErrorKind::RangeOrder,
-        ),
-        (
-            "set Pattern_White_Space\n20-21\nend\n",
-            2,
-            TableErrorKind::SyntaxAscii,
-        ),
-        (
-            "set Pattern_White_Space\n7E\nend\n",
-            2,
-            TableErrorKind::SyntaxAscii,
-        ),
-    ] {
-        assert_eq!(rt; fault_of(rt.alloc(), text), at(line, kind), "at {text}");
+fn misspelled_rows_are_told(rt: HostRuntime) -> Result<(), Fail> {
+    let alloc = rt.alloc();
+    for row in ["0000041", "41-", "-41", "4G", "41-42-43", "U+41", "ends"] {
+        let text = format!(in alloc; "set XID_Start\n{row}\nend\n")?;
+        let expected = at(2, TableErrorKind::BadNumber);
+        assert_eq!(rt; fault_of(alloc, text.as_str()), expected, "at {row}");
     }
+    Ok(())
+}
+
+#[test]
+fn rows_out_of_bounds_or_order_are_told(rt: HostRuntime) -> Result<(), Fail> {
+    let alloc = rt.alloc();
+    for (row, kind) in [
+        ("110000", TableErrorKind::TooLarge),
+        ("61-110000", TableErrorKind::TooLarge),
+        ("7A-61", TableErrorKind::RangeOrder),
+        ("5A-61", TableErrorKind::RangeOrder),
+        ("5A", TableErrorKind::RangeOrder),
+        ("30", TableErrorKind::RangeOrder),
+    ] {
+        let text = format!(in alloc; "set XID_Start\n41-5A\n\n{row}\nend\n")?;
+        assert_eq!(rt; fault_of(alloc, text.as_str()), at(4, kind), "at {row}");
+    }
+    Ok(())
+}
+
+#[test]
+fn visible_ascii_is_no_white_space(rt: HostRuntime) -> Result<(), Fail> {
+    let alloc = rt.alloc();
+    for row in ["0021", "20-21", "61", "7E"] {
+        let text = format!(in alloc; "set Pattern_White_Space\n{row}\nend\n")?;
+        let expected = at(2, TableErrorKind::SyntaxAscii);
+        assert_eq!(rt; fault_of(alloc, text.as_str()), expected, "at {row}");
+    }
+    let text = "set Pattern_White_Space\n0-20\n7F\nend\n";
+    assert_eq!(rt; fault_of(alloc, text), None);
+    Ok(())
 }
 
 #[test]
