@@ -1,2 +1,3 @@
 pub mod AboveLemmas
 pub mod Reading
+mod Examples

@@ -8,6 +8,8 @@ mod loader;
 mod numbers;
 mod row;
 mod tables;
+#[cfg(test)]
+mod tests;
 
 pub use database::PropertyDatabase;
 pub use error::{LoadError, TableError, TableErrorKind};

@@ -4,6 +4,8 @@
 mod fields;
 mod lines;
 mod parts;
+#[cfg(test)]
+mod tests;
 
 pub use fields::{before_comment, split_field};
 pub use lines::split_line;

@@ -1,0 +1,240 @@
+use super::*;
+use cp_invlist::NoMemory;
+use std::alloc::Global;
+use std::test::Fail;
+
+// A text with each table; XID_Continue has no row.
+const GOOD: &str =
+    "# tables\nset XID_Start # letters\n41-5A\r\n  5F\n\n61-7a\n7B0-7b1 # two\nset\tXID_Continue\nset Pattern_White_Space\n9-D\n000020\n10FFFF\nend # all\n\n# no more";
+
+#[test]
+fn tables_are_read(rt: HostRuntime) -> Result<(), Fail> {
+    let database = PropertyDatabase::from_text(rt.alloc(), GOOD)?;
+    for (table, expected) in [
+        (
+            SetTable::XID_START,
+            [0x41, 0x5B, 0x5F, 0x60, 0x61, 0x7B, 0x7B0, 0x7B2].as_slice(),
+        ),
+        (SetTable::XID_CONTINUE, [].as_slice()),
+        (
+            SetTable::PATTERN_WHITE_SPACE,
+            [9, 0xE, 0x20, 0x21, 0x10_FFFF, 0x11_0000].as_slice(),
+        ),
+    ] {
+        let set = database.set(table).ok_or("no table")?;
+        assert_eq!(rt; set.get_inversion_list(), expected, "at {}", table.number());
+    }
+    Ok(())
+}
+
+#[test]
+fn neighbouring_rows_are_joined(rt: HostRuntime) -> Result<(), Fail> {
+    let database = PropertyDatabase::from_text(
+        rt.alloc(),
+        "set XID_Continue\n41-5A\nset XID_Start\n41-4F\n50\n51-5A\nend",
+    )?;
+    let set = database.set(SetTable::XID_START).ok_or("no table")?;
+    assert_eq!(rt; set.get_inversion_list(), [0x41, 0x5B].as_slice());
+    assert!(rt; database.set(SetTable::PATTERN_WHITE_SPACE).is_none());
+    Ok(())
+}
+
+#[test]
+fn a_text_of_end_alone_has_no_table(rt: HostRuntime) -> Result<(), Fail> {
+    let database = PropertyDatabase::from_text(rt.alloc(), "end")?;
+    for table in [
+        SetTable::XID_START,
+        SetTable::XID_CONTINUE,
+        SetTable::PATTERN_WHITE_SPACE,
+    ] {
+        assert!(rt; database.set(table).is_none(), "at {}", table.number());
+    }
+    Ok(())
+}
+
+fn fault_of(alloc: Global, text: &str) -> Option<LoadError> {
+    PropertyDatabase::from_text(alloc, text).err()
+}
+
+fn at(line: usize, kind: TableErrorKind) -> Option<LoadError> {
+    Some(LoadError::Table(TableError { line, kind }))
+}
+
+#[test]
+fn faults_of_lines_are_told(rt: HostRuntime) {
+    for (text, line, kind) in [
+        ("41\nend\n", 1, TableErrorKind::UnknownLine),
+        ("#\n\n41 42\nend\n", 3, TableErrorKind::UnknownLine),
+        ("set\nend\n", 1, TableErrorKind::UnknownLine),
+        ("set XID_Start x\nend\n", 1, TableErrorKind::UnknownLine),
+        ("map XID_Start\nend\n", 1, TableErrorKind::UnknownLine),
+        ("end end\n", 1, TableErrorKind::UnknownLine),
+        ("set XID_Start\nend\n41\n", 3, TableErrorKind::UnknownLine),
+        ("set xid_start\nend\n", 1, TableErrorKind::UnknownTable),
+        ("end\nset ASCII\n", 2, TableErrorKind::UnknownTable),
+        ("", 1, TableErrorKind::NoEnd),
+        ("set XID_Start\n41", 3, TableErrorKind::NoEnd),
+        ("set XID_Start\n41\n", 3, TableErrorKind::NoEnd),
+        ("end\n\nend\n", 3, TableErrorKind::AfterEnd),
+        ("end\nset XID_Start\n", 2, TableErrorKind::AfterEnd),
+    ] {
+        assert_eq!(rt; fault_of(rt.alloc(), text), at(line, kind), "at {text}");
+    }
+}
+
+#[test]
+fn a_second_table_of_a_name_is_told(rt: HostRuntime) {
+    for (text, line) in [
+        ("set XID_Start\nset XID_Start\nend\n", 2),
+        (
+            "set XID_Start\nset XID_Continue\n41\nset XID_Start\nend\n",
+            4,
+        ),
+        ("set XID_Start\nend\nset XID_Start\n", 3),
+    ] {
+        let expected = at(line, TableErrorKind::TableTwice);
+        assert_eq!(rt; fault_of(rt.alloc(), text), expected, "at {text}");
+    }
+}
+
+#[test]
+fn misspelled_rows_are_told(rt: HostRuntime) -> Result<(), Fail> {
+    let alloc = rt.alloc();
+    for row in ["0000041", "41-", "-41", "4G", "41-42-43", "U+41", "ends"] {
+        let text = format!(in alloc; "set XID_Start\n{row}\nend\n")?;
+        let expected = at(2, TableErrorKind::BadNumber);
+        assert_eq!(rt; fault_of(alloc, text.as_str()), expected, "at {row}");
+    }
+    Ok(())
+}
+
+#[test]
+fn rows_out_of_bounds_or_order_are_told(rt: HostRuntime) -> Result<(), Fail> {
+    let alloc = rt.alloc();
+    for (row, kind) in [
+        ("110000", TableErrorKind::TooLarge),
+        ("61-110000", TableErrorKind::TooLarge),
+        ("7A-61", TableErrorKind::RangeOrder),
+        ("5A-61", TableErrorKind::RangeOrder),
+        ("5A", TableErrorKind::RangeOrder),
+        ("30", TableErrorKind::RangeOrder),
+    ] {
+        let text = format!(in alloc; "set XID_Start\n41-5A\n\n{row}\nend\n")?;
+        assert_eq!(rt; fault_of(alloc, text.as_str()), at(4, kind), "at {row}");
+    }
+    Ok(())
+}
+
+#[test]
+fn visible_ascii_is_no_white_space(rt: HostRuntime) -> Result<(), Fail> {
+    let alloc = rt.alloc();
+    for row in ["0021", "20-21", "61", "7E"] {
+        let text = format!(in alloc; "set Pattern_White_Space\n{row}\nend\n")?;
+        let expected = at(2, TableErrorKind::SyntaxAscii);
+        assert_eq!(rt; fault_of(alloc, text.as_str()), expected, "at {row}");
+    }
+    let text = "set Pattern_White_Space\n0-20\n7F\nend\n";
+    assert_eq!(rt; fault_of(alloc, text), None);
+    Ok(())
+}
+
+#[test]
+fn ascii_that_names_never_hold_is_told(rt: HostRuntime) -> Result<(), Fail> {
+    let alloc = rt.alloc();
+    for name in ["XID_Start", "XID_Continue"] {
+        for row in ["0", "2F-30", "3A", "40", "5B-5E", "60", "7B", "7F"] {
+            let text = format!(in alloc; "set {name}\n{row}\nend\n")?;
+            let expected = at(2, TableErrorKind::SyntaxAscii);
+            assert_eq!(rt; fault_of(alloc, text.as_str()), expected, "at {name} {row}");
+        }
+        let text = format!(in alloc; "set {name}\n30-39\n41-5A\n5F\n61-7A\n80\nend\n")?;
+        assert_eq!(rt; fault_of(alloc, text.as_str()), None, "at {name}");
+    }
+    Ok(())
+}
+
+#[test]
+fn the_first_fault_is_told(rt: HostRuntime) {
+    for (text, line, kind) in [
+        ("set XID_Start\n4G\n110000\n", 2, TableErrorKind::BadNumber),
+        (
+            "set XID_Start\n21\n\n4G\nend\n",
+            2,
+            TableErrorKind::SyntaxAscii,
+        ),
+        (
+            "set XID_Start\n110000-0000041\nend\n",
+            2,
+            TableErrorKind::BadNumber,
+        ),
+        (
+            "set XID_Start\n110000-41\nend\n",
+            2,
+            TableErrorKind::TooLarge,
+        ),
+        ("set XID_Start\n2F-2E\nend\n", 2, TableErrorKind::RangeOrder),
+    ] {
+        assert_eq!(rt; fault_of(rt.alloc(), text), at(line, kind), "at {text}");
+    }
+}
+
+#[test]
+fn tables_have_their_names_and_numbers(rt: HostRuntime) {
+    for (name, table, number) in [
+        ("Pattern_White_Space", SetTable::PATTERN_WHITE_SPACE, 51),
+        ("XID_Continue", SetTable::XID_CONTINUE, 67),
+        ("XID_Start", SetTable::XID_START, 68),
+    ] {
+        assert_eq!(rt;
+            SetTable::from_name(name.as_bytes()),
+            Some(table),
+            "at {name}"
+        );
+        assert_eq!(rt; table.number(), number, "at {name}");
+    }
+    for name in ["", "XID_Star", "XID_Starts", "xid_start", "XIDS"] {
+        assert_eq!(rt; SetTable::from_name(name.as_bytes()), None, "at {name}");
+    }
+}
+
+#[test]
+fn kinds_show_their_names(rt: HostRuntime) -> Result<(), Fail> {
+    for (kind, name) in [
+        (TableErrorKind::UnknownLine, "UnknownLine"),
+        (TableErrorKind::UnknownTable, "UnknownTable"),
+        (TableErrorKind::TableTwice, "TableTwice"),
+        (TableErrorKind::BadNumber, "BadNumber"),
+        (TableErrorKind::TooLarge, "TooLarge"),
+        (TableErrorKind::RangeOrder, "RangeOrder"),
+        (TableErrorKind::ValueOutOfType, "ValueOutOfType"),
+        (TableErrorKind::BadName, "BadName"),
+        (TableErrorKind::NamesClash, "NamesClash"),
+        (TableErrorKind::SyntaxAscii, "SyntaxAscii"),
+        (TableErrorKind::ExtensionOrder, "ExtensionOrder"),
+        (TableErrorKind::StringOfOne, "StringOfOne"),
+        (TableErrorKind::StringTwice, "StringTwice"),
+        (TableErrorKind::ExtensionMissing, "ExtensionMissing"),
+        (TableErrorKind::NoEnd, "NoEnd"),
+        (TableErrorKind::AfterEnd, "AfterEnd"),
+    ] {
+        let text = format!(in rt.alloc(); "{kind}")?;
+        assert_eq!(rt; text.as_str(), name);
+    }
+    Ok(())
+}
+
+#[test]
+fn errors_show_their_names(rt: HostRuntime) -> Result<(), Fail> {
+    let fault = TableError {
+        line: 7,
+        kind: TableErrorKind::NoEnd,
+    };
+    let text = format!(in rt.alloc();
+        "{fault} {} {}",
+        LoadError::Table(fault),
+        LoadError::NoMemory
+    )?;
+    assert_eq!(rt; text.as_str(), "TableError Table NoMemory");
+    assert_eq!(rt; LoadError::from(NoMemory), LoadError::NoMemory);
+    Ok(())
+}
