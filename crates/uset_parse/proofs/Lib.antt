@@ -1,4 +1,7 @@
 pub mod TurnLemmas
 pub mod Arranging
+pub mod Fronts
 pub mod Standing
+pub mod Turning
+pub mod OpenBrackets
 pub mod OneReading

@@ -7,6 +7,7 @@ mod error;
 pub mod laws;
 mod parse;
 mod reader;
+mod stack;
 mod syntax;
 mod token;
 mod variables;
