@@ -5,15 +5,16 @@ use Rattle.uset_parse.specs.declared.bracket.Awaits.{Awaits}
 use Rattle.uset_parse.specs.declared.bracket.Awaits.TheVariants.{Element, AfterSingle, RangeEnd, End, AnchorEnd, AfterSet, RemoveOrEnd, Keep}
 use Rattle.uset_parse.specs.declared.token.Item.{Item as CodeItem}
 use Rattle.uset_parse.specs.declared.token.Item.TheVariants.{Minus, Ampersand, Dollar, Character}
+use Rattle.uset_parse.specs.declared.code_point.CodePoint.{CodePoint}
 use Rattle.uset_parse.specs.Tree.{Tree, Steps, done, add, join, remove, keep, gathers, has}
 use Rattle.uset_parse.specs.Grammar.{Item, chars, minus, ampersand, dollar, nested, Body, Tail, empty, hyphen as last_hyphen, anchor, range, members, joins, removes, keeps, goes_on}
-use Rattle.uset_parse.specs.Turn.{Effect, SetEffect, turn, set_turn, ending, item_seen, adds}
+use Rattle.uset_parse.specs.Turn.{Effect, SetEffect, number_of, adds_single, turn, set_turn, ending, item_seen, adds}
 
 -- the items to come and their steps complete the body
 abbrev pub Residual : Awaits → List Item → Steps → Type 0
 Residual Element is steps = Body is steps
-Residual (AfterSingle a) is steps = Body (chars (a ∷ []) ∷ is) steps
-Residual (RangeEnd a) is steps = Body (chars (a ∷ []) ∷ minus ∷ is) steps
+Residual (AfterSingle a) is steps = Body (chars (number_of a ∷ []) ∷ is) steps
+Residual (RangeEnd a) is steps = Body (chars (number_of a ∷ []) ∷ minus ∷ is) steps
 Residual End is steps = Body (minus ∷ is) steps
 Residual AnchorEnd is steps = Body (dollar ∷ is) steps
 Residual AfterSet is steps = Tail is steps
@@ -57,7 +58,7 @@ leaves_ampersand Keep = tt
 
 leaves_dollar : (awaits : Awaits) → Leaves awaits dollar (turn awaits Dollar)
 leaves_dollar Element = λ is steps h. record { steps = steps; residual = h; same = λ c b. refl }
-leaves_dollar (AfterSingle a) = λ is steps h. record { steps = add a a steps; residual = members h; same = λ c b. refl }
+leaves_dollar (AfterSingle a) = λ is steps h. record { steps = add (number_of a) (number_of a) steps; residual = members h; same = λ c b. refl }
 leaves_dollar (RangeEnd a) = tt
 leaves_dollar End = tt
 leaves_dollar AnchorEnd = tt
@@ -65,14 +66,14 @@ leaves_dollar AfterSet = λ is steps h. record { steps = steps; residual = goes_
 leaves_dollar RemoveOrEnd = tt
 leaves_dollar Keep = tt
 
-leaves_range : (a b : ℕ) (t : Bool) → nat_le a b ≡ t → Leaves (RangeEnd a) (chars (b ∷ [])) (cond t (Some (adds a b, Element)) None)
-leaves_range a b true le = λ is steps h. record { steps = add a b steps; residual = range (leb-true a b le) h; same = λ c x. refl }
+leaves_range : (a b : CodePoint) (t : Bool) → nat_le (number_of a) (number_of b) ≡ t → Leaves (RangeEnd a) (chars (number_of b ∷ [])) (cond t (Some (adds (number_of a) (number_of b), Element)) None)
+leaves_range a b true le = λ is steps h. record { steps = add (number_of a) (number_of b) steps; residual = range (leb-true (number_of a) (number_of b) le) h; same = λ c x. refl }
 leaves_range a b false le = tt
 
-leaves_character : (awaits : Awaits) (c : ℕ) → Leaves awaits (chars (c ∷ [])) (turn awaits (Character c))
+leaves_character : (awaits : Awaits) (c : CodePoint) → Leaves awaits (chars (number_of c ∷ [])) (turn awaits (Character c))
 leaves_character Element c = λ is steps h. record { steps = steps; residual = h; same = λ d b. refl }
-leaves_character (AfterSingle a) c = λ is steps h. record { steps = add a a steps; residual = members h; same = λ d b. refl }
-leaves_character (RangeEnd a) c = leaves_range a c (nat_le a c) refl
+leaves_character (AfterSingle a) c = λ is steps h. record { steps = add (number_of a) (number_of a) steps; residual = members h; same = λ d b. refl }
+leaves_character (RangeEnd a) c = leaves_range a c (nat_le (number_of a) (number_of c)) refl
 leaves_character End c = tt
 leaves_character AnchorEnd c = tt
 leaves_character AfterSet c = λ is steps h. record { steps = steps; residual = goes_on h; same = λ d b. refl }
@@ -99,13 +100,8 @@ no_anchor_first i is steps h = elim h [ ]
 no_ampersand_first : (is : List Item) (steps : Steps) → Body (ampersand ∷ is) steps → ⊥
 no_ampersand_first is steps h = elim h [ ]
 
-no_ampersand_second : (a : ℕ) (is : List Item) (steps : Steps) → Body (chars (a ∷ []) ∷ ampersand ∷ is) steps → ⊥
+no_ampersand_second : (a : CodePoint) (is : List Item) (steps : Steps) → Body (chars (number_of a ∷ []) ∷ ampersand ∷ is) steps → ⊥
 no_ampersand_second a is _ (members h) = no_ampersand_first is _ h
-
--- what stands behind a hyphen that follows a single character
-no_range : (a : ℕ) (i : Item) (is : List Item) (steps : Steps) → ((b : ℕ) → i ≡ chars (b ∷ []) → ⊥) → Body (chars (a ∷ []) ∷ minus ∷ i ∷ is) steps → ⊥
-no_range a i is _ other (range {b} le h) = other b refl
-no_range a i is _ other (members h) = no_hyphen_first i is _ h
 
 follows_minus : (awaits : Awaits) (is : List Item) (steps : Steps) → Residual awaits (minus ∷ is) steps → Follows is steps (turn awaits Minus)
 follows_minus Element is steps h = (steps, h, λ c b. refl)
@@ -137,20 +133,20 @@ follows_dollar AfterSet is steps (goes_on h) = (steps, h, λ c b. refl)
 follows_dollar RemoveOrEnd is steps (goes_on h) = no_hyphen_first dollar is steps h
 follows_dollar Keep is steps (goes_on h) = no_ampersand_first (dollar ∷ is) steps h
 
-follows_range : (a b : ℕ) (is : List Item) (steps : Steps) → Body (chars (a ∷ []) ∷ minus ∷ chars (b ∷ []) ∷ is) steps → Follows is steps (cond (nat_le a b) (Some (adds a b, Element)) None)
+follows_range : (a b : CodePoint) (is : List Item) (steps : Steps) → Body (chars (number_of a ∷ []) ∷ minus ∷ chars (number_of b ∷ []) ∷ is) steps → Follows is steps (cond (nat_le (number_of a) (number_of b)) (Some (adds (number_of a) (number_of b), Element)) None)
 follows_range a b is _ (range {steps = rest} le h) =
-    subst (λ t. Follows is (add a b rest) (cond t (Some (adds a b, Element)) None)) (sym (le-leb a b le)) (rest, h, λ c x. refl)
-follows_range a b is _ (members h) = absurd (no_hyphen_first (chars (b ∷ [])) is _ h)
+    subst (λ t. Follows is (add (number_of a) (number_of b) rest) (cond t (Some (adds (number_of a) (number_of b), Element)) None)) (sym (le-leb (number_of a) (number_of b) le)) (rest, h, λ c x. refl)
+follows_range a b is _ (members h) = absurd (no_hyphen_first (chars (number_of b ∷ [])) is _ h)
 
-follows_character : (awaits : Awaits) (c : ℕ) (is : List Item) (steps : Steps) → Residual awaits (chars (c ∷ []) ∷ is) steps → Follows is steps (turn awaits (Character c))
+follows_character : (awaits : Awaits) (c : CodePoint) (is : List Item) (steps : Steps) → Residual awaits (chars (number_of c ∷ []) ∷ is) steps → Follows is steps (turn awaits (Character c))
 follows_character Element c is steps h = (steps, h, λ d b. refl)
 follows_character (AfterSingle a) c is _ (members {steps = rest} h) = (rest, h, λ d b. refl)
 follows_character (RangeEnd a) c is steps h = follows_range a c is steps h
-follows_character End c is steps h = no_hyphen_first (chars (c ∷ [])) is steps h
-follows_character AnchorEnd c is steps h = no_anchor_first (chars (c ∷ [])) is steps h
+follows_character End c is steps h = no_hyphen_first (chars (number_of c ∷ [])) is steps h
+follows_character AnchorEnd c is steps h = no_anchor_first (chars (number_of c ∷ [])) is steps h
 follows_character AfterSet c is steps (goes_on h) = (steps, h, λ d b. refl)
-follows_character RemoveOrEnd c is steps (goes_on h) = no_hyphen_first (chars (c ∷ [])) is steps h
-follows_character Keep c is steps (goes_on h) = no_ampersand_first (chars (c ∷ []) ∷ is) steps h
+follows_character RemoveOrEnd c is steps (goes_on h) = no_hyphen_first (chars (number_of c ∷ [])) is steps h
+follows_character Keep c is steps (goes_on h) = no_ampersand_first (chars (number_of c ∷ []) ∷ is) steps h
 
 pub follows : (awaits : Awaits) (i : CodeItem) (is : List Item) (steps : Steps) → Residual awaits (item_seen i ∷ is) steps → Follows is steps (turn awaits i)
 follows awaits Minus = follows_minus awaits
@@ -166,7 +162,7 @@ LeavesSet awaits tree (Some effect) =
 
 pub leaves_set : (awaits : Awaits) (tree : Tree) → LeavesSet awaits tree (set_turn awaits)
 leaves_set Element tree = λ is steps h. record { steps = join tree steps; residual = joins h; same = λ c b. refl }
-leaves_set (AfterSingle a) tree = λ is steps h. record { steps = add a a (join tree steps); residual = members (joins h); same = λ c b. refl }
+leaves_set (AfterSingle a) tree = λ is steps h. record { steps = add (number_of a) (number_of a) (join tree steps); residual = members (joins h); same = λ c b. refl }
 leaves_set (RangeEnd a) tree = tt
 leaves_set End tree = tt
 leaves_set AnchorEnd tree = tt
@@ -183,9 +179,9 @@ FollowsSet tree is steps (Some effect) =
 follows_joined : (tree : Tree) (is : List Item) (steps : Steps) → Body (nested tree ∷ is) steps → FollowsSet tree is steps (set_turn Element)
 follows_joined tree is _ (joins {steps = rest} h) = (rest, h, λ c b. refl)
 
-follows_single : (a : ℕ) (tree : Tree) (is : List Item) (steps : Steps) → Body (chars (a ∷ []) ∷ nested tree ∷ is) steps → FollowsSet tree is steps (set_turn (AfterSingle a))
+follows_single : (a : CodePoint) (tree : Tree) (is : List Item) (steps : Steps) → Body (chars (number_of a ∷ []) ∷ nested tree ∷ is) steps → FollowsSet tree is steps (set_turn (AfterSingle a))
 follows_single a tree is _ (members {steps = rest} h) =
-    let joined = follows_joined tree is rest h in (joined.0, joined.1, λ c b. joined.2 c (adds a a c b))
+    let joined = follows_joined tree is rest h in (joined.0, joined.1, λ c b. joined.2 c (adds_single a c b))
 
 pub follows_set : (awaits : Awaits) (tree : Tree) (is : List Item) (steps : Steps) → Residual awaits (nested tree ∷ is) steps → FollowsSet tree is steps (set_turn awaits)
 follows_set Element tree is steps h = follows_joined tree is steps h
@@ -214,11 +210,11 @@ only_hyphen _ last_hyphen c b = refl
 only_anchor : (steps : Steps) → Body (dollar ∷ []) steps → (c : ℕ) (b : Bool) → gathers steps c b ≡ adds 0xFFFF 0xFFFF c b
 only_anchor _ anchor c b = refl
 
-only_single : (a : ℕ) (steps : Steps) → Body (chars (a ∷ []) ∷ []) steps → (c : ℕ) (b : Bool) → gathers steps c b ≡ adds a a c b
-only_single a _ (members {steps = rest} h) c b = only_done rest h c (adds a a c b)
+only_single : (a : CodePoint) (steps : Steps) → Body (chars (number_of a ∷ []) ∷ []) steps → (c : ℕ) (b : Bool) → gathers steps c b ≡ adds_single a c b
+only_single a _ (members {steps = rest} h) c b = only_done rest h c (adds_single a c b)
 
-only_single_hyphen : (a : ℕ) (steps : Steps) → Body (chars (a ∷ []) ∷ minus ∷ []) steps → (c : ℕ) (b : Bool) → gathers steps c b ≡ adds 0x2D 0x2D c (adds a a c b)
-only_single_hyphen a _ (members {steps = rest} h) c b = only_hyphen rest h c (adds a a c b)
+only_single_hyphen : (a : CodePoint) (steps : Steps) → Body (chars (number_of a ∷ []) ∷ minus ∷ []) steps → (c : ℕ) (b : Bool) → gathers steps c b ≡ adds 0x2D 0x2D c (adds_single a c b)
+only_single_hyphen a _ (members {steps = rest} h) c b = only_hyphen rest h c (adds_single a c b)
 
 only_tail : (steps : Steps) → Tail [] steps → (c : ℕ) (b : Bool) → gathers steps c b ≡ b
 only_tail steps (goes_on h) c b = only_done steps h c b
@@ -231,8 +227,8 @@ no_tail_ampersand steps (goes_on h) = no_ampersand_first [] steps h
 
 pub ends_by : (awaits : Awaits) → EndsBy awaits (ending awaits)
 ends_by Element = (record { steps = done; residual = empty; same = λ c b. refl }, only_done)
-ends_by (AfterSingle a) = (record { steps = add a a done; residual = members empty; same = λ c b. refl }, only_single a)
-ends_by (RangeEnd a) = (record { steps = add a a (add 0x2D 0x2D done); residual = members last_hyphen; same = λ c b. refl }, only_single_hyphen a)
+ends_by (AfterSingle a) = (record { steps = add (number_of a) (number_of a) done; residual = members empty; same = λ c b. refl }, only_single a)
+ends_by (RangeEnd a) = (record { steps = add (number_of a) (number_of a) (add 0x2D 0x2D done); residual = members last_hyphen; same = λ c b. refl }, only_single_hyphen a)
 ends_by End = (record { steps = add 0x2D 0x2D done; residual = last_hyphen; same = λ c b. refl }, only_hyphen)
 ends_by AnchorEnd = (record { steps = add 0xFFFF 0xFFFF done; residual = anchor; same = λ c b. refl }, only_anchor)
 ends_by AfterSet = (record { steps = done; residual = goes_on empty; same = λ c b. refl }, only_tail)

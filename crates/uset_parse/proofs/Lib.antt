@@ -1,5 +1,6 @@
 pub mod TurnLemmas
 pub mod Arranging
+pub mod EscapeLemmas
 pub mod Fronts
 pub mod Standing
 pub mod Turning

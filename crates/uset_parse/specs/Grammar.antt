@@ -1,8 +1,9 @@
 -- The grammar of UnicodeSet patterns (UTS 35, Unicode Sets, as far as it is read): a pattern is one bracket at the front of a
--- source, of characters, ranges and further brackets, and what follows it is free.
+-- source, of characters, escapes, ranges and further brackets, and what follows it is free.
 use Rattle.std.specs.Prelude.{◌≡◌, ℕ, ◌≤◌, Bool, ◌||◌, ◌==◌, List, [], ◌∷◌, Option, Some, None, is_some, if◌then◌else◌}
 use Rattle.prop_data.specs.Tables.{Tables}
 use Rattle.uset_parse.specs.Text.{Text, ◌>>=◌, skip, behind, optional, begins_with}
+use Rattle.uset_parse.specs.Escape.{escape}
 use Rattle.uset_parse.specs.Tree.{Tree, Steps, bracket, done, add, join, remove, keep}
 
 -- The three tables that the grammar reads by: white space of patterns, and the characters that begin and continue a name
@@ -37,9 +38,9 @@ pub data Token : Type 0 where
   close : Token
   item : Item → Token
 
--- the characters that begin nothing that is read: `^`, `{` and `\`
+-- the characters that begin nothing that is read: `^` and `{`
 abbrev pub is_special : ℕ → Bool
-is_special c = (c == 0x5E) || (c == 0x7B) || (c == 0x5C)
+is_special c = (c == 0x5E) || (c == 0x7B)
 
 module _ (syntax : Syntax) where
   -- a caret or none at once, white space, and a hyphen or none; and what stands behind
@@ -64,6 +65,7 @@ module _ (syntax : Syntax) where
       else if c == 0x2D then Some (item minus, t)
       else if c == 0x26 then Some (item ampersand, t)
       else if c == 0x24 then (if begins_with syntax.start t then None else Some (item dollar, t))
+      else if c == 0x5C then (escape syntax.white_space t >>= λ e. Some (item (chars (e.0 ∷ [])), e.1))
       else if is_special c then None
       else Some (item (chars (c ∷ [])), t)
 

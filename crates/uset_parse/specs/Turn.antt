@@ -1,6 +1,8 @@
 -- What one token makes of the brackets that are open.
 use Rattle.std.specs.Prelude.{◌≡◌, ℕ, Bool, not, ◌&&◌, ◌||◌, ◌==◌, nat_le, List, [], ◌∷◌, ◌++◌, Option, Some, None, if◌then◌else◌, Result, Ok, Err}
 use Rattle.cp_invlist.specs.InversionList.{contains, is_code_point}
+use Rattle.uset_parse.specs.declared.code_point.CodePoint.{CodePoint}
+use Rattle.uset_parse.specs.declared.code_point.CodePoint.TheVariants.{Scalar, Surrogate}
 use Rattle.uset_parse.specs.declared.token.Token.{Token as CodeToken}
 use Rattle.uset_parse.specs.declared.token.Token.TheVariants.{Open, Close, Item as OneItem}
 use Rattle.uset_parse.specs.declared.token.Item.{Item as CodeItem}
@@ -18,12 +20,17 @@ use Rattle.uset_parse.specs.declared.stack.Progress.{Progress}
 use Rattle.uset_parse.specs.declared.stack.Progress.TheVariants.{GoesOn, Done}
 use Rattle.uset_parse.specs.Grammar.{Opening, Token, opens, close, item, Item, chars, minus, ampersand, dollar}
 
+-- the number of a code point
+abbrev pub number_of : CodePoint → ℕ
+number_of (Scalar c) = c
+number_of (Surrogate n) = n
+
 -- an item as the code keeps it
 abbrev pub item_seen : CodeItem → Item
 item_seen Minus = minus
 item_seen Ampersand = ampersand
 item_seen Dollar = dollar
-item_seen (Character c) = chars (c ∷ [])
+item_seen (Character c) = chars (number_of c ∷ [])
 
 -- what a bracket begins with, as the code keeps it
 abbrev pub opening_seen : CodeOpening → Opening
@@ -46,6 +53,10 @@ nothing = λ c b. b
 abbrev pub adds : ℕ → ℕ → Effect
 adds first last = λ c b. b || (nat_le first c && nat_le c last)
 
+-- adds the code point
+abbrev pub adds_single : CodePoint → Effect
+adds_single a = adds (number_of a) (number_of a)
+
 -- one effect, and then another
 abbrev pub both : Effect → Effect → Effect
 both first second = λ c b. second c (first c b)
@@ -62,12 +73,12 @@ turn Element Dollar = Some (nothing, AnchorEnd)
 turn Element (Character c) = Some (nothing, AfterSingle c)
 turn (AfterSingle a) Minus = Some (nothing, RangeEnd a)
 turn (AfterSingle a) Ampersand = None
-turn (AfterSingle a) Dollar = Some (adds a a, AnchorEnd)
-turn (AfterSingle a) (Character c) = Some (adds a a, AfterSingle c)
+turn (AfterSingle a) Dollar = Some (adds_single a, AnchorEnd)
+turn (AfterSingle a) (Character c) = Some (adds_single a, AfterSingle c)
 turn (RangeEnd a) Minus = None
 turn (RangeEnd a) Ampersand = None
 turn (RangeEnd a) Dollar = None
-turn (RangeEnd a) (Character b) = if nat_le a b then Some (adds a b, Element) else None
+turn (RangeEnd a) (Character b) = if nat_le (number_of a) (number_of b) then Some (adds (number_of a) (number_of b), Element) else None
 turn End i = None
 turn AnchorEnd i = None
 turn AfterSet Minus = Some (nothing, RemoveOrEnd)
@@ -84,7 +95,7 @@ SetEffect = ℕ → Bool → Bool → Bool
 -- what a set does to a bracket that awaits something, if it fits there
 abbrev pub set_turn : Awaits → Option SetEffect
 set_turn Element = Some (λ c b x. b || x)
-set_turn (AfterSingle a) = Some (λ c b x. adds a a c b || x)
+set_turn (AfterSingle a) = Some (λ c b x. adds_single a c b || x)
 set_turn (RangeEnd a) = None
 set_turn End = None
 set_turn AnchorEnd = None
@@ -95,8 +106,8 @@ set_turn Keep = Some (λ c b x. b && x)
 -- what the end does to a bracket that awaits something, if it fits there
 abbrev pub ending : Awaits → Option Effect
 ending Element = Some nothing
-ending (AfterSingle a) = Some (adds a a)
-ending (RangeEnd a) = Some (both (adds a a) hyphen)
+ending (AfterSingle a) = Some (adds_single a)
+ending (RangeEnd a) = Some (both (adds_single a) hyphen)
 ending End = Some hyphen
 ending AnchorEnd = Some (adds 0xFFFF 0xFFFF)
 ending AfterSet = Some nothing

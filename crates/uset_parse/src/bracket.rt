@@ -1,4 +1,5 @@
 //! An open bracket.
+use crate::code_point::{CodePoint, is_ordered, number};
 use crate::error::{ParseError, ParseErrorKind};
 use crate::token::{Item, Opening};
 use cp_invlist::{CodePointInversionList, CodePointInversionListBuilder, CodePointRange};
@@ -10,9 +11,9 @@ pub(crate) enum Awaits {
     /// An element, or the end.
     Element,
     /// A single character was read: an element, a hyphen, or the end.
-    AfterSingle(char),
+    AfterSingle(CodePoint),
     /// A single character and a hyphen were read: the end of the range, or the end.
-    RangeEnd(char),
+    RangeEnd(CodePoint),
     /// A hyphen that begins nothing was read: the end.
     End,
     /// A bare `$` was read: the end.
@@ -34,12 +35,12 @@ pub(crate) struct OpenBracket {
 }
 
 impl OpenBracket {
-    ghost use Rattle.std.specs.Prelude.{◌≡◌, ℕ, ◌||◌, ◌&&◌, not, nat_le, ◌==◌, ◌∷◌, [], IfOk, IfErr, OnOk};
+    ghost use Rattle.std.specs.Prelude.{◌≡◌, ◌≤◌, ℕ, ◌||◌, ◌&&◌, not, nat_le, ◌==◌, ◌∷◌, [], IfOk, IfErr, OnOk};
     ghost use Rattle.cp_invlist.specs.InversionList.{contains};
     ghost use Rattle.uset_parse.specs.declared.error.ParseErrorKind.TheVariants.{NoMemory as OutOfMemory};
     ghost use Rattle.uset_parse.specs.declared.token.Item.TheVariants.{Minus, Ampersand, Dollar, Character};
     ghost use Rattle.uset_parse.specs.Fault.{kind_of};
-    ghost use Rattle.uset_parse.specs.Turn.{adds, finished, Becomes, IsFresh, Takes, TakesSet, Ends, Closes};
+    ghost use Rattle.uset_parse.specs.Turn.{adds, adds_single, finished, Becomes, IsFresh, Takes, TakesSet, Ends, Closes};
 
     /// A bracket behind its opening.
     pub(crate) fn open(alloc: Global, opening: Opening) -> Result<OpenBracket, ParseError>
@@ -123,7 +124,7 @@ impl OpenBracket {
                 Ok(self)
             }
             Awaits::AfterSingle(first) => {
-                self.add_range(first, first)?;
+                self.add_single(first)?;
                 self.awaits = Awaits::AnchorEnd;
                 Ok(self)
             }
@@ -135,8 +136,8 @@ impl OpenBracket {
         }
     }
 
-    /// Takes a character that stands for itself.
-    fn take_character(mut self, c: char) -> Result<OpenBracket, ParseError>
+    /// Takes a single code point.
+    fn take_character(mut self, c: CodePoint) -> Result<OpenBracket, ParseError>
         ensures { Takes self (Character c) result }
     {
         match self.awaits {
@@ -145,12 +146,12 @@ impl OpenBracket {
                 Ok(self)
             }
             Awaits::AfterSingle(first) => {
-                self.add_range(first, first)?;
+                self.add_single(first)?;
                 self.awaits = Awaits::AfterSingle(c);
                 Ok(self)
             }
-            Awaits::RangeEnd(first) if first <= c => {
-                self.add_range(first, c)?;
+            Awaits::RangeEnd(first) if is_ordered(first, c) => {
+                self.add_range(number(first), number(c))?;
                 self.awaits = Awaits::Element;
                 Ok(self)
             }
@@ -172,7 +173,7 @@ impl OpenBracket {
         match self.awaits {
             Awaits::Element | Awaits::AfterSet => self.builder.add_set(set)?,
             Awaits::AfterSingle(first) => {
-                self.add_range(first, first)?;
+                self.add_single(first)?;
                 self.builder.add_set(set)?;
             }
             Awaits::RemoveOrEnd => self.builder.remove_set(set)?,
@@ -199,20 +200,20 @@ impl OpenBracket {
         match self.awaits {
             Awaits::Element | Awaits::AfterSet => Ok(self),
             Awaits::AfterSingle(first) => {
-                self.add_range(first, first)?;
+                self.add_single(first)?;
                 Ok(self)
             }
             Awaits::RangeEnd(first) => {
-                self.add_range(first, first)?;
-                self.add_range('-', '-')?;
+                self.add_single(first)?;
+                self.add_range(0x2D, 0x2D)?;
                 Ok(self)
             }
             Awaits::End | Awaits::RemoveOrEnd => {
-                self.add_range('-', '-')?;
+                self.add_range(0x2D, 0x2D)?;
                 Ok(self)
             }
             Awaits::AnchorEnd => {
-                self.add_range('\u{FFFF}', '\u{FFFF}')?;
+                self.add_range(0xFFFF, 0xFFFF)?;
                 Ok(self)
             }
             Awaits::Keep => Err(ParseErrorKind::Unimplemented.into()),
@@ -231,15 +232,25 @@ impl OpenBracket {
         Ok(self.builder.build())
     }
 
-    fn add_range(&mut self, first: char, last: char) -> Result<(), ParseError>
+    fn add_single(&mut self, single: CodePoint) -> Result<(), ParseError>
+        ensures members { OnOk result (Becomes self.old.builder (adds_single single) self.new.builder) }
+        ensures awaits { self.new.awaits ≡ self.old.awaits }
+        ensures negated { self.new.negated ≡ self.old.negated }
+        ensures err { IfErr result (λ e. kind_of e ≡ OutOfMemory) }
+    {
+        self.add_range(number(single), number(single))
+    }
+
+    fn add_range(&mut self, first: u32, last: u32) -> Result<(), ParseError>
+        requires { last ≤ 0x10_FFFF }
         ensures members { OnOk result (Becomes self.old.builder (adds first last) self.new.builder) }
         ensures awaits { self.new.awaits ≡ self.old.awaits }
         ensures negated { self.new.negated ≡ self.old.negated }
         ensures err { IfErr result (λ e. kind_of e ≡ OutOfMemory) }
     {
         self.builder.add_range32(CodePointRange {
-            start: first as u32,
-            end: last as u32,
+            start: first,
+            end: last,
         })?;
         Ok(())
     }

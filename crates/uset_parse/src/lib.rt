@@ -2,8 +2,10 @@
 #![tactic(auto)]
 
 mod bracket;
+mod code_point;
 mod cursor;
 mod error;
+mod escape;
 pub mod laws;
 mod parse;
 mod reader;

@@ -6,7 +6,9 @@ ghost use Rattle.uset_parse.specs.Grammar.{is_special, token, header, opening, m
 ghost use Rattle.uset_parse.specs.Reading.{syntax_seen};
 ghost use Rattle.uset_parse.specs.Turn.{token_seen, opening_seen};
 
+use crate::code_point::CodePoint;
 use crate::cursor::{skip_white_space, split_first, strip, strip_optional};
+use crate::escape::read_escape;
 use crate::syntax::Syntax;
 
 /// What a bracket begins with.
@@ -27,8 +29,8 @@ pub(crate) enum Item {
     Ampersand,
     /// `$` that begins no name.
     Dollar,
-    /// A character that stands for itself.
-    Character(char),
+    /// A character that stands for itself, or an escape of one code point.
+    Character(CodePoint),
 }
 
 /// What stands in a bracket.
@@ -46,7 +48,7 @@ pub(crate) enum Token {
 fn is_special(c: char) -> bool
     ensures { result ≡ is_special c }
 {
-    c == '^' || c == '{' || c == '\\'
+    c == '^' || c == '{'
 }
 
 /// Whether a character that begins a name stands in front.
@@ -75,8 +77,12 @@ pub(crate) fn read_token<'a>(syntax: &Syntax<'_>, text: &'a str) -> Option<(Toke
         '&' => Some((Token::Item(Item::Ampersand), rest)),
         '$' if begins_name(syntax, rest) => None,
         '$' => Some((Token::Item(Item::Dollar), rest)),
+        '\\' => {
+            let (c, behind) = read_escape(syntax, rest)?;
+            Some((Token::Item(Item::Character(c)), behind))
+        }
         _ if is_special(first) => None,
-        _ => Some((Token::Item(Item::Character(first)), rest)),
+        _ => Some((Token::Item(Item::Character(CodePoint::Scalar(first))), rest)),
     }
 }
 
