@@ -1,5 +1,5 @@
 //! An open bracket.
-use crate::code_point::{CodePoint, is_ordered, number};
+use crate::code_point::CodePoint;
 use crate::error::{ParseError, ParseErrorKind};
 use crate::token::{Item, Opening};
 use cp_invlist::{CodePointInversionList, CodePointInversionListBuilder, CodePointRange};
@@ -150,8 +150,8 @@ impl OpenBracket {
                 self.awaits = Awaits::AfterSingle(c);
                 Ok(self)
             }
-            Awaits::RangeEnd(first) if is_ordered(first, c) => {
-                self.add_range(number(first), number(c))?;
+            Awaits::RangeEnd(first) if first.is_at_most(c) => {
+                self.add_range(first.number(), c.number())?;
                 self.awaits = Awaits::Element;
                 Ok(self)
             }
@@ -238,7 +238,7 @@ impl OpenBracket {
         ensures negated { self.new.negated ≡ self.old.negated }
         ensures err { IfErr result (λ e. kind_of e ≡ OutOfMemory) }
     {
-        self.add_range(number(single), number(single))
+        self.add_range(single.number(), single.number())
     }
 
     fn add_range(&mut self, first: u32, last: u32) -> Result<(), ParseError>

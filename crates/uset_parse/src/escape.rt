@@ -6,7 +6,7 @@ ghost use Rattle.uset_parse.specs.Text.{behind};
 ghost use Rattle.uset_parse.specs.Reading.{syntax_seen};
 ghost use Rattle.uset_parse.specs.Turn.{number_of};
 
-use crate::code_point::{CodePoint, code_point};
+use crate::code_point::CodePoint;
 use crate::cursor::{skip_white_space, split_first, strip};
 use crate::syntax::Syntax;
 
@@ -157,5 +157,5 @@ pub(crate) fn read_escape<'a>(syntax: &Syntax<'_>, text: &'a str) -> Option<(Cod
 {
     let (first, rest) = split_first(text)?;
     let (number, rest) = read_value(syntax, first, rest)?;
-    Some((code_point(number)?, rest))
+    Some((CodePoint::from_number(number)?, rest))
 }

@@ -16,5 +16,5 @@ pub returns-in_ok-add_range-in-RangeEnd : goal.returns-in_ok-add_range-in-RangeE
 returns-in_ok-add_range-in-RangeEnd c =
     let first = c.in-RangeEnd.first in
     took _ _ _ _ (adds (number_of first) (number_of c.args.c)) c.in-RangeEnd.is
-    (cond-true (nat_le (number_of first) (number_of c.args.c)) _ _ (sym c.is_ordered.ensures ∙ c.if-is_ordered.true))
+    (cond-true (nat_le (number_of first) (number_of c.args.c)) _ _ (sym c.is_at_most.ensures ∙ c.if-is_at_most.true))
     (rw (c.number.ensures.value, c.number-in-RangeEnd.ensures.value) at c.in_ok-add_range-in-RangeEnd.ensures.members) c.in_ok-add_range-in-RangeEnd.ensures.negated
