@@ -17,3 +17,6 @@ mod variables;
 pub use error::{ParseError, ParseErrorKind};
 pub use parse::parse_unstable_with_variables;
 pub use variables::VariableMap;
+
+#[cfg(test)]
+mod tests;
