@@ -1,8 +1,9 @@
 -- The grammar and the denotation, computed on small patterns.
 use Rattle.std.proofs.Common.{◌≡◌, true, false, ◌==◌, [], None, Some, codes, refl, arith}
 use Rattle.uset_parse.specs.Text.{skip}
-use Rattle.uset_parse.specs.Tree.{Tree, bracket, done, add, has}
-use Rattle.uset_parse.specs.Grammar.{Syntax, close, token, header, reads_bracket, reads, ends, range, members, hyphen, empty, ReadsSet}
+use Rattle.uset_parse.specs.Escape.{escape, value, plain, two_digits, digit, braced, number, optional_digit}
+use Rattle.uset_parse.specs.Tree.{Tree, bracket, done, add, join, remove, keep, has}
+use Rattle.uset_parse.specs.Grammar.{Syntax, close, token, header, reads_bracket, reads, nests, ends, range, members, hyphen, empty, joins, removes, keeps, goes_on, ReadsSet}
 use Rattle.uset_parse.specs.Fault.{shown}
 use Rattle.uset_parse.specs.declared.error.ParseErrorKind.TheVariants.{Internal, Unimplemented}
 
@@ -16,11 +17,30 @@ space_is_skipped = refl
 closing_behind_space : token spaced (codes " ]x") ≡ Some (close, codes "x")
 closing_behind_space = refl
 
-ampersand_is_no_token : token spaced (codes "&b]") ≡ None
-ampersand_is_no_token = refl
+brace_is_no_token : token spaced (codes "{b}]") ≡ None
+brace_is_no_token = refl
 
-leading_hyphen : header spaced (codes "[ - a]") ≡ Some (true, codes " a]")
+leading_hyphen : header spaced (codes "[ - a]") ≡ Some (record { negated = false; leading = true }, codes " a]")
 leading_hyphen = refl
+
+negation : header spaced (codes "[^a]") ≡ Some (record { negated = true; leading = false }, codes "a]")
+negation = refl
+
+two_digits_escape : escape spaced.white_space (codes "x41]") ≡ Some (0x41, codes "]")
+unfolding escape value two_digits digit
+two_digits_escape = refl
+
+tab_escape : escape spaced.white_space (codes "t]") ≡ Some (0x09, codes "]")
+unfolding escape value plain
+tab_escape = refl
+
+braced_escape : escape spaced.white_space (codes "u{ d800 }]") ≡ Some (0xD800, codes "]")
+unfolding escape value braced number optional_digit digit
+braced_escape = refl
+
+past_the_last_code_point : escape spaced.white_space (codes "u{110000}]") ≡ None
+unfolding escape value braced number optional_digit digit
+past_the_last_code_point = refl
 
 property_is_no_header : header spaced (codes "[:a:]") ≡ None
 property_is_no_header = refl
@@ -53,6 +73,39 @@ leading_hyphen_is_read = reads_bracket refl (reads refl (ends refl)) (members em
 
 hyphen_is_member : has (bracket false true (add 0x61 0x61 done)) 0x2D ≡ true
 hyphen_is_member = refl
+
+-- `[^[^a-z]]`: what is not in the complement
+abbrev complement_twice : Tree
+complement_twice = bracket true false (join (bracket true false (add 0x61 0x7A done)) done)
+
+complement_twice_is_read : ReadsSet spaced (codes "[^[^a-z]]") complement_twice []
+complement_twice_is_read =
+    reads_bracket refl (nests refl (reads refl (reads refl (reads refl (ends refl)))) (range (omega arith) empty) (ends refl)) (joins (goes_on empty))
+
+complement_twice_has_letter : has complement_twice 0x6D ≡ true
+complement_twice_has_letter = refl
+
+complement_twice_lacks_digit : has complement_twice 0x30 ≡ false
+complement_twice_lacks_digit = refl
+
+-- `[[a-c]-[b]&[a]]`: each operation acts on all that was gathered
+abbrev operations : Tree
+operations =
+    bracket false false (join (bracket false false (add 0x61 0x63 done)) (remove (bracket false false (add 0x62 0x62 done)) (keep (bracket false false (add 0x61 0x61 done)) done)))
+
+operations_are_read : ReadsSet spaced (codes "[[a-c]-[b]&[a]]") operations []
+operations_are_read =
+    reads_bracket refl
+    (nests refl (reads refl (reads refl (reads refl (ends refl)))) (range (omega arith) empty)
+    (reads refl (nests refl (reads refl (ends refl)) (members empty)
+    (reads refl (nests refl (reads refl (ends refl)) (members empty) (ends refl))))))
+    (joins (removes (keeps (goes_on empty))))
+
+kept_of_what_was_left : has operations 0x61 ≡ true
+kept_of_what_was_left = refl
+
+not_kept : has operations 0x63 ≡ false
+not_kept = refl
 
 shown_unimplemented : shown Unimplemented ≡ codes "error: unimplemented"
 shown_unimplemented = refl

@@ -1,5 +1,9 @@
 pub mod TurnLemmas
 pub mod Arranging
+pub mod EscapeLemmas
+pub mod Fronts
 pub mod Standing
+pub mod Turning
+pub mod OpenBrackets
 pub mod OneReading
 mod Examples

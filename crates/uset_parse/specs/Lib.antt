@@ -1,4 +1,5 @@
 pub mod Text
+pub mod Escape
 pub mod Tree
 pub mod Grammar
 pub mod Fault

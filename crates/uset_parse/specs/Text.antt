@@ -1,5 +1,5 @@
 -- Texts as lists of characters, and what stands in front of one.
-use Rattle.std.specs.Prelude.{ℕ, Bool, ◌==◌, List, [], ◌∷◌, Option, Some, None, option_and_then, if◌then◌else◌}
+use Rattle.std.specs.Prelude.{ℕ, Bool, true, false, ◌==◌, List, [], ◌∷◌, Option, Some, None, option_and_then, if◌then◌else◌}
 
 abbrev pub Text : Type 0
 Text = List ℕ
@@ -17,3 +17,16 @@ skip ws (c ∷ t) = if ws c then skip ws t else c ∷ t
 abbrev pub behind : ℕ → Text → Option Text
 behind c [] = None
 behind c (d ∷ t) = if d == c then Some t else None
+
+-- whether the character stands in front, and what stands behind it
+abbrev pub present_or : Text → Option Text → Bool × Text
+present_or t None = (false, t)
+present_or t (Some rest) = (true, rest)
+
+abbrev pub optional : ℕ → Text → Bool × Text
+optional c t = present_or t (behind c t)
+
+-- a character that passes the test stands in front
+abbrev pub begins_with : (ℕ → Bool) → Text → Bool
+begins_with test [] = false
+begins_with test (c ∷ t) = test c

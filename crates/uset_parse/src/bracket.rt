@@ -1,6 +1,7 @@
 //! An open bracket.
+use crate::code_point::CodePoint;
 use crate::error::{ParseError, ParseErrorKind};
-use crate::token::Token;
+use crate::token::{Item, Opening};
 use cp_invlist::{CodePointInversionList, CodePointInversionListBuilder, CodePointRange};
 use std::alloc::Global;
 
@@ -10,67 +11,68 @@ pub(crate) enum Awaits {
     /// An element, or the end.
     Element,
     /// A single character was read: an element, a hyphen, or the end.
-    AfterSingle(char),
+    AfterSingle(CodePoint),
     /// A single character and a hyphen were read: the end of the range, or the end.
-    RangeEnd(char),
-    /// A hyphen that begins no range was read: the end.
+    RangeEnd(CodePoint),
+    /// A hyphen that begins nothing was read: the end.
     End,
+    /// A bare `$` was read: the end.
+    AnchorEnd,
+    /// A set was read: an element, a hyphen, an ampersand, or the end.
+    AfterSet,
+    /// A set and a hyphen were read: the set that is taken away, or the end.
+    RemoveOrEnd,
+    /// A set and an ampersand were read: the set whose members are kept.
+    Keep,
 }
 
 /// A bracket whose closing `]` is still to come.
 #[derive(Drop)]
 pub(crate) struct OpenBracket {
     builder: CodePointInversionListBuilder,
+    negated: bool,
     awaits: Awaits,
 }
 
-/// What a token made of an open bracket.
-#[derive(Drop)]
-pub(crate) enum Step {
-    /// The bracket is still open.
-    Open(OpenBracket),
-    /// The bracket was closed, with this set.
-    Closed(CodePointInversionList),
-}
-
 impl OpenBracket {
-    ghost use Rattle.std.specs.Prelude.{◌≡◌, ℕ, ◌||◌, ◌&&◌, nat_le, ◌==◌, ◌∷◌, [], IfOk, IfErr, OnOk};
+    ghost use Rattle.std.specs.Prelude.{◌≡◌, ◌≤◌, ℕ, ◌||◌, ◌&&◌, not, nat_le, ◌==◌, ◌∷◌, [], IfOk, IfErr, OnOk};
     ghost use Rattle.cp_invlist.specs.InversionList.{contains};
     ghost use Rattle.uset_parse.specs.declared.error.ParseErrorKind.TheVariants.{NoMemory as OutOfMemory};
-    ghost use Rattle.uset_parse.specs.declared.token.Token.TheVariants.{Minus, Character};
+    ghost use Rattle.uset_parse.specs.declared.token.Item.TheVariants.{Minus, Ampersand, Dollar, Character};
     ghost use Rattle.uset_parse.specs.Fault.{kind_of};
-    ghost use Rattle.uset_parse.specs.Turn.{GoesOn, Closes, Gains, Takes};
+    ghost use Rattle.uset_parse.specs.Turn.{adds, adds_single, finished, Becomes, IsFresh, Takes, TakesSet, Ends, Closes};
 
-    /// A bracket behind its header, with a hyphen as its first member where `leading` is true.
-    pub(crate) fn open(alloc: Global, leading: bool) -> Result<OpenBracket, ParseError>
-        ensures members { IfOk result (λ b. (c : ℕ) → contains b.builder c ≡ (leading && (c == 0x2D))) }
-        ensures awaits { IfOk result (λ b. b.awaits ≡ Awaits.Element) }
+    /// A bracket behind its opening.
+    pub(crate) fn open(alloc: Global, opening: Opening) -> Result<OpenBracket, ParseError>
+        ensures fresh { IfOk result (λ b. IsFresh opening b) }
         ensures err { IfErr result (λ e. kind_of e ≡ OutOfMemory) }
     {
         let mut builder = CodePointInversionListBuilder::new(alloc);
-        if leading {
+        if opening.leading {
             builder.add_char('-')?;
         }
         Ok(OpenBracket {
             builder,
+            negated: opening.negated,
             awaits: Awaits::Element,
         })
     }
 
-    /// Takes a token.
-    pub(crate) fn take(self, token: Token) -> Result<Step, ParseError>
-        ensures { Takes self token result }
+    /// Takes an item.
+    pub(crate) fn take(self, item: Item) -> Result<OpenBracket, ParseError>
+        ensures { Takes self item result }
     {
-        match token {
-            Token::Close => Ok(Step::Closed(self.close()?)),
-            Token::Minus => Ok(Step::Open(self.take_hyphen()?)),
-            Token::Character(c) => Ok(Step::Open(self.take_character(c)?)),
+        match item {
+            Item::Minus => self.take_minus(),
+            Item::Ampersand => self.take_ampersand(),
+            Item::Dollar => self.take_dollar(),
+            Item::Character(c) => self.take_character(c),
         }
     }
 
     /// Takes `-`.
-    fn take_hyphen(mut self) -> Result<OpenBracket, ParseError>
-        ensures { GoesOn self Minus result }
+    fn take_minus(mut self) -> Result<OpenBracket, ParseError>
+        ensures { Takes self Minus result }
     {
         match self.awaits {
             Awaits::Element => {
@@ -81,63 +83,174 @@ impl OpenBracket {
                 self.awaits = Awaits::RangeEnd(first);
                 Ok(self)
             }
-            Awaits::RangeEnd(_) | Awaits::End => Err(ParseErrorKind::Unimplemented.into()),
+            Awaits::AfterSet => {
+                self.awaits = Awaits::RemoveOrEnd;
+                Ok(self)
+            }
+            Awaits::RangeEnd(_)
+            | Awaits::End
+            | Awaits::AnchorEnd
+            | Awaits::RemoveOrEnd
+            | Awaits::Keep => Err(ParseErrorKind::Unimplemented.into()),
         }
     }
 
-    /// Takes a character that stands for itself.
-    fn take_character(mut self, c: char) -> Result<OpenBracket, ParseError>
-        ensures { GoesOn self (Character c) result }
+    /// Takes `&`.
+    fn take_ampersand(mut self) -> Result<OpenBracket, ParseError>
+        ensures { Takes self Ampersand result }
     {
         match self.awaits {
-            Awaits::Element => {
+            Awaits::AfterSet => {
+                self.awaits = Awaits::Keep;
+                Ok(self)
+            }
+            Awaits::Element
+            | Awaits::AfterSingle(_)
+            | Awaits::RangeEnd(_)
+            | Awaits::End
+            | Awaits::AnchorEnd
+            | Awaits::RemoveOrEnd
+            | Awaits::Keep => Err(ParseErrorKind::Unimplemented.into()),
+        }
+    }
+
+    /// Takes a bare `$`.
+    fn take_dollar(mut self) -> Result<OpenBracket, ParseError>
+        ensures { Takes self Dollar result }
+    {
+        match self.awaits {
+            Awaits::Element | Awaits::AfterSet => {
+                self.awaits = Awaits::AnchorEnd;
+                Ok(self)
+            }
+            Awaits::AfterSingle(first) => {
+                self.add_single(first)?;
+                self.awaits = Awaits::AnchorEnd;
+                Ok(self)
+            }
+            Awaits::RangeEnd(_)
+            | Awaits::End
+            | Awaits::AnchorEnd
+            | Awaits::RemoveOrEnd
+            | Awaits::Keep => Err(ParseErrorKind::Unimplemented.into()),
+        }
+    }
+
+    /// Takes a single code point.
+    fn take_character(mut self, c: CodePoint) -> Result<OpenBracket, ParseError>
+        ensures { Takes self (Character c) result }
+    {
+        match self.awaits {
+            Awaits::Element | Awaits::AfterSet => {
                 self.awaits = Awaits::AfterSingle(c);
                 Ok(self)
             }
             Awaits::AfterSingle(first) => {
-                self.add_range(first, first)?;
+                self.add_single(first)?;
                 self.awaits = Awaits::AfterSingle(c);
                 Ok(self)
             }
-            Awaits::RangeEnd(first) if first <= c => {
-                self.add_range(first, c)?;
+            Awaits::RangeEnd(first) if first.is_at_most(c) => {
+                self.add_range(first.number(), c.number())?;
                 self.awaits = Awaits::Element;
                 Ok(self)
             }
-            Awaits::RangeEnd(_) | Awaits::End => Err(ParseErrorKind::Unimplemented.into()),
+            Awaits::RangeEnd(_)
+            | Awaits::End
+            | Awaits::AnchorEnd
+            | Awaits::RemoveOrEnd
+            | Awaits::Keep => Err(ParseErrorKind::Unimplemented.into()),
         }
     }
 
-    /// Takes `]`. The bracket's set is what it gathered.
-    fn close(mut self) -> Result<CodePointInversionList, ParseError>
-        ensures { Closes self result }
+    /// Takes the set of a bracket inside.
+    pub(crate) fn take_set(
+        mut self,
+        set: &CodePointInversionList,
+    ) -> Result<OpenBracket, ParseError>
+        ensures { TakesSet self set.now result }
     {
         match self.awaits {
-            Awaits::Element => Ok(self.builder.build()),
+            Awaits::Element | Awaits::AfterSet => self.builder.add_set(set)?,
             Awaits::AfterSingle(first) => {
-                self.add_range(first, first)?;
-                Ok(self.builder.build())
+                self.add_single(first)?;
+                self.builder.add_set(set)?;
+            }
+            Awaits::RemoveOrEnd => self.builder.remove_set(set)?,
+            Awaits::Keep => self.builder.retain_set(set)?,
+            Awaits::RangeEnd(_) | Awaits::End | Awaits::AnchorEnd => {
+                return Err(ParseErrorKind::Unimplemented.into());
+            }
+        }
+        self.awaits = Awaits::AfterSet;
+        Ok(self)
+    }
+
+    /// Takes `]`. The answer is the bracket's set.
+    pub(crate) fn close(self) -> Result<CodePointInversionList, ParseError>
+        ensures { Closes self result }
+    {
+        self.end()?.finish()
+    }
+
+    /// Gathers what the end leaves standing for itself.
+    fn end(mut self) -> Result<OpenBracket, ParseError>
+        ensures { Ends self result }
+    {
+        match self.awaits {
+            Awaits::Element | Awaits::AfterSet => Ok(self),
+            Awaits::AfterSingle(first) => {
+                self.add_single(first)?;
+                Ok(self)
             }
             Awaits::RangeEnd(first) => {
-                self.add_range(first, first)?;
-                self.add_range('-', '-')?;
-                Ok(self.builder.build())
+                self.add_single(first)?;
+                self.add_range(0x2D, 0x2D)?;
+                Ok(self)
             }
-            Awaits::End => {
-                self.add_range('-', '-')?;
-                Ok(self.builder.build())
+            Awaits::End | Awaits::RemoveOrEnd => {
+                self.add_range(0x2D, 0x2D)?;
+                Ok(self)
             }
+            Awaits::AnchorEnd => {
+                self.add_range(0xFFFF, 0xFFFF)?;
+                Ok(self)
+            }
+            Awaits::Keep => Err(ParseErrorKind::Unimplemented.into()),
         }
     }
 
-    fn add_range(&mut self, first: char, last: char) -> Result<(), ParseError>
-        ensures members { OnOk result (Gains self.old.builder ((first, last) ∷ []) self.new.builder) }
+    /// The set of what was gathered, or of the other code points where the bracket is negated.
+    fn finish(mut self) -> Result<CodePointInversionList, ParseError>
+        ensures members { IfOk result (λ set. (c : ℕ) → contains set c ≡ finished self.negated c (contains self.builder c)) }
+        ensures err { IfErr result (λ e. kind_of e ≡ OutOfMemory) }
+    {
+        if self.negated {
+            self.builder.complement()?;
+            return Ok(self.builder.build());
+        }
+        Ok(self.builder.build())
+    }
+
+    fn add_single(&mut self, single: CodePoint) -> Result<(), ParseError>
+        ensures members { OnOk result (Becomes self.old.builder (adds_single single) self.new.builder) }
         ensures awaits { self.new.awaits ≡ self.old.awaits }
+        ensures negated { self.new.negated ≡ self.old.negated }
+        ensures err { IfErr result (λ e. kind_of e ≡ OutOfMemory) }
+    {
+        self.add_range(single.number(), single.number())
+    }
+
+    fn add_range(&mut self, first: u32, last: u32) -> Result<(), ParseError>
+        requires { last ≤ 0x10_FFFF }
+        ensures members { OnOk result (Becomes self.old.builder (adds first last) self.new.builder) }
+        ensures awaits { self.new.awaits ≡ self.old.awaits }
+        ensures negated { self.new.negated ≡ self.old.negated }
         ensures err { IfErr result (λ e. kind_of e ≡ OutOfMemory) }
     {
         self.builder.add_range32(CodePointRange {
-            start: first as u32,
-            end: last as u32,
+            start: first,
+            end: last,
         })?;
         Ok(())
     }

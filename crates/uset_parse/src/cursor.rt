@@ -2,7 +2,7 @@
 ghost use Rattle.std.specs.Prelude.{◌≡◌, ◌<◌, ◌≤◌, ◌∷◌, [], length, IfSome, MatchOption, option_map};
 ghost use Rattle.std.specs.Str.{chars};
 ghost use Rattle.cp_invlist.specs.InversionList.{contains};
-ghost use Rattle.uset_parse.specs.Text.{skip, behind};
+ghost use Rattle.uset_parse.specs.Text.{skip, behind, optional};
 
 use cp_invlist::CodePointInversionList;
 
@@ -23,6 +23,17 @@ pub(crate) fn strip(text: &str, c: char) -> Option<&str>
 {
     let (first, rest) = split_first(text)?;
     if first == c { Some(rest) } else { None }
+}
+
+/// Whether the character is the first, and the text without it there.
+pub(crate) fn strip_optional(text: &str, c: char) -> (bool, &str)
+    ensures parts { (result.0, chars result.1.now) ≡ optional c (chars text.now) }
+    ensures within { length result.1.now ≤ length text.now }
+{
+    match strip(text, c) {
+        Some(rest) => (true, rest),
+        None => (false, text),
+    }
 }
 
 /// The text without the white space in front.

@@ -2,11 +2,14 @@
 #![tactic(auto)]
 
 mod bracket;
+mod code_point;
 mod cursor;
 mod error;
+mod escape;
 pub mod laws;
 mod parse;
 mod reader;
+mod stack;
 mod syntax;
 #[cfg(test)]
 mod tests;

@@ -4,8 +4,9 @@ ghost use Rattle.std.specs.Str.{chars};
 ghost use Rattle.uset_parse.specs.Fault.{kind_of};
 ghost use Rattle.uset_parse.specs.Reading.{syntax_seen, IsFront, Unread};
 
-use crate::bracket::{OpenBracket, Step};
+use crate::bracket::OpenBracket;
 use crate::error::{ParseError, ParseErrorKind};
+use crate::stack::{Progress, turn};
 use crate::syntax::Syntax;
 use crate::token::{read_header, read_token};
 use cp_invlist::CodePointInversionList;
@@ -20,20 +21,19 @@ pub(crate) fn read_set(
     ensures read { IfOk result (λ p. IsFront (syntax_seen syntax.now) (chars source.now) (length source.now) p.0 p.1) }
     ensures unread { IfErr result (λ e. Unread (syntax_seen syntax.now) (chars source.now) (kind_of e)) }
 {
-    let Some((leading, mut rest)) = read_header(syntax, source) else {
+    let Some((opening, mut rest)) = read_header(syntax, source) else {
         return Err(ParseErrorKind::Unimplemented.into());
     };
     // The brackets that are open, the innermost last.
     let mut open = Vec::new(alloc);
-    open.push(OpenBracket::open(alloc, leading)?)?;
+    open.push(OpenBracket::open(alloc, opening)?)?;
     while let Some(bracket) = open.pop() {
         let Some((token, behind)) = read_token(syntax, rest) else {
             return Err(ParseErrorKind::Unimplemented.into());
         };
         rest = behind;
-        match bracket.take(token)? {
-            Step::Open(bracket) => open.push(bracket)?,
-            Step::Closed(set) => return Ok((set, source.len() - rest.len())),
+        if let Progress::Done(set) = turn(alloc, &mut open, bracket, token)? {
+            return Ok((set, source.len() - rest.len()));
         }
     }
     unreachable!()

@@ -20,6 +20,7 @@ fn a_bracket_at_the_front_is_read(rt: HostRuntime) -> Result<(), Fail> {
         ("[-]", &[0x2D, 0x2E], 3),
         ("[é\u{2028}a-]]", &[0x2D, 0x2E, 0x61, 0x62, 0xE9, 0xEA], 9),
         ("[a\u{10FFFF}]b]", &[0x61, 0x62, 0x10FFFF, 0x110000], 7),
+        ("[a$]", &[0x61, 0x62, 0xFFFF, 0x1_0000], 4),
     ] {
         let (set, length) = parse_unstable_with_variables(alloc, source, &variables, &database)?;
         assert_eq!(rt; set.code_points().get_inversion_list(), list, "at {source}");
@@ -30,13 +31,69 @@ fn a_bracket_at_the_front_is_read(rt: HostRuntime) -> Result<(), Fail> {
 }
 
 #[test]
+fn brackets_inside_are_joined_removed_and_kept(rt: HostRuntime) -> Result<(), Fail> {
+    let alloc = rt.alloc();
+    let database = PropertyDatabase::from_text(alloc, SYNTAX)?;
+    let variables = VariableMap::new(alloc);
+    for (source, list, read) in [
+        ("[^a]", [0, 0x61, 0x62, 0x11_0000].as_slice(), 4),
+        ("[^[^a-z]]", &[0x61, 0x7B], 9),
+        ("[[a-a][b-z] - [a-z][]]", &[], 22),
+        ("[[a-z]-[b-y]]", &[0x61, 0x62, 0x7A, 0x7B], 13),
+        ("[[a-e]&[^c]-[a]]", &[0x62, 0x63, 0x64, 0x66], 16),
+        ("[[a]-]", &[0x2D, 0x2E, 0x61, 0x62], 6),
+    ] {
+        let (set, length) = parse_unstable_with_variables(alloc, source, &variables, &database)?;
+        assert_eq!(rt; set.code_points().get_inversion_list(), list, "at {source}");
+        assert_eq!(rt; length, read, "at {source}");
+    }
+    Ok(())
+}
+
+#[test]
+fn an_escape_stands_for_its_code_point(rt: HostRuntime) -> Result<(), Fail> {
+    let alloc = rt.alloc();
+    let database = PropertyDatabase::from_text(alloc, SYNTAX)?;
+    let variables = VariableMap::new(alloc);
+    let source = "[\\u0041-\\x43\\U00010000\\u{ d800 }\\t\\ ]";
+    let (set, length) = parse_unstable_with_variables(alloc, source, &variables, &database)?;
+    assert_eq!(rt;
+        set.code_points().get_inversion_list(),
+        [
+            0x09, 0x0A, 0x20, 0x21, 0x41, 0x44, 0xD800, 0xD801, 0x1_0000, 0x1_0001
+        ]
+        .as_slice()
+    );
+    assert_eq!(rt; length, source.len());
+    Ok(())
+}
+
+#[test]
 fn what_the_grammar_does_not_read_is_unimplemented(rt: HostRuntime) -> Result<(), Fail> {
     let alloc = rt.alloc();
     let database = PropertyDatabase::from_text(alloc, SYNTAX)?;
     let variables = VariableMap::new(alloc);
     for source in [
-        "", "a", " [a]", "[", "[a", "[^a]", "[:a:]", "[b-a]", "[--a]", "[a-b-c]", "[a&b]", "[$a]",
-        "[[a]]", "[{a}]", "[\\a]",
+        "",
+        "a",
+        " [a]",
+        "[",
+        "[a",
+        "[:a:]",
+        "[b-a]",
+        "[--a]",
+        "[a-b-c]",
+        "[a&b]",
+        "[&]",
+        "[$a]",
+        "[a$b]",
+        "[a-[b]]",
+        "[[a]&]",
+        "[{a}]",
+        "[\\p]",
+        "[\\N]",
+        "[\\x4]",
+        "[\\u{110000}]",
     ] {
         let Err(error) = parse_unstable_with_variables(alloc, source, &variables, &database) else {
             panic!(rt; "{source} is read");
