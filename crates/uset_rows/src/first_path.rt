@@ -36,6 +36,30 @@ fn patterns_are_answered_with_their_ranges(rt: HostRuntime) -> Result<(), Fail> 
 }
 
 #[test]
+fn sets_inside_are_joined_removed_and_kept(rt: HostRuntime) -> Result<(), Fail> {
+    let alloc = rt.alloc();
+    let words = eval(alloc)?;
+    for (line, expected) in [
+        ("pat [[a-a][b-z] - [a-d][e-z]]", "ok 25 0065-007A\n"),
+        ("pat [[a-a][b-z] - [a-z][]]", "ok 22\n"),
+        ("pat [-[a-z]&[b]]", "ok 12 0062\n"),
+        ("pat [^[^a-z]]", "ok 9 0061-007A\n"),
+        ("pat [\\uD800-\\uD8FF]", "ok 15 D800-D8FF\n"),
+        ("pat [^\\uD800-\\uE0FF]", "ok 16 0000-D7FF E100-10FFFF\n"),
+        ("pat [$]", "ok 3 FFFF\n"),
+        ("pat [--]", "ok 4 002D\n"),
+        ("pat [-]", "ok 3 002D\n"),
+        ("pat []", "ok 2\n"),
+    ] {
+        let input = format!(in alloc; "{SYNTAX}{line}\n")?;
+        let (status, sink) = run_in_memory(alloc, &words, input.into_bytes());
+        assert_eq!(rt; sink.written(), expected.as_bytes(), "at {line}");
+        assert_eq!(rt; status.code(), 0, "at {line}");
+    }
+    Ok(())
+}
+
+#[test]
 fn a_reader_of_std_is_a_source(rt: HostRuntime) -> Result<(), Fail> {
     let mut source = StdSource::new(Cursor::new(b"ab".as_slice()));
     let mut buffer = [0u8; 4];
