@@ -34,6 +34,16 @@ def elements(count, order):
     return TABLES + "pat [" + "".join(chosen) + "]\n"
 
 
+def nested(depth):
+    """A script of one pattern of brackets inside one another."""
+    return TABLES + "pat " + "[" * depth + "a" + "]" * depth + "\n"
+
+
+def operations(count):
+    """A script of one pattern of this many sets with operations, one behind another."""
+    return TABLES + "pat [" + "[[a-z]-[b-d]&[c-x]]" * count + "]\n"
+
+
 def rows(count):
     """A table text whose first table has this many rows more, and no script."""
     head, first = TABLES.split("set XID_Start\n", 1)
@@ -65,6 +75,8 @@ def main():
     series = [("`pat` lines", lines, (100, 1_000, 10_000, 100_000)), ("rows of a table", rows, (1_000, 10_000, 100_000))]
     for order in ("ascending", "shuffled", "descending"):
         series.append((f"elements, {order}", lambda count, order=order: elements(count, order), (1_000, 10_000, 100_000)))
+    series.append(("brackets inside one another", nested, (10, 1_000, 100_000, 1_000_000)))
+    series.append(("sets with operations", operations, (10, 1_000, 100_000)))
     for name, make, counts in series:
         for count in counts:
             taken, size = seconds(program, make(count))
