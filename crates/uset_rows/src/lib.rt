@@ -9,6 +9,8 @@ use std::alloc::Global;
 use uset_tool::{Status, SureSink, SureSource, run};
 
 #[cfg(test)]
+mod errors;
+#[cfg(test)]
 mod first_path;
 #[cfg(test)]
 mod refusals;
