@@ -6,4 +6,5 @@ pub mod Standing
 pub mod Turning
 pub mod OpenBrackets
 pub mod OneReading
+pub mod GatheredLemmas
 mod Examples

@@ -1,6 +1,5 @@
 -- Where the reading stands: the brackets that are open, what each awaits, and the text to come.
 use Rattle.std.proofs.Common.{◌≡◌, ℕ, Bool, List, [], ◌∷◌, ◌++◌, Option, Some, None, refl, ap, ◌∙◌}
-use Rattle.cp_invlist.specs.InversionList.{contains}
 use Rattle.uset_parse.specs.declared.bracket.OpenBracket.{OpenBracket}
 use Rattle.uset_parse.specs.declared.bracket.Awaits.{Awaits}
 use Rattle.uset_parse.specs.declared.bracket.Awaits.TheVariants.{AfterSet}
@@ -10,6 +9,7 @@ use Rattle.uset_parse.specs.Grammar.{Syntax, Item, ReadsItems, ReadsSet}
 use Rattle.uset_parse.specs.Fault.{ReadsNothing}
 use Rattle.uset_parse.specs.Turn.{SetEffect, set_turn, finished}
 use Rattle.uset_parse.proofs.Arranging.{Residual}
+use Rattle.uset_parse.specs.Gathered.{gathered_in}
 
 -- what may come of a reading: a set and the text behind it
 abbrev pub Outcome : Type 1
@@ -27,7 +27,7 @@ pub record Completes (syntax : Syntax) (gathered : ℕ → Bool) (negated : Bool
 abbrev pub SetTaken : Syntax → OpenBracket → Option SetEffect → (ℕ → Bool) → Text → Outcome
 SetTaken syntax b None inner behind members end = ⊥
 SetTaken syntax b (Some effect) inner behind members end =
-    Completes syntax (λ c. effect c (contains b.builder c) (inner c)) b.negated AfterSet behind members end
+    Completes syntax (λ c. effect c (gathered_in b.gathered c) (inner c)) b.negated AfterSet behind members end
 
 -- the bracket takes what comes of the brackets inside it
 abbrev pub Around : Syntax → OpenBracket → Outcome → Outcome
@@ -51,7 +51,7 @@ pub record StandsAt (syntax : Syntax) (source : Text) (outer : List OpenBracket)
 
 -- where the reading of the innermost bracket stands
 abbrev pub Innermost : Syntax → Text → List OpenBracket → OpenBracket → Text → Type 0
-Innermost syntax source outer b rest = StandsAt syntax source outer (Completes syntax (contains b.builder) b.negated b.awaits rest)
+Innermost syntax source outer b rest = StandsAt syntax source outer (Completes syntax (gathered_in b.gathered) b.negated b.awaits rest)
 
 abbrev pub Leads : Outcome → Outcome → Type 0
 Leads one other = (members : ℕ → Bool) (end : Text) → one members end → other members end

@@ -14,6 +14,7 @@ use Rattle.uset_parse.specs.Turn.{Effect, SetEffect, turn, set_turn, ending, fin
 use Rattle.uset_parse.proofs.Arranging.{Residual, Leaves, leaves, Follows, follows, LeavesSet, leaves_set, FollowsSet, follows_set, EndsBy, ends_by}
 use Rattle.uset_parse.proofs.Fronts.{same_parts, behind_item, behind_close, behind_opening, no_front}
 use Rattle.uset_parse.proofs.Standing.{Outcome, Completes, SetTaken, Around, Denotes, Innermost, Leads, nothing_read, stands_on, inwards, outwards, gathered_same}
+use Rattle.uset_parse.specs.Gathered.{gathered_in}
 
 -- the rest completes a bracket of which only its opening was read
 abbrev pub Begun : Syntax → Opening → Text → Outcome
@@ -21,18 +22,18 @@ Begun syntax o rest = Completes syntax (λ c. o.leading && (c == 0x2D)) o.negate
 
 -- a bracket that gathered nothing
 begun_fresh : (syntax : Syntax) (o : CodeOpening) (b : OpenBracket) (rest : Text) → IsFresh o b →
-    Leads (Begun syntax (opening_seen o) rest) (Completes syntax (contains b.builder) b.negated b.awaits rest)
+    Leads (Begun syntax (opening_seen o) rest) (Completes syntax (gathered_in b.gathered) b.negated b.awaits rest)
 begun_fresh syntax o b rest fresh members end h =
-    let gathered = gathered_same syntax (λ c. o.leading && (c == 0x2D)) (contains b.builder) o.negated Element rest (λ c. sym (fresh.members c)) members end h in
-    subst (λ (a : Awaits). Completes syntax (contains b.builder) b.negated a rest members end) (sym fresh.awaits)
-    (subst (λ n. Completes syntax (contains b.builder) n Element rest members end) (sym fresh.negated) gathered)
+    let gathered = gathered_same syntax (λ c. o.leading && (c == 0x2D)) (gathered_in b.gathered) o.negated Element rest (λ c. sym (fresh.members c)) members end h in
+    subst (λ (a : Awaits). Completes syntax (gathered_in b.gathered) b.negated a rest members end) (sym fresh.awaits)
+    (subst (λ n. Completes syntax (gathered_in b.gathered) n Element rest members end) (sym fresh.negated) gathered)
 
 fresh_begun : (syntax : Syntax) (o : CodeOpening) (b : OpenBracket) (rest : Text) → IsFresh o b →
-    Leads (Completes syntax (contains b.builder) b.negated b.awaits rest) (Begun syntax (opening_seen o) rest)
+    Leads (Completes syntax (gathered_in b.gathered) b.negated b.awaits rest) (Begun syntax (opening_seen o) rest)
 fresh_begun syntax o b rest fresh members end h =
-    let awaits = subst (λ (a : Awaits). Completes syntax (contains b.builder) b.negated a rest members end) fresh.awaits h in
-    gathered_same syntax (contains b.builder) (λ c. o.leading && (c == 0x2D)) o.negated Element rest fresh.members members end
-    (subst (λ n. Completes syntax (contains b.builder) n Element rest members end) fresh.negated awaits)
+    let awaits = subst (λ (a : Awaits). Completes syntax (gathered_in b.gathered) b.negated a rest members end) fresh.awaits h in
+    gathered_same syntax (gathered_in b.gathered) (λ c. o.leading && (c == 0x2D)) o.negated Element rest fresh.members members end
+    (subst (λ n. Completes syntax (gathered_in b.gathered) n Element rest members end) fresh.negated awaits)
 
 begun_completes : (syntax : Syntax) (source rest end : Text) (o : Opening) (tree : Tree) (members : ℕ → Bool) → header syntax source ≡ Some (o, rest) → ReadsSet syntax source tree end →
     ((c : ℕ) → members c ≡ has tree c) → Begun syntax o rest members end
@@ -58,7 +59,7 @@ begun syntax source rest o b found fresh = record {
 
 -- a bracket that was read inside is taken as a set
 follows_taken : (syntax : Syntax) (b : OpenBracket) (turned : Option SetEffect) (tree : Tree) (more : List Item) (steps : Steps) (behind end : Text) (members : ℕ → Bool) →
-    FollowsSet tree more steps turned → ReadsItems syntax behind more end → ((c : ℕ) → members c ≡ finished b.negated c (gathers steps c (contains b.builder c))) →
+    FollowsSet tree more steps turned → ReadsItems syntax behind more end → ((c : ℕ) → members c ≡ finished b.negated c (gathers steps c (gathered_in b.gathered c))) →
     SetTaken syntax b turned (has tree) behind members end
 follows_taken syntax b None tree more steps behind end members h read same = h
 follows_taken syntax b (Some effect) tree more steps behind end members h read same = record {
@@ -66,13 +67,13 @@ follows_taken syntax b (Some effect) tree more steps behind end members h read s
   steps = h.0;
   read = read;
   residual = h.1;
-  same = λ c. same c ∙ ap (finished b.negated c) (h.2 c (contains b.builder c));
+  same = λ c. same c ∙ ap (finished b.negated c) (h.2 c (gathered_in b.gathered c));
 }
 
 taken_completes : (syntax : Syntax) (b : OpenBracket) (turned : Option SetEffect) (o : Opening) (js : List Item) (steps : Steps) (t inner behind end : Text) (set members : ℕ → Bool) →
     LeavesSet b.awaits (bracket o.negated o.leading steps) turned → token syntax t ≡ Some (opens o, inner) → ReadsItems syntax inner js behind → Body js steps →
     ((c : ℕ) → set c ≡ has (bracket o.negated o.leading steps) c) → SetTaken syntax b turned set behind members end →
-    Completes syntax (contains b.builder) b.negated b.awaits t members end
+    Completes syntax (gathered_in b.gathered) b.negated b.awaits t members end
 taken_completes syntax b None o js steps t inner behind end set members leaves_it found inside body same h = absurd h
 taken_completes syntax b (Some effect) o js steps t inner behind end set members leaves_it found inside body same h =
     let arranged = leaves_it h.items h.steps h.residual in
@@ -82,12 +83,12 @@ taken_completes syntax b (Some effect) o js steps t inner behind end set members
       read = nests found inside body h.read;
       residual = arranged.residual;
       same = λ c. h.same c
-          ∙ (ap (λ x. finished b.negated c (gathers h.steps c (effect c (contains b.builder c) x))) (same c)
-          ∙ ap (finished b.negated c) (sym (arranged.same c (contains b.builder c))));
+          ∙ (ap (λ x. finished b.negated c (gathers h.steps c (effect c (gathered_in b.gathered c) x))) (same c)
+          ∙ ap (finished b.negated c) (sym (arranged.same c (gathered_in b.gathered c))));
     }
 
 opening_there : (syntax : Syntax) (b : OpenBracket) (t inner : Text) (o : Opening) → token syntax t ≡ Some (opens o, inner) →
-    Leads (Completes syntax (contains b.builder) b.negated b.awaits t) (Around syntax b (Begun syntax o inner))
+    Leads (Completes syntax (gathered_in b.gathered) b.negated b.awaits t) (Around syntax b (Begun syntax o inner))
 opening_there syntax b t inner o found members end h =
     let inside = behind_opening syntax t inner o h.items end found h.read in
     let tree = bracket o.negated o.leading inside.steps in (
@@ -99,7 +100,7 @@ opening_there syntax b t inner o found members end h =
     )
 
 opening_back : (syntax : Syntax) (b : OpenBracket) (t inner : Text) (o : Opening) → token syntax t ≡ Some (opens o, inner) →
-    Leads (Around syntax b (Begun syntax o inner)) (Completes syntax (contains b.builder) b.negated b.awaits t)
+    Leads (Around syntax b (Begun syntax o inner)) (Completes syntax (gathered_in b.gathered) b.negated b.awaits t)
 opening_back syntax b t inner o found members end w =
     taken_completes syntax b (set_turn b.awaits) o w.2.items w.2.steps t inner w.1 end w.0 members
     (leaves_set b.awaits (bracket o.negated o.leading w.2.steps)) found w.2.read w.2.residual w.2.same w.3
@@ -114,7 +115,7 @@ opened syntax source t rest outer b inner o at found fresh =
     (begun_fresh syntax o inner rest fresh) (fresh_begun syntax o inner rest fresh)
 
 item_there : (syntax : Syntax) (b new : OpenBracket) (i : CodeItem) (t next : Text) → token syntax t ≡ Some (item (item_seen i), next) → Took b i new →
-    Leads (Completes syntax (contains b.builder) b.negated b.awaits t) (Completes syntax (contains new.builder) new.negated new.awaits next)
+    Leads (Completes syntax (gathered_in b.gathered) b.negated b.awaits t) (Completes syntax (gathered_in new.gathered) new.negated new.awaits next)
 item_there syntax b new i t next found took members end h =
     let split = behind_item syntax t next (item_seen i) h.items end found h.read in
     let rest = subst (Follows split.0 h.steps) took.turned (follows b.awaits i split.0 h.steps (subst (λ is. Residual b.awaits is h.steps) split.1 h.residual)) in
@@ -124,12 +125,12 @@ item_there syntax b new i t next found took members end h =
       read = split.2;
       residual = rest.1;
       same = λ c. h.same c
-          ∙ (ap (finished b.negated c) (rest.2 c (contains b.builder c) ∙ ap (gathers rest.0 c) (sym (took.becomes c)))
-          ∙ ap (λ n. finished n c (gathers rest.0 c (contains new.builder c))) (sym took.negated));
+          ∙ (ap (finished b.negated c) (rest.2 c (gathered_in b.gathered c) ∙ ap (gathers rest.0 c) (sym (took.becomes c)))
+          ∙ ap (λ n. finished n c (gathers rest.0 c (gathered_in new.gathered c))) (sym took.negated));
     }
 
 item_back : (syntax : Syntax) (b new : OpenBracket) (i : CodeItem) (t next : Text) → token syntax t ≡ Some (item (item_seen i), next) → Took b i new →
-    Leads (Completes syntax (contains new.builder) new.negated new.awaits next) (Completes syntax (contains b.builder) b.negated b.awaits t)
+    Leads (Completes syntax (gathered_in new.gathered) new.negated new.awaits next) (Completes syntax (gathered_in b.gathered) b.negated b.awaits t)
 item_back syntax b new i t next found took members end h =
     let arranged = (subst (Leaves b.awaits (item_seen i)) took.turned (leaves b.awaits i)) h.items h.steps h.residual in
     record {
@@ -138,8 +139,8 @@ item_back syntax b new i t next found took members end h =
       read = reads found h.read;
       residual = arranged.residual;
       same = λ c. h.same c
-          ∙ (ap (λ n. finished n c (gathers h.steps c (contains new.builder c))) took.negated
-          ∙ ap (finished b.negated c) (ap (gathers h.steps c) (took.becomes c) ∙ sym (arranged.same c (contains b.builder c))));
+          ∙ (ap (λ n. finished n c (gathers h.steps c (gathered_in new.gathered c))) took.negated
+          ∙ ap (finished b.negated c) (ap (gathers h.steps c) (took.becomes c) ∙ sym (arranged.same c (gathered_in b.gathered c))));
     }
 
 -- the innermost bracket took an item
@@ -151,20 +152,20 @@ grew syntax source t next outer b new i at found took =
 -- what comes of a bracket in front of its end
 record Over (syntax : Syntax) (b : OpenBracket) (members : ℕ → Bool) (end next : Text) (effect : Effect) : Type 0 where
   place : end ≡ next
-  same : (c : ℕ) → members c ≡ finished b.negated c (effect c (contains b.builder c))
+  same : (c : ℕ) → members c ≡ finished b.negated c (effect c (gathered_in b.gathered c))
 
 closes_there : (syntax : Syntax) (b : OpenBracket) (effect : Effect) (t next : Text) → token syntax t ≡ Some (close, next) → ending b.awaits ≡ Some effect →
-    (members : ℕ → Bool) (end : Text) → Completes syntax (contains b.builder) b.negated b.awaits t members end → Over syntax b members end next effect
+    (members : ℕ → Bool) (end : Text) → Completes syntax (gathered_in b.gathered) b.negated b.awaits t members end → Over syntax b members end next effect
 closes_there syntax b effect t next found ended members end h =
     let last = behind_close syntax t next h.items end found h.read in
     let by = subst (EndsBy b.awaits) ended (ends_by b.awaits) in
     record {
       place = last.1;
-      same = λ c. h.same c ∙ ap (finished b.negated c) (by.1 h.steps (subst (λ is. Residual b.awaits is h.steps) last.0 h.residual) c (contains b.builder c));
+      same = λ c. h.same c ∙ ap (finished b.negated c) (by.1 h.steps (subst (λ is. Residual b.awaits is h.steps) last.0 h.residual) c (gathered_in b.gathered c));
     }
 
 closes_back : (syntax : Syntax) (b : OpenBracket) (set : List ℕ) (t next : Text) → token syntax t ≡ Some (close, next) → WasClosed b set →
-    Completes syntax (contains b.builder) b.negated b.awaits t (contains set) next
+    Completes syntax (gathered_in b.gathered) b.negated b.awaits t (contains set) next
 closes_back syntax b set t next found was =
     let by = subst (EndsBy b.awaits) was.ended (ends_by b.awaits) in
     record {
@@ -172,7 +173,7 @@ closes_back syntax b set t next found was =
       steps = by.0.steps;
       read = ends found;
       residual = by.0.residual;
-      same = λ c. was.members c ∙ ap (finished b.negated c) (sym (by.0.same c (contains b.builder c)));
+      same = λ c. was.members c ∙ ap (finished b.negated c) (sym (by.0.same c (gathered_in b.gathered c)));
     }
 
 -- the outermost bracket was closed: the source is read up to here
@@ -181,22 +182,22 @@ pub closed_outside : (syntax : Syntax) (source t next : Text) (b : OpenBracket) 
 closed_outside syntax source t next b set at found was = at.sound (contains set) next (closes_back syntax b set t next found was)
 
 around_there : (syntax : Syntax) (b around next : OpenBracket) (set : List ℕ) (t behind : Text) → token syntax t ≡ Some (close, behind) → WasClosed b set → TookSet around set next →
-    Leads (Around syntax around (Completes syntax (contains b.builder) b.negated b.awaits t)) (Completes syntax (contains next.builder) next.negated next.awaits behind)
+    Leads (Around syntax around (Completes syntax (gathered_in b.gathered) b.negated b.awaits t)) (Completes syntax (gathered_in next.gathered) next.negated next.awaits behind)
 around_there syntax b around next set t behind found was took members end w =
     let over = closes_there syntax b was.effect t behind found was.ended w.0 w.1 w.2 in
     let h = subst (λ turned. SetTaken syntax around turned w.0 w.1 members end) took.turned w.3 in
-    let gathered = gathered_same syntax _ (contains next.builder) around.negated AfterSet w.1
-    (λ c. ap (took.effect c (contains around.builder c)) (over.same c ∙ sym (was.members c)) ∙ sym (took.becomes c)) members end h in
-    subst (λ u. Completes syntax (contains next.builder) next.negated next.awaits u members end) over.place
-    (subst (λ (a : Awaits). Completes syntax (contains next.builder) next.negated a w.1 members end) (sym took.awaits)
-    (subst (λ n. Completes syntax (contains next.builder) n AfterSet w.1 members end) (sym took.negated) gathered))
+    let gathered = gathered_same syntax _ (gathered_in next.gathered) around.negated AfterSet w.1
+    (λ c. ap (took.effect c (gathered_in around.gathered c)) (over.same c ∙ sym (was.members c)) ∙ sym (took.becomes c)) members end h in
+    subst (λ u. Completes syntax (gathered_in next.gathered) next.negated next.awaits u members end) over.place
+    (subst (λ (a : Awaits). Completes syntax (gathered_in next.gathered) next.negated a w.1 members end) (sym took.awaits)
+    (subst (λ n. Completes syntax (gathered_in next.gathered) n AfterSet w.1 members end) (sym took.negated) gathered))
 
 around_back : (syntax : Syntax) (b around next : OpenBracket) (set : List ℕ) (t behind : Text) → token syntax t ≡ Some (close, behind) → WasClosed b set → TookSet around set next →
-    Leads (Completes syntax (contains next.builder) next.negated next.awaits behind) (Around syntax around (Completes syntax (contains b.builder) b.negated b.awaits t))
+    Leads (Completes syntax (gathered_in next.gathered) next.negated next.awaits behind) (Around syntax around (Completes syntax (gathered_in b.gathered) b.negated b.awaits t))
 around_back syntax b around next set t behind found was took members end h =
-    let awaits = subst (λ (a : Awaits). Completes syntax (contains next.builder) next.negated a behind members end) took.awaits h in
-    let negated = subst (λ n. Completes syntax (contains next.builder) n AfterSet behind members end) took.negated awaits in
-    let gathered = gathered_same syntax (contains next.builder) _ around.negated AfterSet behind took.becomes members end negated in (
+    let awaits = subst (λ (a : Awaits). Completes syntax (gathered_in next.gathered) next.negated a behind members end) took.awaits h in
+    let negated = subst (λ n. Completes syntax (gathered_in next.gathered) n AfterSet behind members end) took.negated awaits in
+    let gathered = gathered_same syntax (gathered_in next.gathered) _ around.negated AfterSet behind took.becomes members end negated in (
       contains set,
       behind,
       closes_back syntax b set t behind found was,

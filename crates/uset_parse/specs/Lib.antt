@@ -6,3 +6,4 @@ pub mod Fault
 pub mod Reading
 pub mod Turn
 pub mod Laws
+pub mod Gathered

@@ -19,6 +19,8 @@ use Rattle.uset_parse.specs.declared.bracket.Awaits.TheVariants.{Element, AfterS
 use Rattle.uset_parse.specs.declared.stack.Progress.{Progress}
 use Rattle.uset_parse.specs.declared.stack.Progress.TheVariants.{GoesOn, Done}
 use Rattle.uset_parse.specs.Grammar.{Opening, Token, opens, close, item, Item, chars, minus, ampersand, dollar}
+use Rattle.uset_parse.specs.declared.gathered.Gathered.{Gathered}
+use Rattle.uset_parse.specs.Gathered.{gathered_in}
 
 -- the number of a code point
 abbrev pub number_of : CodePoint → ℕ
@@ -119,8 +121,8 @@ abbrev pub finished : Bool → ℕ → Bool → Bool
 finished negated c b = if negated then is_code_point c && not b else b
 
 -- the set is what the effect makes of the old one
-abbrev pub Becomes : List ℕ → Effect → List ℕ → Type 0
-Becomes old effect new = (c : ℕ) → contains new c ≡ effect c (contains old c)
+abbrev pub Becomes : Gathered → Effect → Gathered → Type 0
+Becomes old effect new = (c : ℕ) → gathered_in new c ≡ effect c (gathered_in old c)
 
 -- nothing fits, or memory was refused
 abbrev pub Refuses : Type 0 → ParseErrorKind → Type 0
@@ -130,7 +132,7 @@ Refuses unfit Internal = ⊥
 
 -- nothing was gathered but a leading hyphen
 pub record IsFresh (opening : CodeOpening) (b : OpenBracket) : Type 0 where
-  pub members : (c : ℕ) → contains b.builder c ≡ (opening.leading && (c == 0x2D))
+  pub members : (c : ℕ) → gathered_in b.gathered c ≡ (opening.leading && (c == 0x2D))
   pub awaits : b.awaits ≡ Element
   pub negated : b.negated ≡ opening.negated
 
@@ -138,14 +140,14 @@ pub record IsFresh (opening : CodeOpening) (b : OpenBracket) : Type 0 where
 pub record Took (old : OpenBracket) (i : CodeItem) (new : OpenBracket) : Type 0 where
   pub effect : Effect
   pub turned : turn old.awaits i ≡ Some (effect, new.awaits)
-  pub becomes : Becomes old.builder effect new.builder
+  pub becomes : Becomes old.gathered effect new.gathered
   pub negated : new.negated ≡ old.negated
 
 -- the bracket took the set
 pub record TookSet (old : OpenBracket) (set : List ℕ) (new : OpenBracket) : Type 0 where
   pub effect : SetEffect
   pub turned : set_turn old.awaits ≡ Some effect
-  pub becomes : (c : ℕ) → contains new.builder c ≡ effect c (contains old.builder c) (contains set c)
+  pub becomes : (c : ℕ) → gathered_in new.gathered c ≡ effect c (gathered_in old.gathered c) (contains set c)
   pub awaits : new.awaits ≡ AfterSet
   pub negated : new.negated ≡ old.negated
 
@@ -153,14 +155,14 @@ pub record TookSet (old : OpenBracket) (set : List ℕ) (new : OpenBracket) : Ty
 pub record Ended (old new : OpenBracket) : Type 0 where
   pub effect : Effect
   pub ended : ending old.awaits ≡ Some effect
-  pub becomes : Becomes old.builder effect new.builder
+  pub becomes : Becomes old.gathered effect new.gathered
   pub negated : new.negated ≡ old.negated
 
 -- the bracket was closed, with this set
 pub record WasClosed (old : OpenBracket) (set : List ℕ) : Type 0 where
   pub effect : Effect
   pub ended : ending old.awaits ≡ Some effect
-  pub members : (c : ℕ) → contains set c ≡ finished old.negated c (effect c (contains old.builder c))
+  pub members : (c : ℕ) → contains set c ≡ finished old.negated c (effect c (gathered_in old.gathered c))
 
 abbrev pub Takes : OpenBracket → CodeItem → Result OpenBracket ParseError → Type 0
 Takes old i (Ok new) = Took old i new

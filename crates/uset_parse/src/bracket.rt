@@ -1,9 +1,16 @@
 //! An open bracket.
 use crate::code_point::CodePoint;
 use crate::error::{ParseError, ParseErrorKind};
+use crate::gathered::Gathered;
 use crate::token::{Item, Opening};
-use cp_invlist::{CodePointInversionList, CodePointInversionListBuilder, CodePointRange};
+use cp_invlist::{CodePointInversionList, CodePointRange};
 use std::alloc::Global;
+
+/// The range of the hyphen alone.
+const HYPHEN: CodePointRange = CodePointRange {
+    start: 0x2D,
+    end: 0x2D,
+};
 
 /// What an open bracket awaits.
 #[derive(Clone, Copy)]
@@ -29,7 +36,7 @@ pub(crate) enum Awaits {
 /// A bracket whose closing `]` is still to come.
 #[derive(Drop)]
 pub(crate) struct OpenBracket {
-    builder: CodePointInversionListBuilder,
+    gathered: Gathered,
     negated: bool,
     awaits: Awaits,
 }
@@ -40,6 +47,7 @@ impl OpenBracket {
     ghost use Rattle.uset_parse.specs.declared.error.ParseErrorKind.TheVariants.{NoMemory as OutOfMemory};
     ghost use Rattle.uset_parse.specs.declared.token.Item.TheVariants.{Minus, Ampersand, Dollar, Character};
     ghost use Rattle.uset_parse.specs.Fault.{kind_of};
+    ghost use Rattle.uset_parse.specs.Gathered.{gathered_in};
     ghost use Rattle.uset_parse.specs.Turn.{adds, adds_single, finished, Becomes, IsFresh, Takes, TakesSet, Ends, Closes};
 
     /// A bracket behind its opening.
@@ -47,12 +55,12 @@ impl OpenBracket {
         ensures fresh { IfOk result (λ b. IsFresh opening b) }
         ensures err { IfErr result (λ e. kind_of e ≡ OutOfMemory) }
     {
-        let mut builder = CodePointInversionListBuilder::new(alloc);
+        let mut gathered = Gathered::new(alloc);
         if opening.leading {
-            builder.add_char('-')?;
+            gathered.add_range(HYPHEN)?;
         }
         Ok(OpenBracket {
-            builder,
+            gathered,
             negated: opening.negated,
             awaits: Awaits::Element,
         })
@@ -171,13 +179,13 @@ impl OpenBracket {
         ensures { TakesSet self set.now result }
     {
         match self.awaits {
-            Awaits::Element | Awaits::AfterSet => self.builder.add_set(set)?,
+            Awaits::Element | Awaits::AfterSet => self.gathered.add_set(set)?,
             Awaits::AfterSingle(first) => {
                 self.add_single(first)?;
-                self.builder.add_set(set)?;
+                self.gathered.add_set(set)?;
             }
-            Awaits::RemoveOrEnd => self.builder.remove_set(set)?,
-            Awaits::Keep => self.builder.retain_set(set)?,
+            Awaits::RemoveOrEnd => self.gathered.remove_set(set)?,
+            Awaits::Keep => self.gathered.retain_set(set)?,
             Awaits::RangeEnd(_) | Awaits::End | Awaits::AnchorEnd => {
                 return Err(ParseErrorKind::Unimplemented.into());
             }
@@ -221,19 +229,15 @@ impl OpenBracket {
     }
 
     /// The set of what was gathered, or of the other code points where the bracket is negated.
-    fn finish(mut self) -> Result<CodePointInversionList, ParseError>
-        ensures members { IfOk result (λ set. (c : ℕ) → contains set c ≡ finished self.negated c (contains self.builder c)) }
+    fn finish(self) -> Result<CodePointInversionList, ParseError>
+        ensures members { IfOk result (λ set. (c : ℕ) → contains set c ≡ finished self.negated c (gathered_in self.gathered c)) }
         ensures err { IfErr result (λ e. kind_of e ≡ OutOfMemory) }
     {
-        if self.negated {
-            self.builder.complement()?;
-            return Ok(self.builder.build());
-        }
-        Ok(self.builder.build())
+        Ok(self.gathered.finish(self.negated)?)
     }
 
     fn add_single(&mut self, single: CodePoint) -> Result<(), ParseError>
-        ensures members { OnOk result (Becomes self.old.builder (adds_single single) self.new.builder) }
+        ensures members { OnOk result (Becomes self.old.gathered (adds_single single) self.new.gathered) }
         ensures awaits { self.new.awaits ≡ self.old.awaits }
         ensures negated { self.new.negated ≡ self.old.negated }
         ensures err { IfErr result (λ e. kind_of e ≡ OutOfMemory) }
@@ -243,12 +247,12 @@ impl OpenBracket {
 
     fn add_range(&mut self, first: u32, last: u32) -> Result<(), ParseError>
         requires { last ≤ 0x10_FFFF }
-        ensures members { OnOk result (Becomes self.old.builder (adds first last) self.new.builder) }
+        ensures members { OnOk result (Becomes self.old.gathered (adds first last) self.new.gathered) }
         ensures awaits { self.new.awaits ≡ self.old.awaits }
         ensures negated { self.new.negated ≡ self.old.negated }
         ensures err { IfErr result (λ e. kind_of e ≡ OutOfMemory) }
     {
-        self.builder.add_range32(CodePointRange {
+        self.gathered.add_range(CodePointRange {
             start: first,
             end: last,
         })?;

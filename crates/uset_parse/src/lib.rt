@@ -6,6 +6,7 @@ mod code_point;
 mod cursor;
 mod error;
 mod escape;
+mod gathered;
 pub mod laws;
 mod parse;
 mod reader;

@@ -21,6 +21,7 @@ fn a_bracket_at_the_front_is_read(rt: HostRuntime) -> Result<(), Fail> {
         ("[é\u{2028}a-]]", &[0x2D, 0x2E, 0x61, 0x62, 0xE9, 0xEA], 9),
         ("[a\u{10FFFF}]b]", &[0x61, 0x62, 0x10FFFF, 0x110000], 7),
         ("[a$]", &[0x61, 0x62, 0xFFFF, 0x1_0000], 4),
+        ("[zc-dac]", &[0x61, 0x62, 0x63, 0x65, 0x7A, 0x7B], 8),
     ] {
         let (set, length) = parse_unstable_with_variables(alloc, source, &variables, &database)?;
         assert_eq!(rt; set.code_points().get_inversion_list(), list, "at {source}");
@@ -42,6 +43,8 @@ fn brackets_inside_are_joined_removed_and_kept(rt: HostRuntime) -> Result<(), Fa
         ("[[a-z]-[b-y]]", &[0x61, 0x62, 0x7A, 0x7B], 13),
         ("[[a-e]&[^c]-[a]]", &[0x62, 0x63, 0x64, 0x66], 16),
         ("[[a]-]", &[0x2D, 0x2E, 0x61, 0x62], 6),
+        ("[zba[c]-[z]]", &[0x61, 0x64], 12),
+        ("[^zba]", &[0, 0x61, 0x63, 0x7A, 0x7B, 0x11_0000], 6),
     ] {
         let (set, length) = parse_unstable_with_variables(alloc, source, &variables, &database)?;
         assert_eq!(rt; set.code_points().get_inversion_list(), list, "at {source}");

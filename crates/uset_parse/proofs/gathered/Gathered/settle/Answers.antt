@@ -1,0 +1,6 @@
+use Rattle.uset_parse.proofs.GatheredLemmas.{settled_result}
+use Rattle.uset_parse.proofs.gathered.Gathered.settle.Goals as goal
+
+pub returns-clause-members : goal.returns-clause-members
+returns-clause-members c =
+    settled_result c.add_set.result c.args.self.now _ _ _ c.sort_unstable_by_key.ensures.permutation (rw c.deref.ensures.value at c.in_ok-set.ensures) c.add_set.ensures.ok c.clear.ensures.items
