@@ -60,6 +60,19 @@ fn sets_inside_are_joined_removed_and_kept(rt: HostRuntime) -> Result<(), Fail> 
 }
 
 #[test]
+fn a_million_brackets_inside_one_another_are_read(rt: HostRuntime) -> Result<(), Fail> {
+    let alloc = rt.alloc();
+    let words = eval(alloc)?;
+    let opening = "[".repeat(alloc, 1_000_000)?;
+    let closing = "]".repeat(alloc, 1_000_000)?;
+    let input = format!(in alloc; "{SYNTAX}pat {opening}{closing}\n")?;
+    let (status, sink) = run_in_memory(alloc, &words, input.into_bytes());
+    assert_eq!(rt; sink.written(), b"ok 2000000\n".as_slice());
+    assert_eq!(rt; status.code(), 0);
+    Ok(())
+}
+
+#[test]
 fn a_reader_of_std_is_a_source(rt: HostRuntime) -> Result<(), Fail> {
     let mut source = StdSource::new(Cursor::new(b"ab".as_slice()));
     let mut buffer = [0u8; 4];
