@@ -1,7 +1,9 @@
 -- The answers of the program, computed on small scripts.
-use Rattle.std.proofs.Common.{◌≡◌, true, false, [], ◌∷◌, codes, refl}
+use Rattle.std.proofs.Common.{ℕ, List, ◌≡◌, true, false, [], ◌∷◌, codes, refl}
 use Rattle.std.specs.Prelude.{Some, None}
 use Rattle.std.specs.Fmt.{digits}
+use Rattle.cp_invlist.specs.InversionList.{contains, is_inversion_list}
+use Rattle.cp_invlist.specs.Ranges.{ranges_of}
 use Rattle.cp_invlist.specs.declared.ranges.CodePointRange.{CodePointRange}
 use Rattle.prop_data.specs.declared.error.TableErrorKind.TheVariants.{RangeOrder}
 use Rattle.text_lines.specs.Fields.{is_sole}
@@ -28,6 +30,22 @@ one_code_point = refl
 above_four_digits : range_text (record { start = 0xFFFF; end = 0x10_FFFF }) ≡ codes " FFFF-10FFFF"
 unfolding digits
 above_four_digits = refl
+
+-- the inversion list of the set of `[a-z0]`, its members and its maximal ranges
+abbrev zero_and_letters : List ℕ
+zero_and_letters = 0x30 ∷ 0x31 ∷ 0x61 ∷ 0x7B ∷ []
+
+list_is_canonical : is_inversion_list zero_and_letters ≡ true
+list_is_canonical = refl
+
+letter_is_member : contains zero_and_letters 0x6D ≡ true
+letter_is_member = refl
+
+brace_is_no_member : contains zero_and_letters 0x7B ≡ false
+brace_is_no_member = refl
+
+ranges_are_spelled : ranges_of zero_and_letters ≡ zero ∷ letters ∷ []
+ranges_are_spelled = refl
 
 -- the answer to `pat [a-z0]`
 letters_and_zero : read_text 6 (zero ∷ letters ∷ []) ≡ codes "ok 6 0030 0061-007A\n"
