@@ -5,17 +5,19 @@ use Rattle.std.specs.Fmt.{digits}
 use Rattle.cp_invlist.specs.InversionList.{contains, is_inversion_list}
 use Rattle.cp_invlist.specs.Ranges.{ranges_of}
 use Rattle.cp_invlist.specs.declared.ranges.CodePointRange.{CodePointRange}
-use Rattle.prop_data.specs.declared.error.TableErrorKind.TheVariants.{RangeOrder}
+use Rattle.prop_data.specs.declared.error.TableErrorKind.TheVariants.{RangeOrder, NoEnd, SyntaxAscii}
 use Rattle.text_lines.specs.Fields.{is_sole}
 use Rattle.prop_data.specs.Line.{line_of, is_header_word}
 use Rattle.prop_data.specs.Numbers.{range, hyphen_parts, hex}
 use Rattle.prop_data.specs.SetTable.{set_number}
 use Rattle.prop_data.specs.TableText.{table_fault, at_line, header_fault, row_fault}
 use Rattle.uset_parse.specs.declared.error.ParseErrorKind.TheVariants.{Unimplemented}
-use Rattle.uset_tool.specs.Answer.{range_text, read_text, fault_text, bad_line_text}
+use Rattle.uset_tool.specs.Answer.{range_text, read_text, fault_text, bad_line_text, fault, ends, answers}
 use Rattle.uset_tool.specs.Script.{silent, pattern, bad, script_line}
 use Rattle.uset_tool.specs.Words.{is_known, table_fault_text}
-use Rattle.uset_tool.specs.Run.{table_lines, script_lines}
+use Rattle.uset_tool.specs.Run.{table_lines, script_lines, Answers, usage, Evaluates, faulty_tables, script}
+use Rattle.uset_tool.specs.declared.status.Status.TheVariants.{Usage, Tables, SomeErr}
+use Rattle.uset_parse.specs.Fault.{absent_table}
 
 abbrev zero : CodePointRange
 zero = record { start = 0x30; end = 0x30 }
@@ -96,3 +98,23 @@ fault_of_descending_rows = refl
 no_fault_of_one_row : table_fault (table_lines (codes "set XID_Start\n61-7A # letters\nend\n")) ≡ None
 unfolding is_sole line_of is_header_word set_number header_fault range hyphen_parts hex row_fault
 no_fault_of_one_row = refl
+
+-- no word is answered with the usage
+no_words : Answers [] (codes "end\n") (codes "usage: uset COMMAND\n") Usage
+no_words = usage refl
+
+no_end : Evaluates [] (codes "tables line 1: NoEnd\n") Tables
+unfolding digits
+no_end = faulty_tables (at_line 1 NoEnd) refl
+
+letter_as_white_space : Evaluates (codes "# own\nset Pattern_White_Space\n41\nend\n") (codes "tables line 3: SyntaxAscii\n") Tables
+unfolding is_sole line_of is_header_word set_number header_fault range hyphen_parts hex row_fault digits
+letter_as_white_space = faulty_tables (at_line 3 SyntaxAscii) refl
+
+line_that_is_none : Evaluates (codes "end\nhello\n") (codes "err bad line\n") SomeErr
+unfolding is_sole line_of is_header_word script_line
+line_that_is_none = script refl (codes "err bad line\n") true (answers (codes "err bad line\n") [] true false (refl, refl) ends)
+
+absent_tables : Evaluates (codes "end\npat [a]\n") (codes "err error: internal error\n") SomeErr
+unfolding is_sole line_of is_header_word script_line
+absent_tables = script refl (codes "err error: internal error\n") true (answers (codes "err error: internal error\n") [] true false (fault (absent_table refl)) ends)
