@@ -1,7 +1,9 @@
 -- The answers of the program, computed on small scripts.
-use Rattle.std.proofs.Common.{ℕ, List, ◌≡◌, true, false, [], ◌∷◌, codes, refl}
+use Rattle.std.proofs.Common.{arith, ℕ, List, ◌≡◌, true, false, [], ◌∷◌, codes, refl}
 use Rattle.std.specs.Prelude.{Some, None}
+use Rattle.std.proofs.lemmas.Bool.Decides.{nat_tests}
 use Rattle.std.specs.Fmt.{digits}
+use Rattle.std.specs.Str.{chars}
 use Rattle.cp_invlist.specs.InversionList.{contains, is_inversion_list}
 use Rattle.cp_invlist.specs.Ranges.{ranges_of}
 use Rattle.cp_invlist.specs.declared.ranges.CodePointRange.{CodePointRange}
@@ -12,11 +14,14 @@ use Rattle.prop_data.specs.Numbers.{range, hyphen_parts, hex}
 use Rattle.prop_data.specs.SetTable.{set_number}
 use Rattle.prop_data.specs.TableText.{table_fault, at_line, header_fault, row_fault}
 use Rattle.uset_parse.specs.declared.error.ParseErrorKind.TheVariants.{Unimplemented}
-use Rattle.uset_tool.specs.Answer.{range_text, read_text, fault_text, bad_line_text, fault, ends, answers}
+use Rattle.uset_tool.specs.Answer.{range_text, read_text, fault_text, bad_line_text, read, fault, ends, answers}
 use Rattle.uset_tool.specs.Script.{silent, pattern, bad, script_line}
 use Rattle.uset_tool.specs.Words.{is_known, table_fault_text}
 use Rattle.uset_tool.specs.Run.{table_lines, script_lines, Answers, usage, Evaluates, faulty_tables, script}
-use Rattle.uset_tool.specs.declared.status.Status.TheVariants.{Usage, Tables, SomeErr}
+use Rattle.uset_tool.specs.declared.status.Status.TheVariants.{Usage, Tables, SomeErr, Done}
+use Rattle.uset_parse.specs.Tree.{Tree, bracket, done, add, has}
+use Rattle.uset_parse.specs.Grammar.{reads_bracket, reads, ends as closed, range as chars_range, members, empty}
+use Rattle.cp_invlist.specs.Ranges.{AreMaximalRanges}
 use Rattle.uset_parse.specs.Fault.{absent_table}
 
 abbrev zero : CodePointRange
@@ -118,3 +123,37 @@ line_that_is_none = script refl (codes "err bad line\n") true (answers (codes "e
 absent_tables : Evaluates (codes "end\npat [a]\n") (codes "err error: internal error\n") SomeErr
 unfolding is_sole line_of is_header_word script_line
 absent_tables = script refl (codes "err error: internal error\n") true (answers (codes "err error: internal error\n") [] true false (fault (absent_table refl)) ends)
+
+-- what `[a-z0]` denotes, and its maximal ranges
+abbrev letters_and_zero_tree : Tree
+letters_and_zero_tree = bracket false false (add 0x61 0x7A (add 0x30 0x30 done))
+
+maximal_ranges : AreMaximalRanges (has letters_and_zero_tree) (zero ∷ letters ∷ [])
+maximal_ranges = (
+  omega arith,
+  omega arith,
+  λ c h k. grind (arith, nat_tests),
+  λ c h k. grind (arith, nat_tests),
+  refl,
+  (
+    omega arith,
+    omega arith,
+    λ c h k. grind (arith, nat_tests),
+    λ c h k. grind (arith, nat_tests),
+    refl,
+    λ c h. grind (arith, nat_tests),
+  ),
+)
+
+abbrev three_tables : List ℕ
+three_tables = codes "set XID_Start\nset XID_Continue\nset Pattern_White_Space\n20\nend\npat [a-z0]\n"
+
+pattern_that_is_read : Evaluates three_tables (codes "ok 6 0030 0061-007A\n") Done
+unfolding is_sole line_of is_header_word set_number header_fault range hyphen_parts hex row_fault script_line digits chars
+pattern_that_is_read =
+    script refl (codes "ok 6 0030 0061-007A\n") false (answers (codes "ok 6 0030 0061-007A\n") [] false false
+    (read 6 (zero ∷ letters ∷ []) (record {
+      syntax = _;
+      held = refl;
+      set = reads_bracket refl (reads refl (reads refl (reads refl (reads refl (closed refl))))) (chars_range {a = 0x61} {b = 0x7A} (omega arith) (members empty));
+    }) refl maximal_ranges) ends)
