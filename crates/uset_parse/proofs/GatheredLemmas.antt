@@ -1,29 +1,25 @@
--- What is put aside, and how it comes into the builder.
-use Rattle.std.proofs.Common.{◌≡◌, ℕ, Bool, true, false, ◌||◌, List, [], IsPermutation, Result, Ok, Err, OnOk, refl, sym, ap, ◌∙◌}
-use Rattle.std.proofs.lemmas.List.Sorted.{list_any-IsPermutation}
-use Rattle.cp_invlist.specs.InversionList.{contains}
-use Rattle.cp_invlist.specs.Ranges.{in_code_points}
-use Rattle.cp_invlist.specs.declared.ranges.CodePointRange.{CodePointRange}
-use Rattle.uset_parse.specs.declared.gathered.Gathered.{Gathered}
-use Rattle.uset_parse.specs.Gathered.{in_some, gathered_in}
+-- What is gathered, member by member.
+use Rattle.std.proofs.Common.{◌≡◌, ℕ, ◌≤◌, Bool, true, false, ◌||◌, ◌&&◌, nat_le, List, Result, Ok, Err, OnOk, IfOk, refl, arith}
+use Rattle.std.proofs.lemmas.Bool.Decides.{nat_tests}
+use Rattle.cp_invlist.specs.InversionList.{is_code_point}
+use Rattle.uset_parse.specs.Tree.{Member, point, string}
 
-or_none : (b : Bool) → (b || false) ≡ b
-or_none true = refl
-or_none false = refl
+pub each_member : (P : Member → Type 0) → ((c : ℕ) → P (point c)) → ((bytes : List ℕ) → P (string bytes)) → (m : Member) → P m
+each_member P points strings (point c) = points c
+each_member P points strings (string bytes) = strings bytes
 
--- the set of all that was put aside was joined to the builder
-settled_members : (old new : Gathered) (sorted : List CodePointRange) (set : List ℕ) → IsPermutation old.aside.items sorted →
-    ((c : ℕ) → contains set c ≡ in_some sorted c) → ((c : ℕ) → contains new.builder c ≡ (contains old.builder c || contains set c)) → new.aside.items ≡ [] →
-    (c : ℕ) → gathered_in new c ≡ gathered_in old c
-unfolding gathered_in
-settled_members old new sorted set permuted union_is joined none c =
-    ap (λ rs. contains new.builder c || in_some rs c) none
-    ∙ (or_none (contains new.builder c)
-    ∙ (joined c
-    ∙ ap (λ b. contains old.builder c || b) (union_is c ∙ sym (list_any-IsPermutation (λ r. in_code_points r c) old.aside.items sorted permuted))))
+pub on_ok : {A E : Type 0} (result : Result A E) {P Q : Type 0} → (P → Q) → OnOk result P → OnOk result Q
+on_ok (Ok x) f h = f h
+on_ok (Err e) f h = tt
 
-pub settled_result : {A E : Type 0} (result : Result A E) (old new : Gathered) (sorted : List CodePointRange) (set : List ℕ) → IsPermutation old.aside.items sorted →
-    ((c : ℕ) → contains set c ≡ in_some sorted c) → OnOk result ((c : ℕ) → contains new.builder c ≡ (contains old.builder c || contains set c)) → new.aside.items ≡ [] →
-    OnOk result ((c : ℕ) → gathered_in new c ≡ gathered_in old c)
-settled_result (Ok x) old new sorted set permuted union_is joined none = settled_members old new sorted set permuted union_is joined none
-settled_result (Err e) old new sorted set permuted union_is joined none = tt
+pub if_ok : {A E : Type 0} (result : Result A E) {P Q : A → Type 0} → ((x : A) → P x → Q x) → IfOk result P → IfOk result Q
+if_ok (Ok x) f h = f x h
+if_ok (Err e) f h = tt
+
+pub or_nothing : (b : Bool) → b ≡ (b || false)
+or_nothing true = refl
+or_nothing false = refl
+
+-- a range of code points has code points alone
+pub within_code_points : (first last c : ℕ) → last ≤ 0x10FFFF → ((nat_le first c && nat_le c last) && is_code_point c) ≡ (nat_le first c && nat_le c last)
+within_code_points first last c within = grind (arith, nat_tests)

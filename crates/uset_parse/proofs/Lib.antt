@@ -1,10 +1,13 @@
 pub mod TurnLemmas
 pub mod Arranging
-pub mod EscapeLemmas
+pub mod UpToBrace
 pub mod Fronts
 pub mod Standing
 pub mod Turning
 pub mod OpenBrackets
 pub mod OneReading
+pub mod RangesLemmas
 pub mod GatheredLemmas
+pub mod StringLemmas
+pub mod StringsLemmas
 mod Examples

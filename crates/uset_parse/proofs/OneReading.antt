@@ -4,8 +4,8 @@ use Rattle.prop_data.specs.Tables.{Tables}
 use Rattle.uset_parse.specs.declared.error.ParseErrorKind.{ParseErrorKind}
 use Rattle.uset_parse.specs.declared.error.ParseErrorKind.TheVariants.{Internal, Unimplemented, NoMemory}
 use Rattle.uset_parse.specs.Text.{Text}
-use Rattle.uset_parse.specs.Tree.{Tree, Steps, bracket, add, join, remove, keep}
-use Rattle.uset_parse.specs.Grammar.{Syntax, syntax_of, Opening, Item, chars, minus, ampersand, nested, item, opens, close, ReadsItems, ends, reads, nests, Body, Tail, empty, hyphen, anchor, range, members, joins, removes, keeps, goes_on, add_each, ReadsSet, reads_bracket, Reads}
+use Rattle.uset_parse.specs.Tree.{Tree, Steps, bracket, add, add_text, join, remove, keep}
+use Rattle.uset_parse.specs.Grammar.{Syntax, syntax_of, Opening, Item, chars, minus, ampersand, nested, item, opens, close, ReadsItems, ends, reads, nests, Body, Tail, empty, hyphen, anchor, range, members, texts, joins, removes, keeps, goes_on, add_each, ReadsSet, reads_bracket, Reads}
 use Rattle.uset_parse.specs.Fault.{unread, IsRefusal}
 use Rattle.uset_parse.specs.Reading.{Unread}
 use Rattle.uset_parse.proofs.Fronts.{same_parts, one_front, same_item, same_opening}
@@ -26,6 +26,7 @@ mutual
   one_body _ _ _ (range {b} {is} le h) (members k) = absurd (no_item_behind_hyphen (chars (b ∷ [])) is _ k)
   one_body _ _ _ (members k) (range {b} {is} le h) = absurd (no_item_behind_hyphen (chars (b ∷ [])) is _ k)
   one_body _ _ _ (members {cs} {is} {steps} h) (members {steps = other} k) = ap (add_each cs) (one_body is steps other h k)
+  one_body _ _ _ (texts {t} {is} {steps} h) (texts {steps = other} k) = ap (add_text t) (one_body is steps other h k)
   one_body _ _ _ (joins {tree} {is} {steps} h) (joins {steps = other} k) = ap (join tree) (one_tail is steps other h k)
 
   one_tail : (is : List Item) (a b : Steps) → Tail is a → Tail is b → a ≡ b

@@ -1,15 +1,16 @@
 -- What a token does to where the reading stands.
-use Rattle.std.proofs.Common.{◌≡◌, ℕ, Bool, ◌&&◌, ◌==◌, List, [], ◌∷◌, ◌++◌, Option, Some, None, refl, sym, ap, ◌∙◌, subst}
-use Rattle.cp_invlist.specs.InversionList.{contains}
+use Rattle.std.proofs.Common.{◌≡◌, Bool, ◌&&◌, List, [], ◌∷◌, ◌++◌, Option, Some, None, refl, sym, ap, ◌∙◌, subst}
 use Rattle.uset_parse.specs.declared.bracket.OpenBracket.{OpenBracket}
 use Rattle.uset_parse.specs.declared.bracket.Awaits.{Awaits}
 use Rattle.uset_parse.specs.declared.bracket.Awaits.TheVariants.{Element, AfterSet}
 use Rattle.uset_parse.specs.declared.token.Item.{Item as CodeItem}
 use Rattle.uset_parse.specs.declared.token.Opening.{Opening as CodeOpening}
 use Rattle.uset_parse.specs.Text.{Text}
-use Rattle.uset_parse.specs.Tree.{Tree, Steps, bracket, has, gathers}
+use Rattle.uset_parse.specs.Tree.{Tree, Steps, Member, in_range, bracket, has, gathers}
 use Rattle.uset_parse.specs.Grammar.{Syntax, Opening, Item, nested, opens, close, item, header, token, ReadsItems, ends, reads, nests, ReadsSet, reads_bracket, Body}
+use Rattle.uset_parse.specs.declared.gathered.Members.{Members}
 use Rattle.uset_parse.specs.Fault.{ReadsNothing}
+use Rattle.uset_parse.specs.Reading.{in_members}
 use Rattle.uset_parse.specs.Turn.{Effect, SetEffect, turn, set_turn, ending, finished, item_seen, opening_seen, IsFresh, Took, TookSet, WasClosed}
 use Rattle.uset_parse.proofs.Arranging.{Residual, Leaves, leaves, Follows, follows, LeavesSet, leaves_set, FollowsSet, follows_set, EndsBy, ends_by}
 use Rattle.uset_parse.proofs.Fronts.{same_parts, behind_item, behind_close, behind_opening, no_front}
@@ -18,13 +19,13 @@ use Rattle.uset_parse.specs.Gathered.{gathered_in}
 
 -- the rest completes a bracket of which only its opening was read
 abbrev pub Begun : Syntax → Opening → Text → Outcome
-Begun syntax o rest = Completes syntax (λ c. o.leading && (c == 0x2D)) o.negated Element rest
+Begun syntax o rest = Completes syntax (λ m. o.leading && in_range 0x2D 0x2D m) o.negated Element rest
 
 -- a bracket that gathered nothing
 begun_fresh : (syntax : Syntax) (o : CodeOpening) (b : OpenBracket) (rest : Text) → IsFresh o b →
     Leads (Begun syntax (opening_seen o) rest) (Completes syntax (gathered_in b.gathered) b.negated b.awaits rest)
 begun_fresh syntax o b rest fresh members end h =
-    let gathered = gathered_same syntax (λ c. o.leading && (c == 0x2D)) (gathered_in b.gathered) o.negated Element rest (λ c. sym (fresh.members c)) members end h in
+    let gathered = gathered_same syntax (λ m. o.leading && in_range 0x2D 0x2D m) (gathered_in b.gathered) o.negated Element rest (λ m. sym (fresh.members m)) members end h in
     subst (λ (a : Awaits). Completes syntax (gathered_in b.gathered) b.negated a rest members end) (sym fresh.awaits)
     (subst (λ n. Completes syntax (gathered_in b.gathered) n Element rest members end) (sym fresh.negated) gathered)
 
@@ -32,11 +33,11 @@ fresh_begun : (syntax : Syntax) (o : CodeOpening) (b : OpenBracket) (rest : Text
     Leads (Completes syntax (gathered_in b.gathered) b.negated b.awaits rest) (Begun syntax (opening_seen o) rest)
 fresh_begun syntax o b rest fresh members end h =
     let awaits = subst (λ (a : Awaits). Completes syntax (gathered_in b.gathered) b.negated a rest members end) fresh.awaits h in
-    gathered_same syntax (gathered_in b.gathered) (λ c. o.leading && (c == 0x2D)) o.negated Element rest fresh.members members end
+    gathered_same syntax (gathered_in b.gathered) (λ m. o.leading && in_range 0x2D 0x2D m) o.negated Element rest fresh.members members end
     (subst (λ n. Completes syntax (gathered_in b.gathered) n Element rest members end) fresh.negated awaits)
 
-begun_completes : (syntax : Syntax) (source rest end : Text) (o : Opening) (tree : Tree) (members : ℕ → Bool) → header syntax source ≡ Some (o, rest) → ReadsSet syntax source tree end →
-    ((c : ℕ) → members c ≡ has tree c) → Begun syntax o rest members end
+begun_completes : (syntax : Syntax) (source rest end : Text) (o : Opening) (tree : Tree) (members : Member → Bool) → header syntax source ≡ Some (o, rest) → ReadsSet syntax source tree end →
+    ((m : Member) → members m ≡ has tree m) → Begun syntax o rest members end
 begun_completes syntax source rest end o _ members found (reads_bracket {inner} {o = other} {is} {steps} header_is items body) same =
     let parts = same_parts (other, inner) (o, rest) (sym header_is ∙ found) in
     record {
@@ -44,7 +45,7 @@ begun_completes syntax source rest end o _ members found (reads_bracket {inner} 
       steps = steps;
       read = subst (λ t. ReadsItems syntax t is end) parts.1 items;
       residual = body;
-      same = λ c. same c ∙ ap (λ (p : Opening). finished p.negated c (gathers steps c (p.leading && (c == 0x2D)))) parts.0;
+      same = λ m. same m ∙ ap (λ (p : Opening). finished p.negated m (gathers steps m (p.leading && in_range 0x2D 0x2D m))) parts.0;
     }
 
 -- behind the header
@@ -58,8 +59,8 @@ begun syntax source rest o b found fresh = record {
 }
 
 -- a bracket that was read inside is taken as a set
-follows_taken : (syntax : Syntax) (b : OpenBracket) (turned : Option SetEffect) (tree : Tree) (more : List Item) (steps : Steps) (behind end : Text) (members : ℕ → Bool) →
-    FollowsSet tree more steps turned → ReadsItems syntax behind more end → ((c : ℕ) → members c ≡ finished b.negated c (gathers steps c (gathered_in b.gathered c))) →
+follows_taken : (syntax : Syntax) (b : OpenBracket) (turned : Option SetEffect) (tree : Tree) (more : List Item) (steps : Steps) (behind end : Text) (members : Member → Bool) →
+    FollowsSet tree more steps turned → ReadsItems syntax behind more end → ((m : Member) → members m ≡ finished b.negated m (gathers steps m (gathered_in b.gathered m))) →
     SetTaken syntax b turned (has tree) behind members end
 follows_taken syntax b None tree more steps behind end members h read same = h
 follows_taken syntax b (Some effect) tree more steps behind end members h read same = record {
@@ -67,12 +68,12 @@ follows_taken syntax b (Some effect) tree more steps behind end members h read s
   steps = h.0;
   read = read;
   residual = h.1;
-  same = λ c. same c ∙ ap (finished b.negated c) (h.2 c (gathered_in b.gathered c));
+  same = λ m. same m ∙ ap (finished b.negated m) (h.2 m (gathered_in b.gathered m));
 }
 
-taken_completes : (syntax : Syntax) (b : OpenBracket) (turned : Option SetEffect) (o : Opening) (js : List Item) (steps : Steps) (t inner behind end : Text) (set members : ℕ → Bool) →
+taken_completes : (syntax : Syntax) (b : OpenBracket) (turned : Option SetEffect) (o : Opening) (js : List Item) (steps : Steps) (t inner behind end : Text) (set members : Member → Bool) →
     LeavesSet b.awaits (bracket o.negated o.leading steps) turned → token syntax t ≡ Some (opens o, inner) → ReadsItems syntax inner js behind → Body js steps →
-    ((c : ℕ) → set c ≡ has (bracket o.negated o.leading steps) c) → SetTaken syntax b turned set behind members end →
+    ((m : Member) → set m ≡ has (bracket o.negated o.leading steps) m) → SetTaken syntax b turned set behind members end →
     Completes syntax (gathered_in b.gathered) b.negated b.awaits t members end
 taken_completes syntax b None o js steps t inner behind end set members leaves_it found inside body same h = absurd h
 taken_completes syntax b (Some effect) o js steps t inner behind end set members leaves_it found inside body same h =
@@ -82,9 +83,9 @@ taken_completes syntax b (Some effect) o js steps t inner behind end set members
       steps = arranged.steps;
       read = nests found inside body h.read;
       residual = arranged.residual;
-      same = λ c. h.same c
-          ∙ (ap (λ x. finished b.negated c (gathers h.steps c (effect c (gathered_in b.gathered c) x))) (same c)
-          ∙ ap (finished b.negated c) (sym (arranged.same c (gathered_in b.gathered c))));
+      same = λ m. h.same m
+          ∙ (ap (λ x. finished b.negated m (gathers h.steps m (effect m (gathered_in b.gathered m) x))) (same m)
+          ∙ ap (finished b.negated m) (sym (arranged.same m (gathered_in b.gathered m))));
     }
 
 opening_there : (syntax : Syntax) (b : OpenBracket) (t inner : Text) (o : Opening) → token syntax t ≡ Some (opens o, inner) →
@@ -94,7 +95,7 @@ opening_there syntax b t inner o found members end h =
     let tree = bracket o.negated o.leading inside.steps in (
       has tree,
       inside.behind,
-      record { items = inside.items; steps = inside.steps; read = inside.read; residual = inside.body; same = λ c. refl },
+      record { items = inside.items; steps = inside.steps; read = inside.read; residual = inside.body; same = λ m. refl },
       follows_taken syntax b (set_turn b.awaits) tree inside.more h.steps inside.behind end members
           (follows_set b.awaits tree inside.more h.steps (subst (λ is. Residual b.awaits is h.steps) inside.are h.residual)) inside.rest h.same,
     )
@@ -114,58 +115,58 @@ opened syntax source t rest outer b inner o at found fresh =
     stands_on syntax source (outer ++ b ∷ []) (Begun syntax (opening_seen o) rest) _ (inwards syntax source outer b (Begun syntax (opening_seen o) rest) around)
     (begun_fresh syntax o inner rest fresh) (fresh_begun syntax o inner rest fresh)
 
-item_there : (syntax : Syntax) (b new : OpenBracket) (i : CodeItem) (t next : Text) → token syntax t ≡ Some (item (item_seen i), next) → Took b i new →
+item_there : (syntax : Syntax) (b new : OpenBracket) (i : CodeItem) (t next : Text) → token syntax t ≡ Some (item (item_seen i), next) → Took b (turn b.awaits i) new →
     Leads (Completes syntax (gathered_in b.gathered) b.negated b.awaits t) (Completes syntax (gathered_in new.gathered) new.negated new.awaits next)
 item_there syntax b new i t next found took members end h =
     let split = behind_item syntax t next (item_seen i) h.items end found h.read in
-    let rest = subst (Follows split.0 h.steps) took.turned (follows b.awaits i split.0 h.steps (subst (λ is. Residual b.awaits is h.steps) split.1 h.residual)) in
+    let rest = subst (Follows split.0 h.steps) took.is_turned (follows b.awaits i split.0 h.steps (subst (λ is. Residual b.awaits is h.steps) split.1 h.residual)) in
     record {
       items = split.0;
       steps = rest.0;
       read = split.2;
       residual = rest.1;
-      same = λ c. h.same c
-          ∙ (ap (finished b.negated c) (rest.2 c (gathered_in b.gathered c) ∙ ap (gathers rest.0 c) (sym (took.becomes c)))
-          ∙ ap (λ n. finished n c (gathers rest.0 c (gathered_in new.gathered c))) (sym took.negated));
+      same = λ m. h.same m
+          ∙ (ap (finished b.negated m) (rest.2 m (gathered_in b.gathered m) ∙ ap (gathers rest.0 m) (sym (took.becomes m)))
+          ∙ ap (λ n. finished n m (gathers rest.0 m (gathered_in new.gathered m))) (sym took.negated));
     }
 
-item_back : (syntax : Syntax) (b new : OpenBracket) (i : CodeItem) (t next : Text) → token syntax t ≡ Some (item (item_seen i), next) → Took b i new →
+item_back : (syntax : Syntax) (b new : OpenBracket) (i : CodeItem) (t next : Text) → token syntax t ≡ Some (item (item_seen i), next) → Took b (turn b.awaits i) new →
     Leads (Completes syntax (gathered_in new.gathered) new.negated new.awaits next) (Completes syntax (gathered_in b.gathered) b.negated b.awaits t)
 item_back syntax b new i t next found took members end h =
-    let arranged = (subst (Leaves b.awaits (item_seen i)) took.turned (leaves b.awaits i)) h.items h.steps h.residual in
+    let arranged = (subst (Leaves b.awaits (item_seen i)) took.is_turned (leaves b.awaits i)) h.items h.steps h.residual in
     record {
       items = item_seen i ∷ h.items;
       steps = arranged.steps;
       read = reads found h.read;
       residual = arranged.residual;
-      same = λ c. h.same c
-          ∙ (ap (λ n. finished n c (gathers h.steps c (gathered_in new.gathered c))) took.negated
-          ∙ ap (finished b.negated c) (ap (gathers h.steps c) (took.becomes c) ∙ sym (arranged.same c (gathered_in b.gathered c))));
+      same = λ m. h.same m
+          ∙ (ap (λ n. finished n m (gathers h.steps m (gathered_in new.gathered m))) took.negated
+          ∙ ap (finished b.negated m) (ap (gathers h.steps m) (took.becomes m) ∙ sym (arranged.same m (gathered_in b.gathered m))));
     }
 
 -- the innermost bracket took an item
 pub grew : (syntax : Syntax) (source t next : Text) (outer : List OpenBracket) (b new : OpenBracket) (i : CodeItem) → Innermost syntax source outer b t →
-    token syntax t ≡ Some (item (item_seen i), next) → Took b i new → Innermost syntax source outer new next
+    token syntax t ≡ Some (item (item_seen i), next) → Took b (turn b.awaits i) new → Innermost syntax source outer new next
 grew syntax source t next outer b new i at found took =
     stands_on syntax source outer _ _ at (item_there syntax b new i t next found took) (item_back syntax b new i t next found took)
 
 -- what comes of a bracket in front of its end
-record Over (syntax : Syntax) (b : OpenBracket) (members : ℕ → Bool) (end next : Text) (effect : Effect) : Type 0 where
+record Over (syntax : Syntax) (b : OpenBracket) (members : Member → Bool) (end next : Text) (effect : Effect) : Type 0 where
   place : end ≡ next
-  same : (c : ℕ) → members c ≡ finished b.negated c (effect c (gathered_in b.gathered c))
+  same : (m : Member) → members m ≡ finished b.negated m (effect m (gathered_in b.gathered m))
 
 closes_there : (syntax : Syntax) (b : OpenBracket) (effect : Effect) (t next : Text) → token syntax t ≡ Some (close, next) → ending b.awaits ≡ Some effect →
-    (members : ℕ → Bool) (end : Text) → Completes syntax (gathered_in b.gathered) b.negated b.awaits t members end → Over syntax b members end next effect
+    (members : Member → Bool) (end : Text) → Completes syntax (gathered_in b.gathered) b.negated b.awaits t members end → Over syntax b members end next effect
 closes_there syntax b effect t next found ended members end h =
     let last = behind_close syntax t next h.items end found h.read in
     let by = subst (EndsBy b.awaits) ended (ends_by b.awaits) in
     record {
       place = last.1;
-      same = λ c. h.same c ∙ ap (finished b.negated c) (by.1 h.steps (subst (λ is. Residual b.awaits is h.steps) last.0 h.residual) c (gathered_in b.gathered c));
+      same = λ m. h.same m ∙ ap (finished b.negated m) (by.1 h.steps (subst (λ is. Residual b.awaits is h.steps) last.0 h.residual) m (gathered_in b.gathered m));
     }
 
-closes_back : (syntax : Syntax) (b : OpenBracket) (set : List ℕ) (t next : Text) → token syntax t ≡ Some (close, next) → WasClosed b set →
-    Completes syntax (gathered_in b.gathered) b.negated b.awaits t (contains set) next
+closes_back : (syntax : Syntax) (b : OpenBracket) (set : Members) (t next : Text) → token syntax t ≡ Some (close, next) → WasClosed b set →
+    Completes syntax (gathered_in b.gathered) b.negated b.awaits t (in_members set) next
 closes_back syntax b set t next found was =
     let by = subst (EndsBy b.awaits) was.ended (ends_by b.awaits) in
     record {
@@ -173,39 +174,39 @@ closes_back syntax b set t next found was =
       steps = by.0.steps;
       read = ends found;
       residual = by.0.residual;
-      same = λ c. was.members c ∙ ap (finished b.negated c) (sym (by.0.same c (gathered_in b.gathered c)));
+      same = λ m. was.members m ∙ ap (finished b.negated m) (sym (by.0.same m (gathered_in b.gathered m)));
     }
 
 -- the outermost bracket was closed: the source is read up to here
-pub closed_outside : (syntax : Syntax) (source t next : Text) (b : OpenBracket) (set : List ℕ) → Innermost syntax source [] b t → token syntax t ≡ Some (close, next) → WasClosed b set →
-    Denotes syntax source (contains set) next
-closed_outside syntax source t next b set at found was = at.sound (contains set) next (closes_back syntax b set t next found was)
+pub closed_outside : (syntax : Syntax) (source t next : Text) (b : OpenBracket) (set : Members) → Innermost syntax source [] b t → token syntax t ≡ Some (close, next) → WasClosed b set →
+    Denotes syntax source (in_members set) next
+closed_outside syntax source t next b set at found was = at.sound (in_members set) next (closes_back syntax b set t next found was)
 
-around_there : (syntax : Syntax) (b around next : OpenBracket) (set : List ℕ) (t behind : Text) → token syntax t ≡ Some (close, behind) → WasClosed b set → TookSet around set next →
+around_there : (syntax : Syntax) (b around next : OpenBracket) (set : Members) (t behind : Text) → token syntax t ≡ Some (close, behind) → WasClosed b set → TookSet around set next →
     Leads (Around syntax around (Completes syntax (gathered_in b.gathered) b.negated b.awaits t)) (Completes syntax (gathered_in next.gathered) next.negated next.awaits behind)
 around_there syntax b around next set t behind found was took members end w =
     let over = closes_there syntax b was.effect t behind found was.ended w.0 w.1 w.2 in
     let h = subst (λ turned. SetTaken syntax around turned w.0 w.1 members end) took.turned w.3 in
     let gathered = gathered_same syntax _ (gathered_in next.gathered) around.negated AfterSet w.1
-    (λ c. ap (took.effect c (gathered_in around.gathered c)) (over.same c ∙ sym (was.members c)) ∙ sym (took.becomes c)) members end h in
+    (λ m. ap (took.effect m (gathered_in around.gathered m)) (over.same m ∙ sym (was.members m)) ∙ sym (took.becomes m)) members end h in
     subst (λ u. Completes syntax (gathered_in next.gathered) next.negated next.awaits u members end) over.place
     (subst (λ (a : Awaits). Completes syntax (gathered_in next.gathered) next.negated a w.1 members end) (sym took.awaits)
     (subst (λ n. Completes syntax (gathered_in next.gathered) n AfterSet w.1 members end) (sym took.negated) gathered))
 
-around_back : (syntax : Syntax) (b around next : OpenBracket) (set : List ℕ) (t behind : Text) → token syntax t ≡ Some (close, behind) → WasClosed b set → TookSet around set next →
+around_back : (syntax : Syntax) (b around next : OpenBracket) (set : Members) (t behind : Text) → token syntax t ≡ Some (close, behind) → WasClosed b set → TookSet around set next →
     Leads (Completes syntax (gathered_in next.gathered) next.negated next.awaits behind) (Around syntax around (Completes syntax (gathered_in b.gathered) b.negated b.awaits t))
 around_back syntax b around next set t behind found was took members end h =
     let awaits = subst (λ (a : Awaits). Completes syntax (gathered_in next.gathered) next.negated a behind members end) took.awaits h in
     let negated = subst (λ n. Completes syntax (gathered_in next.gathered) n AfterSet behind members end) took.negated awaits in
     let gathered = gathered_same syntax (gathered_in next.gathered) _ around.negated AfterSet behind took.becomes members end negated in (
-      contains set,
+      in_members set,
       behind,
       closes_back syntax b set t behind found was,
-      subst (λ turned. SetTaken syntax around turned (contains set) behind members end) (sym took.turned) gathered,
+      subst (λ turned. SetTaken syntax around turned (in_members set) behind members end) (sym took.turned) gathered,
     )
 
 -- the innermost bracket was closed, and the one around it took its set
-pub closed_inside : (syntax : Syntax) (source t behind : Text) (further : List OpenBracket) (b around next : OpenBracket) (set : List ℕ) →
+pub closed_inside : (syntax : Syntax) (source t behind : Text) (further : List OpenBracket) (b around next : OpenBracket) (set : Members) →
     Innermost syntax source (further ++ around ∷ []) b t → token syntax t ≡ Some (close, behind) → WasClosed b set → TookSet around set next →
     Innermost syntax source further next behind
 closed_inside syntax source t behind further b around next set at found was took =

@@ -1,7 +1,7 @@
--- Escapes (UTS 35, Unicode Sets): what stands behind a backslash. Those of one code point are read.
-use Rattle.std.specs.Prelude.{ℕ, ◌+◌, ◌*◌, Bool, ◌||◌, ◌==◌, nat_le, ◌∷◌, [], Option, Some, None, if◌then◌else◌}
+-- Escapes (UTS 35, Unicode Sets): what stands behind a backslash, the code points that it stands for and what follows it.
+use Rattle.std.specs.Prelude.{ℕ, ◌+◌, ◌*◌, Bool, ◌==◌, nat_le, length, List, ◌∷◌, [], Option, Some, None, if◌then◌else◌}
 use Rattle.prop_data.specs.Numbers.{hex_digit}
-use Rattle.uset_parse.specs.Text.{Text, ◌>>=◌, skip, behind}
+use Rattle.uset_parse.specs.Text.{Text, ◌>>=◌, skip, behind, begins_with, in_front, up_to_brace}
 
 -- a hexadecimal digit read onto a number, and what stands behind it
 unfoldable pub digit : ℕ → Text → Option (ℕ × Text)
@@ -18,6 +18,10 @@ four_digits n t = two_digits n t >>= λ p. two_digits p.0 p.1
 unfoldable pub six_digits : ℕ → Text → Option (ℕ × Text)
 six_digits n t = two_digits n t >>= λ p. four_digits p.0 p.1
 
+-- two zeros and six digits
+unfoldable pub long_digits : Text → Option (ℕ × Text)
+long_digits t = behind 0x30 t >>= λ zero. (behind 0x30 zero >>= six_digits 0)
+
 abbrev pub part_or : ℕ × Text → Option (ℕ × Text) → ℕ × Text
 part_or p None = p
 part_or p (Some q) = q
@@ -30,13 +34,34 @@ optional_digit p = part_or p (digit p.0 p.1)
 unfoldable pub number : Text → Option (ℕ × Text)
 number t = digit 0 t >>= λ p. Some (optional_digit (optional_digit (optional_digit (optional_digit (optional_digit p)))))
 
--- a number, its closing brace behind it, and white space around it
-unfoldable pub braced : (ℕ → Bool) → Text → Option (ℕ × Text)
-braced white_space t = number (skip white_space t) >>= λ p. (behind 0x7D (skip white_space p.1) >>= λ rest. Some (p.0, rest))
+-- the number, where it is a code point
+abbrev pub code_point_of : ℕ → Option ℕ
+code_point_of n = if nat_le n 0x10FFFF then Some n else None
 
--- a number in braces where a brace stands in front, else the digits
-abbrev pub braced_or : (ℕ → Bool) → Option (ℕ × Text) → Option Text → Option (ℕ × Text)
-braced_or white_space digits None = digits
+-- a number as the one code point in front of a text, where it is one
+abbrev pub one_code : ℕ → Text → Option (List ℕ × Text)
+one_code n t = code_point_of n >>= λ c. Some (c ∷ [], t)
+
+-- the number that was read as the one code point, where it is one
+abbrev pub alone : Option (ℕ × Text) → Option (List ℕ × Text)
+alone read = read >>= λ p. one_code p.0 p.1
+
+-- a number
+unfoldable pub first_number : (ℕ → Bool) → Text → Option (List ℕ × Text)
+first_number white_space t = alone (number (skip white_space t))
+
+-- a number with white space before it
+unfoldable pub further_number : (ℕ → Bool) → Text → Option (List ℕ × Text)
+further_number white_space t = if begins_with white_space t then first_number white_space t else None
+
+-- numbers, parted by white space, and a closing brace
+unfoldable pub braced : (ℕ → Bool) → Text → Option (List ℕ × Text)
+braced white_space t =
+    first_number white_space t >>= λ p. in_front p.0 (up_to_brace white_space (further_number white_space) (length p.1) p.1)
+
+-- numbers in braces where a brace stands in front, else the digits
+abbrev pub braced_or : (ℕ → Bool) → Option (ℕ × Text) → Option Text → Option (List ℕ × Text)
+braced_or white_space digits None = alone digits
 braced_or white_space digits (Some inner) = braced white_space inner
 
 -- `a`, `b`, `t`, `n`, `v`, `f` and `r` stand for 07 to 0D, every other character for itself
@@ -51,24 +76,16 @@ plain c =
     else if c == 0x72 then 0x0D
     else c
 
--- `N`, `p` and `P`, whose escapes aren't read
-abbrev pub is_unread : ℕ → Bool
-is_unread c = (c == 0x4E) || (c == 0x70) || (c == 0x50)
-
--- the number of an escape, by the character behind the backslash
-unfoldable pub value : (ℕ → Bool) → ℕ → Text → Option (ℕ × Text)
-value white_space c t =
+-- the code points of an escape, by the character behind the backslash; `N` begins none
+unfoldable pub escape_at : (ℕ → Bool) → ℕ → Text → Option (List ℕ × Text)
+escape_at white_space c t =
     if c == 0x75 then braced_or white_space (four_digits 0 t) (behind 0x7B t)
     else if c == 0x78 then braced_or white_space (two_digits 0 t) (behind 0x7B t)
-    else if c == 0x55 then (behind 0x30 t >>= λ zero. (behind 0x30 zero >>= six_digits 0))
-    else if is_unread c then None
-    else Some (plain c, t)
+    else if c == 0x55 then alone (long_digits t)
+    else if c == 0x4E then None
+    else Some (plain c ∷ [], t)
 
--- the number, where it is a code point
-abbrev pub code_point_of : ℕ → Option ℕ
-code_point_of n = if nat_le n 0x10FFFF then Some n else None
-
--- the code point of an escape, and what stands behind it
-unfoldable pub escape : (ℕ → Bool) → Text → Option (ℕ × Text)
+-- the code points of an escape, and what stands behind it
+unfoldable pub escape : (ℕ → Bool) → Text → Option (List ℕ × Text)
 escape white_space [] = None
-escape white_space (c ∷ t) = value white_space c t >>= λ p. (code_point_of p.0 >>= λ n. Some (n, p.1))
+escape white_space (c ∷ t) = escape_at white_space c t

@@ -1,10 +1,12 @@
 -- The grammar of UnicodeSet patterns (UTS 35, Unicode Sets, as far as it is read): a pattern is one bracket at the front of a
--- source, of characters, escapes, ranges and further brackets, and what follows it is free.
+-- source, of characters, escapes, ranges, strings and further brackets, and what follows it is free.
 use Rattle.std.specs.Prelude.{◌≡◌, ℕ, ◌≤◌, Bool, ◌||◌, ◌==◌, List, [], ◌∷◌, Option, Some, None, is_some, if◌then◌else◌}
+use Rattle.cp_strset.specs.StringList.{sole_of}
 use Rattle.prop_data.specs.Tables.{Tables}
 use Rattle.uset_parse.specs.Text.{Text, ◌>>=◌, skip, behind, optional, begins_with}
 use Rattle.uset_parse.specs.Escape.{escape}
-use Rattle.uset_parse.specs.Tree.{Tree, Steps, bracket, done, add, join, remove, keep}
+use Rattle.uset_parse.specs.Strings.{braced_text}
+use Rattle.uset_parse.specs.Tree.{Tree, Steps, bracket, done, add, add_text, join, remove, keep}
 
 -- The three tables that the grammar reads by: white space of patterns, and the characters that begin and continue a name
 -- (UAX 31).
@@ -27,6 +29,8 @@ pub record Opening : Type 0 where
 pub data Item : Type 0 where
   -- the characters that it stands for
   chars : List ℕ → Item
+  -- a string
+  text : Text → Item
   -- a bracket inside
   nested : Tree → Item
   minus : Item
@@ -38,9 +42,17 @@ pub data Token : Type 0 where
   close : Token
   item : Item → Token
 
--- the characters that begin nothing that is read: `^` and `{`
-abbrev pub is_special : ℕ → Bool
-is_special c = (c == 0x5E) || (c == 0x7B)
+-- a text as an item, with its one character where it has exactly one: that character, else a string
+abbrev pub text_or : Option ℕ → Text → Item
+text_or (Some c) t = chars (c ∷ [])
+text_or None t = text t
+
+abbrev pub text_item : Text → Item
+text_item t = text_or (sole_of t) t
+
+-- `p` and `P`, which begin a property behind a backslash; it isn't read
+abbrev pub begins_property : ℕ → Bool
+begins_property c = (c == 0x70) || (c == 0x50)
 
 module _ (syntax : Syntax) where
   -- a caret or none at once, white space, and a hyphen or none; and what stands behind
@@ -57,16 +69,33 @@ module _ (syntax : Syntax) where
   abbrev pub header : Text → Option (Opening × Text)
   header t = behind 0x5B t >>= opening
 
+  -- what follows the `[` of a bracket inside
+  abbrev pub opening_token : Text → Option (Token × Text)
+  opening_token t = opening t >>= λ o. Some (opens o.0, o.1)
+
+  -- what follows a `$`: no name begins there
+  abbrev pub dollar_token : Text → Option (Token × Text)
+  dollar_token t = if begins_with syntax.start t then None else Some (item dollar, t)
+
+  -- what follows a `\`: no property, but an escape
+  abbrev pub escape_token : Text → Option (Token × Text)
+  escape_token t = if begins_with begins_property t then None else escape syntax.white_space t >>= λ e. Some (item (chars e.0), e.1)
+
+  -- what follows a `{`: a string
+  abbrev pub text_token : Text → Option (Token × Text)
+  text_token t = braced_text syntax.white_space t >>= λ s. Some (item (text_item s.0), s.1)
+
   abbrev pub token_at : Text → Option (Token × Text)
   token_at [] = None
   token_at (c ∷ t) =
-      if c == 0x5B then (opening t >>= λ o. Some (opens o.0, o.1))
+      if c == 0x5B then opening_token t
       else if c == 0x5D then Some (close, t)
       else if c == 0x2D then Some (item minus, t)
       else if c == 0x26 then Some (item ampersand, t)
-      else if c == 0x24 then (if begins_with syntax.start t then None else Some (item dollar, t))
-      else if c == 0x5C then (escape syntax.white_space t >>= λ e. Some (item (chars (e.0 ∷ [])), e.1))
-      else if is_special c then None
+      else if c == 0x24 then dollar_token t
+      else if c == 0x5C then escape_token t
+      else if c == 0x7B then text_token t
+      else if c == 0x5E then None
       else Some (item (chars (c ∷ [])), t)
 
   -- the token in front, white space aside, and what stands behind it
@@ -92,6 +121,8 @@ mutual
         Body (chars (a ∷ []) ∷ minus ∷ chars (b ∷ []) ∷ is) (add a b steps)
     -- characters stand for themselves
     members : {cs : List ℕ} {is : List Item} {steps : Steps} → Body is steps → Body (chars cs ∷ is) (add_each cs steps)
+    -- a string is a member
+    texts : {t : Text} {is : List Item} {steps : Steps} → Body is steps → Body (text t ∷ is) (add_text t steps)
     -- a set is joined to all that was gathered
     joins : {tree : Tree} {is : List Item} {steps : Steps} → Tail is steps → Body (nested tree ∷ is) (join tree steps)
 

@@ -1,5 +1,6 @@
 pub mod Text
 pub mod Escape
+pub mod Strings
 pub mod Tree
 pub mod Grammar
 pub mod Fault

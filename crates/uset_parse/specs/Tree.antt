@@ -1,6 +1,8 @@
 -- What a pattern denotes (UTS 35, Unicode Sets): a bracket gathers step by step, from left to right.
-use Rattle.std.specs.Prelude.{ℕ, Bool, not, ◌&&◌, ◌||◌, ◌==◌, nat_le, List, if◌then◌else◌}
+use Rattle.std.specs.Prelude.{ℕ, Bool, false, not, ◌&&◌, ◌||◌, nat_le, List, encode_utf8_all, if◌then◌else◌}
+use Rattle.std.specs.Str.{bytes_eq}
 use Rattle.cp_invlist.specs.InversionList.{is_code_point}
+use Rattle.uset_parse.specs.Text.{Text}
 
 mutual
   pub data Tree : Type 0 where
@@ -12,7 +14,7 @@ mutual
     -- adds the code points from the first number to the second
     add : ℕ → ℕ → Steps → Steps
     -- adds a string
-    add_text : List ℕ → Steps → Steps
+    add_text : Text → Steps → Steps
     -- adds the members of a set
     join : Tree → Steps → Steps
     -- takes the members of a set away
@@ -20,18 +22,38 @@ mutual
     -- keeps only the members of a set
     keep : Tree → Steps → Steps
 
-abbrev mutual
-  -- the code point is a member of what the tree denotes
-  pub has : Tree → ℕ → Bool
-  has (bracket negated leading steps) c =
-      if negated then is_code_point c && not (gathers steps c (leading && (c == 0x2D)))
-      else gathers steps c (leading && (c == 0x2D))
+-- What a set may have: a code point, or a string, by its bytes in UTF-8.
+pub data Member : Type 0 where
+  point : ℕ → Member
+  string : List ℕ → Member
 
-  -- the code point is a member once the steps are done, where the Bool says whether it was one before
-  pub gathers : Steps → ℕ → Bool → Bool
-  gathers done c b = b
-  gathers (add first last steps) c b = gathers steps c (b || (nat_le first c && nat_le c last))
-  gathers (add_text t steps) c b = gathers steps c b
-  gathers (join t steps) c b = gathers steps c (b || has t c)
-  gathers (remove t steps) c b = gathers steps c (b && not (has t c))
-  gathers (keep t steps) c b = gathers steps c (b && has t c)
+-- a code point from the first to the last
+abbrev pub in_range : ℕ → ℕ → Member → Bool
+in_range first last (point c) = nat_le first c && nat_le c last
+in_range first last (string bytes) = false
+
+-- the string of these characters
+abbrev pub is_text : Text → Member → Bool
+is_text t (point c) = false
+is_text t (string bytes) = bytes_eq (encode_utf8_all t) bytes
+
+-- a negated bracket has the other code points, and no strings
+abbrev pub negation : Member → Bool → Bool
+negation (point c) b = is_code_point c && not b
+negation (string bytes) b = false
+
+abbrev mutual
+  -- whether the tree has the member
+  pub has : Tree → Member → Bool
+  has (bracket negated leading steps) m =
+      if negated then negation m (gathers steps m (leading && in_range 0x2D 0x2D m))
+      else gathers steps m (leading && in_range 0x2D 0x2D m)
+
+  -- whether it is a member once the steps are done, where the Bool says whether it was one before
+  pub gathers : Steps → Member → Bool → Bool
+  gathers done m b = b
+  gathers (add first last steps) m b = gathers steps m (b || in_range first last m)
+  gathers (add_text t steps) m b = gathers steps m (b || is_text t m)
+  gathers (join t steps) m b = gathers steps m (b || has t m)
+  gathers (remove t steps) m b = gathers steps m (b && not (has t m))
+  gathers (keep t steps) m b = gathers steps m (b && has t m)

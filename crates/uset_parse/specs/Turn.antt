@@ -1,14 +1,16 @@
 -- What one token makes of the brackets that are open.
-use Rattle.std.specs.Prelude.{◌≡◌, ℕ, Bool, not, ◌&&◌, ◌||◌, ◌==◌, nat_le, List, [], ◌∷◌, ◌++◌, Option, Some, None, if◌then◌else◌, Result, Ok, Err}
-use Rattle.cp_invlist.specs.InversionList.{contains, is_code_point}
+use Rattle.std.specs.Prelude.{◌≡◌, ℕ, Bool, not, ◌&&◌, ◌||◌, nat_le, List, [], ◌∷◌, ◌++◌, map, Option, Some, None, if◌then◌else◌, Result, Ok, Err}
+use Rattle.std.specs.Str.{chars as characters}
+use Rattle.std.specs.String.{string_bytes}
+use Rattle.cp_strset.specs.StringList.{sole_of}
 use Rattle.uset_parse.specs.declared.code_point.CodePoint.{CodePoint}
 use Rattle.uset_parse.specs.declared.code_point.CodePoint.TheVariants.{Scalar, Surrogate}
+use Rattle.uset_parse.specs.declared.escape.Codes.{Codes}
 use Rattle.uset_parse.specs.declared.token.Token.{Token as CodeToken}
 use Rattle.uset_parse.specs.declared.token.Token.TheVariants.{Open, Close, Item as OneItem}
 use Rattle.uset_parse.specs.declared.token.Item.{Item as CodeItem}
-use Rattle.uset_parse.specs.declared.token.Item.TheVariants.{Minus, Ampersand, Dollar, Character}
+use Rattle.uset_parse.specs.declared.token.Item.TheVariants.{Minus, Ampersand, Dollar, Character, Escape, Text as Spelled}
 use Rattle.uset_parse.specs.declared.token.Opening.{Opening as CodeOpening}
-use Rattle.cp_invlist.specs.declared.set.CodePointInversionList.{CodePointInversionList}
 use Rattle.uset_parse.specs.declared.error.ParseError.{ParseError}
 use Rattle.uset_parse.specs.declared.error.ParseErrorKind.{ParseErrorKind}
 use Rattle.uset_parse.specs.declared.error.ParseErrorKind.TheVariants.{Internal, Unimplemented, NoMemory}
@@ -18,14 +20,22 @@ use Rattle.uset_parse.specs.declared.bracket.Awaits.{Awaits}
 use Rattle.uset_parse.specs.declared.bracket.Awaits.TheVariants.{Element, AfterSingle, RangeEnd, End, AnchorEnd, AfterSet, RemoveOrEnd, Keep}
 use Rattle.uset_parse.specs.declared.stack.Progress.{Progress}
 use Rattle.uset_parse.specs.declared.stack.Progress.TheVariants.{GoesOn, Done}
-use Rattle.uset_parse.specs.Grammar.{Opening, Token, opens, close, item, Item, chars, minus, ampersand, dollar}
 use Rattle.uset_parse.specs.declared.gathered.Gathered.{Gathered}
+use Rattle.uset_parse.specs.declared.gathered.Members.{Members}
+use Rattle.uset_parse.specs.Text.{Text}
+use Rattle.uset_parse.specs.Tree.{Member, in_range, is_text, negation}
+use Rattle.uset_parse.specs.Grammar.{Opening, Token, opens, close, item, Item, chars, text_item, minus, ampersand, dollar}
 use Rattle.uset_parse.specs.Gathered.{gathered_in}
+use Rattle.uset_parse.specs.Reading.{in_members}
 
 -- the number of a code point
 abbrev pub number_of : CodePoint → ℕ
 number_of (Scalar c) = c
 number_of (Surrogate n) = n
+
+-- the code points of an escape
+abbrev pub codes_of : Codes → List ℕ
+codes_of codes = number_of codes.first ∷ map number_of codes.more.items
 
 -- an item as the code keeps it
 abbrev pub item_seen : CodeItem → Item
@@ -33,6 +43,8 @@ item_seen Minus = minus
 item_seen Ampersand = ampersand
 item_seen Dollar = dollar
 item_seen (Character c) = chars (number_of c ∷ [])
+item_seen (Escape codes) = chars (codes_of codes)
+item_seen (Spelled t) = text_item (characters (string_bytes t))
 
 -- what a bracket begins with, as the code keeps it
 abbrev pub opening_seen : CodeOpening → Opening
@@ -44,16 +56,16 @@ token_seen (Open o) = opens (opening_seen o)
 token_seen Close = close
 token_seen (OneItem i) = item (item_seen i)
 
--- Whether a number is a member afterwards, from whether it was one before.
+-- Whether something is a member afterwards, from whether it was one before.
 abbrev pub Effect : Type 0
-Effect = ℕ → Bool → Bool
+Effect = Member → Bool → Bool
 
 abbrev pub nothing : Effect
-nothing = λ c b. b
+nothing = λ m b. b
 
--- adds the numbers from the first to the last
+-- adds the code points from the first to the last
 abbrev pub adds : ℕ → ℕ → Effect
-adds first last = λ c b. b || (nat_le first c && nat_le c last)
+adds first last = λ m b. b || in_range first last m
 
 -- adds the code point
 abbrev pub adds_single : CodePoint → Effect
@@ -61,49 +73,109 @@ adds_single a = adds (number_of a) (number_of a)
 
 -- one effect, and then another
 abbrev pub both : Effect → Effect → Effect
-both first second = λ c b. second c (first c b)
+both first second = λ m b. second m (first m b)
+
+-- adds each of the code points
+abbrev pub adds_each : List ℕ → Effect
+adds_each [] = nothing
+adds_each (c ∷ cs) = both (adds c c) (adds_each cs)
+
+-- adds the string
+abbrev pub adds_text : Text → Effect
+adds_text t = λ m b. b || is_text t m
 
 -- adds U+002D
 abbrev pub hyphen : Effect
 hyphen = adds 0x2D 0x2D
 
--- what an item does to a bracket that awaits something, and what it awaits then, if the item fits there
-abbrev pub turn : Awaits → CodeItem → Option (Effect × Awaits)
-turn Element Minus = Some (nothing, End)
-turn Element Ampersand = None
-turn Element Dollar = Some (nothing, AnchorEnd)
-turn Element (Character c) = Some (nothing, AfterSingle c)
-turn (AfterSingle a) Minus = Some (nothing, RangeEnd a)
-turn (AfterSingle a) Ampersand = None
-turn (AfterSingle a) Dollar = Some (adds_single a, AnchorEnd)
-turn (AfterSingle a) (Character c) = Some (adds_single a, AfterSingle c)
-turn (RangeEnd a) Minus = None
-turn (RangeEnd a) Ampersand = None
-turn (RangeEnd a) Dollar = None
-turn (RangeEnd a) (Character b) = if nat_le (number_of a) (number_of b) then Some (adds (number_of a) (number_of b), Element) else None
-turn End i = None
-turn AnchorEnd i = None
-turn AfterSet Minus = Some (nothing, RemoveOrEnd)
-turn AfterSet Ampersand = Some (nothing, Keep)
-turn AfterSet Dollar = Some (nothing, AnchorEnd)
-turn AfterSet (Character c) = Some (nothing, AfterSingle c)
-turn RemoveOrEnd i = None
-turn Keep i = None
+-- What an item does to a bracket, and what the bracket awaits then, if the item fits there.
+abbrev pub Turned : Type 0
+Turned = Option (Effect × Awaits)
 
--- Whether a number is a member afterwards, from whether it was one before, and whether the set inside has it.
+abbrev pub turn_minus : Awaits → Turned
+turn_minus Element = Some (nothing, End)
+turn_minus (AfterSingle a) = Some (nothing, RangeEnd a)
+turn_minus (RangeEnd a) = None
+turn_minus End = None
+turn_minus AnchorEnd = None
+turn_minus AfterSet = Some (nothing, RemoveOrEnd)
+turn_minus RemoveOrEnd = None
+turn_minus Keep = None
+
+abbrev pub turn_ampersand : Awaits → Turned
+turn_ampersand Element = None
+turn_ampersand (AfterSingle a) = None
+turn_ampersand (RangeEnd a) = None
+turn_ampersand End = None
+turn_ampersand AnchorEnd = None
+turn_ampersand AfterSet = Some (nothing, Keep)
+turn_ampersand RemoveOrEnd = None
+turn_ampersand Keep = None
+
+abbrev pub turn_dollar : Awaits → Turned
+turn_dollar Element = Some (nothing, AnchorEnd)
+turn_dollar (AfterSingle a) = Some (adds_single a, AnchorEnd)
+turn_dollar (RangeEnd a) = None
+turn_dollar End = None
+turn_dollar AnchorEnd = None
+turn_dollar AfterSet = Some (nothing, AnchorEnd)
+turn_dollar RemoveOrEnd = None
+turn_dollar Keep = None
+
+-- a single character
+abbrev pub turn_single : Awaits → CodePoint → Turned
+turn_single Element c = Some (nothing, AfterSingle c)
+turn_single (AfterSingle a) c = Some (adds_single a, AfterSingle c)
+turn_single (RangeEnd a) b = if nat_le (number_of a) (number_of b) then Some (adds (number_of a) (number_of b), Element) else None
+turn_single End c = None
+turn_single AnchorEnd c = None
+turn_single AfterSet c = Some (nothing, AfterSingle c)
+turn_single RemoveOrEnd c = None
+turn_single Keep c = None
+
+-- members that begin no range
+abbrev pub turn_members : Awaits → Effect → Turned
+turn_members Element added = Some (added, Element)
+turn_members (AfterSingle a) added = Some (both (adds_single a) added, Element)
+turn_members (RangeEnd a) added = None
+turn_members End added = None
+turn_members AnchorEnd added = None
+turn_members AfterSet added = Some (added, Element)
+turn_members RemoveOrEnd added = None
+turn_members Keep added = None
+
+-- an escape is a single character where it has one code point
+abbrev pub turn_codes : Awaits → CodePoint → List CodePoint → Turned
+turn_codes awaits a [] = turn_single awaits a
+turn_codes awaits a (b ∷ cs) = turn_members awaits (adds_each (number_of a ∷ number_of b ∷ map number_of cs))
+
+-- a text is a single character where it has exactly one
+abbrev pub turn_text : Awaits → Option ℕ → Text → Turned
+turn_text awaits (Some c) t = turn_single awaits (Scalar c)
+turn_text awaits None t = turn_members awaits (adds_text t)
+
+abbrev pub turn : Awaits → CodeItem → Turned
+turn awaits Minus = turn_minus awaits
+turn awaits Ampersand = turn_ampersand awaits
+turn awaits Dollar = turn_dollar awaits
+turn awaits (Character c) = turn_single awaits c
+turn awaits (Escape codes) = turn_codes awaits codes.first codes.more.items
+turn awaits (Spelled t) = turn_text awaits (sole_of (characters (string_bytes t))) (characters (string_bytes t))
+
+-- Whether something is a member afterwards, from whether it was one before, and whether the set inside has it.
 abbrev pub SetEffect : Type 0
-SetEffect = ℕ → Bool → Bool → Bool
+SetEffect = Member → Bool → Bool → Bool
 
 -- what a set does to a bracket that awaits something, if it fits there
 abbrev pub set_turn : Awaits → Option SetEffect
-set_turn Element = Some (λ c b x. b || x)
-set_turn (AfterSingle a) = Some (λ c b x. adds_single a c b || x)
+set_turn Element = Some (λ m b x. b || x)
+set_turn (AfterSingle a) = Some (λ m b x. adds_single a m b || x)
 set_turn (RangeEnd a) = None
 set_turn End = None
 set_turn AnchorEnd = None
-set_turn AfterSet = Some (λ c b x. b || x)
-set_turn RemoveOrEnd = Some (λ c b x. b && not x)
-set_turn Keep = Some (λ c b x. b && x)
+set_turn AfterSet = Some (λ m b x. b || x)
+set_turn RemoveOrEnd = Some (λ m b x. b && not x)
+set_turn Keep = Some (λ m b x. b && x)
 
 -- what the end does to a bracket that awaits something, if it fits there
 abbrev pub ending : Awaits → Option Effect
@@ -116,13 +188,13 @@ ending AfterSet = Some nothing
 ending RemoveOrEnd = Some hyphen
 ending Keep = None
 
--- whether a number is a member of a bracket, from whether it was gathered
-abbrev pub finished : Bool → ℕ → Bool → Bool
-finished negated c b = if negated then is_code_point c && not b else b
+-- whether something is a member of a bracket, from whether it was gathered
+abbrev pub finished : Bool → Member → Bool → Bool
+finished negated m b = if negated then negation m b else b
 
 -- the set is what the effect makes of the old one
 abbrev pub Becomes : Gathered → Effect → Gathered → Type 0
-Becomes old effect new = (c : ℕ) → gathered_in new c ≡ effect c (gathered_in old c)
+Becomes old effect new = (m : Member) → gathered_in new m ≡ effect m (gathered_in old m)
 
 -- nothing fits, or memory was refused
 abbrev pub Refuses : Type 0 → ParseErrorKind → Type 0
@@ -132,22 +204,22 @@ Refuses unfit Internal = ⊥
 
 -- nothing was gathered but a leading hyphen
 pub record IsFresh (opening : CodeOpening) (b : OpenBracket) : Type 0 where
-  pub members : (c : ℕ) → gathered_in b.gathered c ≡ (opening.leading && (c == 0x2D))
+  pub members : (m : Member) → gathered_in b.gathered m ≡ (opening.leading && in_range 0x2D 0x2D m)
   pub awaits : b.awaits ≡ Element
   pub negated : b.negated ≡ opening.negated
 
--- the bracket took the item
-pub record Took (old : OpenBracket) (i : CodeItem) (new : OpenBracket) : Type 0 where
+-- the bracket turned so
+pub record Took (old : OpenBracket) (turned : Turned) (new : OpenBracket) : Type 0 where
   pub effect : Effect
-  pub turned : turn old.awaits i ≡ Some (effect, new.awaits)
+  pub is_turned : turned ≡ Some (effect, new.awaits)
   pub becomes : Becomes old.gathered effect new.gathered
   pub negated : new.negated ≡ old.negated
 
 -- the bracket took the set
-pub record TookSet (old : OpenBracket) (set : List ℕ) (new : OpenBracket) : Type 0 where
+pub record TookSet (old : OpenBracket) (set : Members) (new : OpenBracket) : Type 0 where
   pub effect : SetEffect
   pub turned : set_turn old.awaits ≡ Some effect
-  pub becomes : (c : ℕ) → gathered_in new.gathered c ≡ effect c (gathered_in old.gathered c) (contains set c)
+  pub becomes : (m : Member) → gathered_in new.gathered m ≡ effect m (gathered_in old.gathered m) (in_members set m)
   pub awaits : new.awaits ≡ AfterSet
   pub negated : new.negated ≡ old.negated
 
@@ -159,16 +231,16 @@ pub record Ended (old new : OpenBracket) : Type 0 where
   pub negated : new.negated ≡ old.negated
 
 -- the bracket was closed, with this set
-pub record WasClosed (old : OpenBracket) (set : List ℕ) : Type 0 where
+pub record WasClosed (old : OpenBracket) (set : Members) : Type 0 where
   pub effect : Effect
   pub ended : ending old.awaits ≡ Some effect
-  pub members : (c : ℕ) → contains set c ≡ finished old.negated c (effect c (gathered_in old.gathered c))
+  pub members : (m : Member) → in_members set m ≡ finished old.negated m (effect m (gathered_in old.gathered m))
 
-abbrev pub Takes : OpenBracket → CodeItem → Result OpenBracket ParseError → Type 0
-Takes old i (Ok new) = Took old i new
-Takes old i (Err error) = Refuses (turn old.awaits i ≡ None) (kind_of error)
+abbrev pub Takes : OpenBracket → Turned → Result OpenBracket ParseError → Type 0
+Takes old turned (Ok new) = Took old turned new
+Takes old turned (Err error) = Refuses (turned ≡ None) (kind_of error)
 
-abbrev pub TakesSet : OpenBracket → List ℕ → Result OpenBracket ParseError → Type 0
+abbrev pub TakesSet : OpenBracket → Members → Result OpenBracket ParseError → Type 0
 TakesSet old set (Ok new) = TookSet old set new
 TakesSet old set (Err error) = Refuses (set_turn old.awaits ≡ None) (kind_of error)
 
@@ -176,7 +248,7 @@ abbrev pub Ends : OpenBracket → Result OpenBracket ParseError → Type 0
 Ends old (Ok new) = Ended old new
 Ends old (Err error) = Refuses (ending old.awaits ≡ None) (kind_of error)
 
-abbrev pub Closes : OpenBracket → Result CodePointInversionList ParseError → Type 0
+abbrev pub Closes : OpenBracket → Result Members ParseError → Type 0
 Closes old (Ok set) = WasClosed old set
 Closes old (Err error) = Refuses (ending old.awaits ≡ None) (kind_of error)
 
@@ -189,12 +261,12 @@ pub record Opened (outer : List OpenBracket) (b : OpenBracket) (o : CodeOpening)
 -- the innermost bracket took an item
 pub record Grew (outer : List OpenBracket) (b : OpenBracket) (i : CodeItem) (new : List OpenBracket) : Type 0 where
   pub next : OpenBracket
-  pub took : Took b i next
+  pub took : Took b (turn b.awaits i) next
   pub now : new ≡ outer ++ next ∷ []
 
 -- the innermost bracket was closed, and the one around it took its set
 pub record Nested (outer : List OpenBracket) (b : OpenBracket) (new : List OpenBracket) : Type 0 where
-  pub set : CodePointInversionList
+  pub set : Members
   pub closed : WasClosed b set
   pub further : List OpenBracket
   pub around : OpenBracket

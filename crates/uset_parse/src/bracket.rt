@@ -1,9 +1,11 @@
 //! An open bracket.
 use crate::code_point::CodePoint;
 use crate::error::{ParseError, ParseErrorKind};
-use crate::gathered::Gathered;
+use crate::escape::Codes;
+use crate::gathered::{Gathered, Members};
+use crate::string::sole_char;
 use crate::token::{Item, Opening};
-use cp_invlist::{CodePointInversionList, CodePointRange};
+use cp_invlist::CodePointRange;
 use std::alloc::Global;
 
 /// The range of the hyphen alone.
@@ -42,13 +44,16 @@ pub(crate) struct OpenBracket {
 }
 
 impl OpenBracket {
-    ghost use Rattle.std.specs.Prelude.{◌≡◌, ◌≤◌, ℕ, ◌||◌, ◌&&◌, not, nat_le, ◌==◌, ◌∷◌, [], IfOk, IfErr, OnOk};
-    ghost use Rattle.cp_invlist.specs.InversionList.{contains};
+    ghost use Rattle.std.specs.Prelude.{◌≡◌, ◌≤◌, None, IfOk, IfErr, OnOk};
+    ghost use Rattle.std.specs.Str.{chars};
+    ghost use Rattle.std.specs.String.{string_bytes};
+    ghost use Rattle.cp_strset.specs.StringList.{sole_of};
     ghost use Rattle.uset_parse.specs.declared.error.ParseErrorKind.TheVariants.{NoMemory as OutOfMemory};
-    ghost use Rattle.uset_parse.specs.declared.token.Item.TheVariants.{Minus, Ampersand, Dollar, Character};
+    ghost use Rattle.uset_parse.specs.Tree.{Member};
     ghost use Rattle.uset_parse.specs.Fault.{kind_of};
     ghost use Rattle.uset_parse.specs.Gathered.{gathered_in};
-    ghost use Rattle.uset_parse.specs.Turn.{adds, adds_single, finished, Becomes, IsFresh, Takes, TakesSet, Ends, Closes};
+    ghost use Rattle.uset_parse.specs.Reading.{in_members};
+    ghost use Rattle.uset_parse.specs.Turn.{nothing, adds, adds_single, adds_each, adds_text, codes_of, finished, turn, turn_minus, turn_ampersand, turn_dollar, turn_single, turn_members, turn_codes, turn_text, Becomes, IsFresh, Takes, TakesSet, Ends, Closes};
 
     /// A bracket behind its opening.
     pub(crate) fn open(alloc: Global, opening: Opening) -> Result<OpenBracket, ParseError>
@@ -68,19 +73,21 @@ impl OpenBracket {
 
     /// Takes an item.
     pub(crate) fn take(self, item: Item) -> Result<OpenBracket, ParseError>
-        ensures { Takes self item result }
+        ensures { Takes self (turn self.awaits item) result }
     {
         match item {
             Item::Minus => self.take_minus(),
             Item::Ampersand => self.take_ampersand(),
             Item::Dollar => self.take_dollar(),
             Item::Character(c) => self.take_character(c),
+            Item::Escape(codes) => self.take_codes(codes),
+            Item::Text(text) => self.take_text(text),
         }
     }
 
     /// Takes `-`.
     fn take_minus(mut self) -> Result<OpenBracket, ParseError>
-        ensures { Takes self Minus result }
+        ensures { Takes self (turn_minus self.awaits) result }
     {
         match self.awaits {
             Awaits::Element => {
@@ -105,7 +112,7 @@ impl OpenBracket {
 
     /// Takes `&`.
     fn take_ampersand(mut self) -> Result<OpenBracket, ParseError>
-        ensures { Takes self Ampersand result }
+        ensures { Takes self (turn_ampersand self.awaits) result }
     {
         match self.awaits {
             Awaits::AfterSet => {
@@ -124,7 +131,7 @@ impl OpenBracket {
 
     /// Takes a bare `$`.
     fn take_dollar(mut self) -> Result<OpenBracket, ParseError>
-        ensures { Takes self Dollar result }
+        ensures { Takes self (turn_dollar self.awaits) result }
     {
         match self.awaits {
             Awaits::Element | Awaits::AfterSet => {
@@ -146,7 +153,7 @@ impl OpenBracket {
 
     /// Takes a single code point.
     fn take_character(mut self, c: CodePoint) -> Result<OpenBracket, ParseError>
-        ensures { Takes self (Character c) result }
+        ensures { Takes self (turn_single self.awaits c) result }
     {
         match self.awaits {
             Awaits::Element | Awaits::AfterSet => {
@@ -171,12 +178,73 @@ impl OpenBracket {
         }
     }
 
+    /// Takes an escape.
+    fn take_codes(self, codes: Codes) -> Result<OpenBracket, ParseError>
+        ensures { Takes self (turn_codes self.awaits codes.first codes.more.items) result }
+    {
+        if codes.more.is_empty() {
+            return self.take_character(codes.first);
+        }
+        self.take_several(codes)
+    }
+
+    /// Takes an escape of several code points.
+    fn take_several(self, codes: Codes) -> Result<OpenBracket, ParseError>
+        ensures { Takes self (turn_members self.awaits (adds_each (codes_of codes))) result }
+    {
+        let mut bracket = self.begin_members()?;
+        bracket.add_single(codes.first)?;
+        for code_point in &codes.more {
+            bracket.add_single(*code_point)?;
+        }
+        Ok(bracket)
+    }
+
+    /// Takes a string.
+    fn take_text(self, text: String) -> Result<OpenBracket, ParseError>
+        ensures { Takes self (turn_text self.awaits (sole_of (chars (string_bytes text))) (chars (string_bytes text))) result }
+    {
+        match sole_char(&text) {
+            Some(c) => self.take_character(CodePoint::Scalar(c)),
+            None => self.take_string(text),
+        }
+    }
+
+    /// Takes a string that isn't one character.
+    fn take_string(self, text: String) -> Result<OpenBracket, ParseError>
+        requires { sole_of (chars (string_bytes text)) ≡ None }
+        ensures { Takes self (turn_members self.awaits (adds_text (chars (string_bytes text)))) result }
+    {
+        let mut bracket = self.begin_members()?;
+        bracket.gathered.add_text(text)?;
+        Ok(bracket)
+    }
+
+    /// Makes way for members that begin no range.
+    fn begin_members(mut self) -> Result<OpenBracket, ParseError>
+        ensures { Takes self (turn_members self.awaits nothing) result }
+    {
+        match self.awaits {
+            Awaits::Element | Awaits::AfterSet => {
+                self.awaits = Awaits::Element;
+                Ok(self)
+            }
+            Awaits::AfterSingle(first) => {
+                self.add_single(first)?;
+                self.awaits = Awaits::Element;
+                Ok(self)
+            }
+            Awaits::RangeEnd(_)
+            | Awaits::End
+            | Awaits::AnchorEnd
+            | Awaits::RemoveOrEnd
+            | Awaits::Keep => Err(ParseErrorKind::Unimplemented.into()),
+        }
+    }
+
     /// Takes the set of a bracket inside.
-    pub(crate) fn take_set(
-        mut self,
-        set: &CodePointInversionList,
-    ) -> Result<OpenBracket, ParseError>
-        ensures { TakesSet self set.now result }
+    pub(crate) fn take_set(mut self, set: Members) -> Result<OpenBracket, ParseError>
+        ensures { TakesSet self set result }
     {
         match self.awaits {
             Awaits::Element | Awaits::AfterSet => self.gathered.add_set(set)?,
@@ -184,8 +252,8 @@ impl OpenBracket {
                 self.add_single(first)?;
                 self.gathered.add_set(set)?;
             }
-            Awaits::RemoveOrEnd => self.gathered.remove_set(set)?,
-            Awaits::Keep => self.gathered.retain_set(set)?,
+            Awaits::RemoveOrEnd => self.gathered.remove_set(&set)?,
+            Awaits::Keep => self.gathered.retain_set(&set)?,
             Awaits::RangeEnd(_) | Awaits::End | Awaits::AnchorEnd => {
                 return Err(ParseErrorKind::Unimplemented.into());
             }
@@ -195,10 +263,10 @@ impl OpenBracket {
     }
 
     /// Takes `]`. The answer is the bracket's set.
-    pub(crate) fn close(self) -> Result<CodePointInversionList, ParseError>
+    pub(crate) fn close(self, alloc: Global) -> Result<Members, ParseError>
         ensures { Closes self result }
     {
-        self.end()?.finish()
+        self.end()?.finish(alloc)
     }
 
     /// Gathers what the end leaves standing for itself.
@@ -229,11 +297,11 @@ impl OpenBracket {
     }
 
     /// The set of what was gathered, or of the other code points where the bracket is negated.
-    fn finish(self) -> Result<CodePointInversionList, ParseError>
-        ensures members { IfOk result (λ set. (c : ℕ) → contains set c ≡ finished self.negated c (gathered_in self.gathered c)) }
+    fn finish(self, alloc: Global) -> Result<Members, ParseError>
+        ensures members { IfOk result (λ set. (m : Member) → in_members set m ≡ finished self.negated m (gathered_in self.gathered m)) }
         ensures err { IfErr result (λ e. kind_of e ≡ OutOfMemory) }
     {
-        Ok(self.gathered.finish(self.negated)?)
+        Ok(self.gathered.finish(alloc, self.negated)?)
     }
 
     fn add_single(&mut self, single: CodePoint) -> Result<(), ParseError>

@@ -1,123 +1,96 @@
-//! What a bracket has gathered.
-ghost use Rattle.std.specs.Prelude.{◌≡◌, ℕ, IfOk};
-ghost use Rattle.cp_invlist.specs.InversionList.{contains};
-ghost use Rattle.uset_parse.specs.Gathered.{in_some};
-
-use cp_invlist::{CodePointInversionList, CodePointInversionListBuilder, CodePointRange, NoMemory};
+//! What a bracket has gathered, and the set that it makes of it.
+use crate::ranges::Ranges;
+use crate::strings::Strings;
+use cp_invlist::{CodePointInversionList, CodePointRange, NoMemory};
 use std::alloc::Global;
 
-/// A set in the making. A range that begins behind all that is held is appended to the builder, any
-/// other is put aside, and all of those are sorted once the whole set is needed: so the order of
-/// elements in a source costs no more than a sort.
+/// The set of a bracket.
 #[derive(Drop)]
-pub(crate) struct Gathered {
-    alloc: Global,
-    builder: CodePointInversionListBuilder,
-    aside: Vec<CodePointRange>,
-    /// Ranges from this number on are appended to the builder.
-    open_from: u32,
+pub(crate) struct Members {
+    pub(crate) code_points: CodePointInversionList,
+    pub(crate) strings: Strings,
 }
 
-/// Past all numbers: every range is put aside.
-const NOWHERE: u32 = u32::MAX;
-
-/// The set of the ranges, which are in the order of their first code points.
-#[tactic(auto, using(std::proofs::lemmas::List::Folds::list_any_more))]
-fn union(alloc: Global, ranges: &[CodePointRange]) -> Result<CodePointInversionList, NoMemory>
-    ensures { IfOk result (λ set. (c : ℕ) → contains set c ≡ in_some ranges.now c) }
-{
-    let mut builder = CodePointInversionListBuilder::new(alloc);
-    for range in ranges {
-        builder.add_range32(*range)?;
-    }
-    Ok(builder.build())
+/// A set in the making.
+#[derive(Drop)]
+pub(crate) struct Gathered {
+    ranges: Ranges,
+    strings: Strings,
 }
 
 impl Gathered {
-    ghost use Rattle.std.specs.Prelude.{◌≡◌, ℕ, ◌||◌, ◌&&◌, not, false, [], IfOk, OnOk};
-    ghost use Rattle.cp_invlist.specs.InversionList.{contains};
-    ghost use Rattle.cp_invlist.specs.Ranges.{in_code_points};
+    ghost use Rattle.std.specs.Prelude.{◌≡◌, ◌≤◌, ◌||◌, ◌&&◌, not, false, None, IfOk, OnOk};
+    ghost use Rattle.std.specs.Str.{chars};
+    ghost use Rattle.std.specs.String.{string_bytes};
+    ghost use Rattle.cp_strset.specs.StringList.{sole_of};
+    ghost use Rattle.uset_parse.specs.Tree.{Member, in_range, is_text};
     ghost use Rattle.uset_parse.specs.Gathered.{gathered_in};
+    ghost use Rattle.uset_parse.specs.Reading.{in_members};
     ghost use Rattle.uset_parse.specs.Turn.{finished};
 
     /// Nothing yet.
-    #[tactic(auto, unfolding(crate::specs::Gathered::gathered_in))]
     pub(crate) fn new(alloc: Global) -> Gathered
-        ensures { (c : ℕ) → gathered_in result c ≡ false }
+        ensures { (m : Member) → gathered_in result m ≡ false }
     {
         Gathered {
-            alloc,
-            builder: CodePointInversionListBuilder::new(alloc),
-            aside: Vec::new(alloc),
-            open_from: 0,
+            ranges: Ranges::new(alloc),
+            strings: Strings::new(alloc),
         }
     }
 
     /// Adds the code points of the range.
-    #[tactic(auto, unfolding(crate::specs::Gathered::gathered_in))]
     pub(crate) fn add_range(&mut self, range: CodePointRange) -> Result<(), NoMemory>
-        ensures ok { OnOk result ((c : ℕ) → gathered_in self.new c ≡ (gathered_in self.old c || in_code_points range c)) }
+        requires { range.end ≤ 0x10_FFFF }
+        ensures { OnOk result ((m : Member) → gathered_in self.new m ≡ (gathered_in self.old m || in_range range.start range.end m)) }
     {
-        if range.start < self.open_from {
-            self.aside.push(range)?;
-            return Ok(());
-        }
-        self.builder.add_range32(range)?;
-        self.open_from = range.end;
-        Ok(())
+        self.ranges.add_range(range)
+    }
+
+    /// Adds a string, which isn't one character.
+    pub(crate) fn add_text(&mut self, text: String) -> Result<(), NoMemory>
+        requires { sole_of (chars (string_bytes text)) ≡ None }
+        ensures { OnOk result ((m : Member) → gathered_in self.new m ≡ (gathered_in self.old m || is_text (chars (string_bytes text)) m)) }
+    {
+        self.strings.insert(text)
     }
 
     /// Adds the members of the set.
-    #[tactic(auto, unfolding(crate::specs::Gathered::gathered_in))]
-    pub(crate) fn add_set(&mut self, set: &CodePointInversionList) -> Result<(), NoMemory>
-        ensures ok { OnOk result ((c : ℕ) → gathered_in self.new c ≡ (gathered_in self.old c || contains set.now c)) }
+    pub(crate) fn add_set(&mut self, set: Members) -> Result<(), NoMemory>
+        ensures { OnOk result ((m : Member) → gathered_in self.new m ≡ (gathered_in self.old m || in_members set m)) }
     {
-        self.open_from = NOWHERE;
-        self.builder.add_set(set)
+        self.ranges.add_set(&set.code_points)?;
+        self.strings.append(set.strings)
     }
 
     /// Takes the members of the set away.
-    #[tactic(auto, unfolding(crate::specs::Gathered::gathered_in))]
-    pub(crate) fn remove_set(&mut self, set: &CodePointInversionList) -> Result<(), NoMemory>
-        ensures ok { OnOk result ((c : ℕ) → gathered_in self.new c ≡ (gathered_in self.old c && not (contains set.now c))) }
+    pub(crate) fn remove_set(&mut self, set: &Members) -> Result<(), NoMemory>
+        ensures { OnOk result ((m : Member) → gathered_in self.new m ≡ (gathered_in self.old m && not (in_members set.now m))) }
     {
-        self.settle()?;
-        self.builder.remove_set(set)
+        self.strings.remove_all(&set.strings);
+        self.ranges.remove_set(&set.code_points)
     }
 
     /// Keeps only the members of the set.
-    #[tactic(auto, unfolding(crate::specs::Gathered::gathered_in))]
-    pub(crate) fn retain_set(&mut self, set: &CodePointInversionList) -> Result<(), NoMemory>
-        ensures ok { OnOk result ((c : ℕ) → gathered_in self.new c ≡ (gathered_in self.old c && contains set.now c)) }
+    pub(crate) fn retain_set(&mut self, set: &Members) -> Result<(), NoMemory>
+        ensures { OnOk result ((m : Member) → gathered_in self.new m ≡ (gathered_in self.old m && in_members set.now m)) }
     {
-        self.settle()?;
-        self.builder.retain_set(set)
+        self.strings.keep_only(&set.strings);
+        self.ranges.retain_set(&set.code_points)
     }
 
-    /// The set of what was gathered, or of the other code points where it is negated.
-    #[tactic(auto, unfolding(crate::specs::Gathered::gathered_in))]
-    pub(crate) fn finish(mut self, negated: bool) -> Result<CodePointInversionList, NoMemory>
-        ensures { IfOk result (λ set. (c : ℕ) → contains set c ≡ finished negated c (gathered_in self c)) }
+    /// The set of what was gathered; where it is negated, of the other code points, without strings.
+    pub(crate) fn finish(self, alloc: Global, negated: bool) -> Result<Members, NoMemory>
+        ensures { IfOk result (λ set. (m : Member) → in_members set m ≡ finished negated m (gathered_in self m)) }
     {
-        self.settle()?;
         if negated {
-            self.builder.complement()?;
+            return Ok(Members {
+                code_points: self.ranges.finish_negated()?,
+                strings: Strings::new(alloc),
+            });
         }
-        Ok(self.builder.build())
-    }
-
-    /// Moves what was put aside into the builder.
-    fn settle(&mut self) -> Result<(), NoMemory>
-        ensures members { OnOk result ((c : ℕ) → gathered_in self.new c ≡ gathered_in self.old c) }
-        ensures settled { OnOk result (self.new.aside.items ≡ []) }
-    {
-        if self.aside.is_empty() {
-            return Ok(());
-        }
-        self.aside.sort_unstable_by_key(|range| range.start);
-        let set = union(self.alloc, &self.aside)?;
-        self.aside.clear();
-        self.open_from = NOWHERE;
-        self.builder.add_set(&set)
+        Ok(Members {
+            code_points: self.ranges.finish()?,
+            strings: self.strings,
+        })
     }
 }

@@ -9,8 +9,11 @@ mod escape;
 mod gathered;
 pub mod laws;
 mod parse;
+mod ranges;
 mod reader;
 mod stack;
+mod string;
+mod strings;
 mod syntax;
 #[cfg(test)]
 mod tests;

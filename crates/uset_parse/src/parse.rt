@@ -10,6 +10,7 @@ use crate::reader::read_set;
 use crate::syntax::Syntax;
 use crate::variables::VariableMap;
 use cp_strset::CodePointInversionListAndStringList;
+use cp_strset::laws::faultless;
 use prop_data::PropertyDatabase;
 use std::alloc::Global;
 
@@ -30,7 +31,9 @@ pub fn parse_unstable_with_variables(
         return Err(ParseErrorKind::Internal.into());
     };
     let (set, read) = read_set(alloc, &syntax, source)?;
-    let Ok(set) = CodePointInversionListAndStringList::try_from(set, Vec::new(alloc)) else {
+    let strings = set.strings.into_list(alloc)?;
+    faultless();
+    let Ok(set) = CodePointInversionListAndStringList::try_from(set.code_points, strings) else {
         unreachable!()
     };
     Ok((set, read))

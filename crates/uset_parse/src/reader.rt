@@ -6,10 +6,10 @@ ghost use Rattle.uset_parse.specs.Reading.{syntax_seen, IsFront, Unread};
 
 use crate::bracket::OpenBracket;
 use crate::error::{ParseError, ParseErrorKind};
+use crate::gathered::Members;
 use crate::stack::{Progress, turn};
 use crate::syntax::Syntax;
 use crate::token::{read_header, read_token};
-use cp_invlist::CodePointInversionList;
 use std::alloc::Global;
 
 /// Reads the set at the front of the source. The answer is the set and the number of bytes read.
@@ -17,7 +17,7 @@ pub(crate) fn read_set(
     alloc: Global,
     syntax: &Syntax<'_>,
     source: &str,
-) -> Result<(CodePointInversionList, usize), ParseError>
+) -> Result<(Members, usize), ParseError>
     ensures read { IfOk result (λ p. IsFront (syntax_seen syntax.now) (chars source.now) (length source.now) p.0 p.1) }
     ensures unread { IfErr result (λ e. Unread (syntax_seen syntax.now) (chars source.now) (kind_of e)) }
 {
@@ -28,7 +28,7 @@ pub(crate) fn read_set(
     let mut open = Vec::new(alloc);
     open.push(OpenBracket::open(alloc, opening)?)?;
     while let Some(bracket) = open.pop() {
-        let Some((token, behind)) = read_token(syntax, rest) else {
+        let Some((token, behind)) = read_token(alloc, syntax, rest)? else {
             return Err(ParseErrorKind::Unimplemented.into());
         };
         rest = behind;

@@ -4,8 +4,8 @@ ghost use Rattle.uset_parse.specs.Turn.{Turns};
 
 use crate::bracket::OpenBracket;
 use crate::error::ParseError;
+use crate::gathered::Members;
 use crate::token::{Item, Opening, Token};
-use cp_invlist::CodePointInversionList;
 use std::alloc::Global;
 
 /// What a token made of the open brackets.
@@ -14,7 +14,7 @@ pub(crate) enum Progress {
     /// A bracket is still open.
     GoesOn,
     /// The outermost bracket was closed, with this set.
-    Done(CodePointInversionList),
+    Done(Members),
 }
 
 /// Gives a token to the innermost bracket, which stands inside the outer ones.
@@ -28,7 +28,7 @@ pub(crate) fn turn(
 {
     match token {
         Token::Open(opening) => nest(alloc, outer, bracket, opening),
-        Token::Close => close(outer, bracket),
+        Token::Close => close(alloc, outer, bracket),
         Token::Item(item) => take(outer, bracket, item),
     }
 }
@@ -49,14 +49,18 @@ fn nest(
 }
 
 /// Closes the innermost bracket, and gives its set to the bracket around it.
-fn close(outer: &mut Vec<OpenBracket>, bracket: OpenBracket) -> Result<Progress, ParseError>
+fn close(
+    alloc: Global,
+    outer: &mut Vec<OpenBracket>,
+    bracket: OpenBracket,
+) -> Result<Progress, ParseError>
     ensures { Turns outer.old.items bracket Close outer.new.items result }
 {
-    let set = bracket.close()?;
+    let set = bracket.close(alloc)?;
     let Some(around) = outer.pop() else {
         return Ok(Progress::Done(set));
     };
-    let around = around.take_set(&set)?;
+    let around = around.take_set(set)?;
     outer.push(around)?;
     Ok(Progress::GoesOn)
 }

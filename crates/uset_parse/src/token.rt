@@ -1,15 +1,18 @@
 //! Tokens of a bracket.
-ghost use Rattle.std.specs.Prelude.{◌≡◌, ◌<◌, ◌≤◌, ◌==◌, length, IfSome, option_map};
+ghost use Rattle.std.specs.Prelude.{◌≡◌, ◌<◌, ◌≤◌, length, IfOk, IfSome, option_map};
 ghost use Rattle.std.specs.Str.{chars};
 ghost use Rattle.uset_parse.specs.Text.{begins_with};
-ghost use Rattle.uset_parse.specs.Grammar.{is_special, token, header, opening, marks};
+ghost use Rattle.uset_parse.specs.Grammar.{begins_property, opening_token, dollar_token, escape_token, text_token, token, header, opening, marks};
 ghost use Rattle.uset_parse.specs.Reading.{syntax_seen};
 ghost use Rattle.uset_parse.specs.Turn.{token_seen, opening_seen};
 
 use crate::code_point::CodePoint;
-use crate::cursor::{skip_white_space, split_first, strip, strip_optional};
-use crate::escape::read_escape;
+use crate::cursor::{begins_with, skip_white_space, split_first, strip, strip_optional};
+use crate::escape::{Codes, read_escape};
+use crate::string::read_text;
 use crate::syntax::Syntax;
+use cp_invlist::NoMemory;
+use std::alloc::Global;
 
 /// What a bracket begins with.
 #[derive(Clone, Copy)]
@@ -21,7 +24,7 @@ pub(crate) struct Opening {
 }
 
 /// One element of a bracket that is no bracket itself.
-#[derive(Clone, Copy)]
+#[derive(Drop)]
 pub(crate) enum Item {
     /// `-`
     Minus,
@@ -29,12 +32,16 @@ pub(crate) enum Item {
     Ampersand,
     /// `$` that begins no name.
     Dollar,
-    /// A character that stands for itself, or an escape of one code point.
+    /// A character that stands for itself.
     Character(CodePoint),
+    /// An escape, of one code point or several.
+    Escape(Codes),
+    /// A string, of any number of characters.
+    Text(String),
 }
 
 /// What stands in a bracket.
-#[derive(Clone, Copy)]
+#[derive(Drop)]
 pub(crate) enum Token {
     /// The beginning of a bracket inside.
     Open(Opening),
@@ -44,46 +51,98 @@ pub(crate) enum Token {
     Item(Item),
 }
 
-/// Whether the character begins nothing that is read.
-fn is_special(c: char) -> bool
-    ensures { result ≡ is_special c }
+/// A token that was read, and the text behind it; `None` where none is read there.
+type Read<'a> = Option<(Token, &'a str)>;
+
+/// The token in front, white space aside, and the text behind it.
+pub(crate) fn read_token<'a>(
+    alloc: Global,
+    syntax: &Syntax<'_>,
+    text: &'a str,
+) -> Result<Read<'a>, NoMemory>
+    ensures parts { IfOk result (λ read. option_map (λ p. (token_seen p.0, chars p.1.now)) read ≡ token (syntax_seen syntax.now) (chars text.now)) }
+    ensures shorter { IfOk result (λ read. IfSome read (λ p. length p.1.now < length text.now)) }
 {
-    c == '^' || c == '{'
+    let Some((first, rest)) = split_first(skip_white_space(syntax.white_space, text)) else {
+        return Ok(None);
+    };
+    match first {
+        '[' => Ok(read_nested(syntax, rest)),
+        ']' => Ok(Some((Token::Close, rest))),
+        '-' => Ok(Some((Token::Item(Item::Minus), rest))),
+        '&' => Ok(Some((Token::Item(Item::Ampersand), rest))),
+        '$' => Ok(read_dollar(syntax, rest)),
+        '\\' => read_escaped(alloc, syntax, rest),
+        '{' => read_string(alloc, syntax, rest),
+        '^' => Ok(None),
+        _ => {
+            let item = Item::Character(CodePoint::Scalar(first));
+            Ok(Some((Token::Item(item), rest)))
+        }
+    }
 }
 
-/// Whether a character that begins a name stands in front.
-fn begins_name(syntax: &Syntax<'_>, text: &str) -> bool
-    ensures { result ≡ begins_with (syntax_seen syntax.now).start (chars text.now) }
+/// Reads the opening of a bracket behind its `[`.
+fn read_nested<'a>(syntax: &Syntax<'_>, text: &'a str) -> Read<'a>
+    ensures parts { option_map (λ p. (token_seen p.0, chars p.1.now)) result ≡ opening_token (syntax_seen syntax.now) (chars text.now) }
+    ensures within { IfSome result (λ p. length p.1.now ≤ length text.now) }
+{
+    let (opening, inner) = read_opening(syntax, text)?;
+    Some((Token::Open(opening), inner))
+}
+
+/// Reads a bare `$` behind its `$`. `None` where a name begins there.
+fn read_dollar<'a>(syntax: &Syntax<'_>, text: &'a str) -> Read<'a>
+    ensures parts { option_map (λ p. (token_seen p.0, chars p.1.now)) result ≡ dollar_token (syntax_seen syntax.now) (chars text.now) }
+    ensures within { IfSome result (λ p. length p.1.now ≤ length text.now) }
+{
+    if begins_with(syntax.start, text) {
+        return None;
+    }
+    Some((Token::Item(Item::Dollar), text))
+}
+
+/// Whether `p` or `P` stands in front.
+fn begins_property(text: &str) -> bool
+    ensures { result ≡ begins_with begins_property (chars text.now) }
 {
     match split_first(text) {
-        Some((first, _)) => syntax.start.contains32(first as u32),
+        Some((first, _)) => first == 'p' || first == 'P',
         None => false,
     }
 }
 
-/// The token in front, white space aside, and the text behind it. `None` where none is read there.
-pub(crate) fn read_token<'a>(syntax: &Syntax<'_>, text: &'a str) -> Option<(Token, &'a str)>
-    ensures parts { option_map (λ p. (token_seen p.0, chars p.1.now)) result ≡ token (syntax_seen syntax.now) (chars text.now) }
-    ensures shorter { IfSome result (λ p. length p.1.now < length text.now) }
+/// Reads an escape behind its backslash. `None` where a property begins there.
+fn read_escaped<'a>(
+    alloc: Global,
+    syntax: &Syntax<'_>,
+    text: &'a str,
+) -> Result<Read<'a>, NoMemory>
+    ensures parts { IfOk result (λ read. option_map (λ p. (token_seen p.0, chars p.1.now)) read ≡ escape_token (syntax_seen syntax.now) (chars text.now)) }
+    ensures within { IfOk result (λ read. IfSome read (λ p. length p.1.now ≤ length text.now)) }
 {
-    let (first, rest) = split_first(skip_white_space(syntax.white_space, text))?;
-    match first {
-        '[' => {
-            let (opening, inner) = read_opening(syntax, rest)?;
-            Some((Token::Open(opening), inner))
-        }
-        ']' => Some((Token::Close, rest)),
-        '-' => Some((Token::Item(Item::Minus), rest)),
-        '&' => Some((Token::Item(Item::Ampersand), rest)),
-        '$' if begins_name(syntax, rest) => None,
-        '$' => Some((Token::Item(Item::Dollar), rest)),
-        '\\' => {
-            let (c, behind) = read_escape(syntax, rest)?;
-            Some((Token::Item(Item::Character(c)), behind))
-        }
-        _ if is_special(first) => None,
-        _ => Some((Token::Item(Item::Character(CodePoint::Scalar(first))), rest)),
+    if begins_property(text) {
+        return Ok(None);
     }
+    let Some((codes, rest)) = read_escape(alloc, syntax, text)? else {
+        return Ok(None);
+    };
+    Ok(Some((Token::Item(Item::Escape(codes)), rest)))
+}
+
+/// Reads a string behind its `{`.
+fn read_string<'a>(
+    alloc: Global,
+    syntax: &Syntax<'_>,
+    text: &'a str,
+) -> Result<Read<'a>, NoMemory>
+    ensures parts { IfOk result (λ read. option_map (λ p. (token_seen p.0, chars p.1.now)) read ≡ text_token (syntax_seen syntax.now) (chars text.now)) }
+    ensures within { IfOk result (λ read. IfSome read (λ p. length p.1.now ≤ length text.now)) }
+{
+    let Some((string, rest)) = read_text(alloc, syntax, text)? else {
+        return Ok(None);
+    };
+    Ok(Some((Token::Item(Item::Text(string)), rest)))
 }
 
 /// Reads what a set begins with, and gives the text behind it.

@@ -11,6 +11,7 @@ invariant-loop-c l =
     shadow (Utf8 l.rest)
     × (skip (contains l.white_space) (chars l.rest) ≡ skip (contains l.white_space) (chars l.text))
     × (length l.rest ≤ length l.text)
+    × (length (chars l.rest) ≤ length (chars l.text))
 
 abbrev pub decreases-loop-c : goal.decreases-loop-c
 decreases-loop-c l = length l.rest

@@ -1,5 +1,6 @@
-use Rattle.std.proofs.Common.{refl}
+use Rattle.std.proofs.Common.{map, refl, rules}
 use Rattle.std.proofs.lemmas.Result.{err_from_is_err_and}
+use Rattle.std.specs.String.{string_bytes}
 use Rattle.uset_parse.specs.Fault.{absent_table}
 use Rattle.uset_parse.proofs.OneReading.{refused}
 use Rattle.uset_parse.proofs.parse.parse_unstable_with_variables.Goals as goal
@@ -15,5 +16,5 @@ returns-in_err-set-clause-refused c =
 pub unreachable-requires : goal.unreachable-requires
 unreachable-requires c =
     let fault = (c.in_default-try_from.ensures.refused c.in_default-try_from.field-0).0 refl in
-    let none = rw c.new.ensures.items at fault in
+    let none = (c.faultless.ensures (map string_bytes c.in_ok-strings.strings.items)).1 c.in_ok-strings.ensures.canonical in
     cc

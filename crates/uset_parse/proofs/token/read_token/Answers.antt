@@ -1,9 +1,10 @@
-use Rattle.std.proofs.Common.{sym, ◌∙◌}
+use Rattle.std.proofs.Common.{ap, sym, ◌∙◌}
+use Rattle.uset_parse.specs.Grammar.{token_at}
 use Rattle.uset_parse.specs.Reading.{syntax_seen}
-use Rattle.uset_parse.proofs.EscapeLemmas.{escaped}
+use Rattle.uset_parse.proofs.GatheredLemmas.{if_ok}
 use Rattle.uset_parse.proofs.token.read_token.Goals as goal
 
-pub returns-in_ok-c-in-92-clause-parts : goal.returns-in_ok-c-in-92-clause-parts
-returns-in_ok-c-in-92-clause-parts c =
-    let syntax = syntax_seen c.args.syntax.now in
-    escaped syntax _ _ _ _ (sym c.skip_white_space.ensures.skipped ∙ rw c.in-92.is at c.in_ok-first.ensures.parts) (sym c.in_ok-c-in-92.ensures.parts)
+pub returns-in-92-clause-parts : goal.returns-in-92-clause-parts
+returns-in-92-clause-parts c =
+    if_ok c.read_escaped.result (λ read h. h ∙ sym (ap (token_at (syntax_seen c.args.syntax.now)) (sym c.skip_white_space.ensures.skipped ∙ rw c.in-92.is at c.in-Some.ensures.parts)))
+    c.read_escaped.ensures.parts

@@ -1,5 +1,5 @@
-use Rattle.uset_parse.proofs.GatheredLemmas.{settled_result}
-use Rattle.uset_parse.proofs.gathered.Gathered.settle.Goals as goal
+use Rattle.uset_parse.proofs.RangesLemmas.{settled_result}
+use Rattle.uset_parse.proofs.ranges.Ranges.settle.Goals as goal
 
 pub returns-clause-members : goal.returns-clause-members
 returns-clause-members c =
