@@ -1,6 +1,6 @@
 -- The names of the binary properties that ECMA-262 has (its table "Binary Unicode property aliases and their canonical property
 -- names"), other than Any, ASCII and Assigned. White_Space has the short name WSpace.
-use Rattle.std.specs.Prelude.{◌≡◌, ℕ, Option, Some, None, List, [], ◌∷◌, codes, if◌then◌else◌}
+use Rattle.std.specs.Prelude.{◌≡◌, ℕ, ◌+◌, Bool, Option, Some, None, List, [], ◌∷◌, ◌++◌, codes, if◌then◌else◌}
 use Rattle.std.specs.Str.{bytes_eq}
 
 -- each name with the number of the table of its property: the long name, and the short name where it is another
@@ -116,3 +116,13 @@ ecma262_number text = number_behind ecma262_names text
 abbrev pub EachIsBehind : List (List ℕ × ℕ) → List ℕ → Option ℕ → Type 0
 EachIsBehind [] text number = Unit {0}
 EachIsBehind (row ∷ rows) text number = (row.0 ≡ text → number ≡ Some row.1) × EachIsBehind rows text number
+
+-- the names of a property, each with the number: the long name, and the short name where it is another
+abbrev pub names_with : ℕ → List ℕ → List ℕ → List (List ℕ × ℕ)
+names_with n long short = if bytes_eq long short then (long, n) ∷ [] else (long, n) ∷ (short, n) ∷ []
+
+-- the names of the properties that ECMA-262 has, where the first property has this number
+abbrev pub names_from : ℕ → List (List ℕ × List ℕ × Bool) → List (List ℕ × ℕ)
+names_from n [] = []
+names_from n (property ∷ more) =
+    (if property.2 then names_with n property.0 property.1 else []) ++ names_from (n + 1) more

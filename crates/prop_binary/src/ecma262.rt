@@ -1,5 +1,5 @@
 //! The names of ECMA-262.
-ghost use Rattle.std.specs.Prelude.{◌≡◌, option_map, map};
+ghost use Rattle.std.specs.Prelude.{◌≡◌, map};
 ghost use Rattle.prop_binary.specs.Ecma262.{ecma262_names, ecma262_number, number_behind, EachIsBehind};
 
 use crate::table::SetTable;
@@ -134,15 +134,15 @@ const ECMA262_NAMES: [(&[u8], SetTable); 95] = [
 /// property names"), compared byte for byte with the long and the short names. `Any`, `ASCII` and `Assigned` are not
 /// read, and White_Space has the short name `WSpace`.
 pub fn ecma262_table(name: &[u8]) -> Option<SetTable>
-    ensures found { option_map (λ table. table.number) result ≡ ecma262_number name.now }
-    ensures only { EachIsBehind ecma262_names name.now (option_map (λ table. table.number) result) }
+    ensures found { result ≡ ecma262_number name.now }
+    ensures only { EachIsBehind ecma262_names name.now result }
 {
     table_behind(&ECMA262_NAMES, name)
 }
 
 // The table behind the first of the names that equals the text.
 fn table_behind(rows: &[(&[u8], SetTable)], text: &[u8]) -> Option<SetTable>
-    ensures { option_map (λ table. table.number) result ≡ number_behind (map (λ row. (row.0.now, row.1.number)) rows.now) text.now }
+    ensures { result ≡ number_behind (map (λ row. (row.0.now, row.1)) rows.now) text.now }
 {
     for (name, table) in rows {
         if *name == text {

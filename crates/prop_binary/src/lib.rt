@@ -5,6 +5,7 @@ mod ecma262;
 mod emoji;
 mod posix;
 mod property;
+pub mod rows;
 mod table;
 #[cfg(test)]
 mod tests;

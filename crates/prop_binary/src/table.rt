@@ -1,14 +1,25 @@
 //! The tables of the sets of binary properties and of the emoji sets.
-ghost use Rattle.std.specs.Prelude.{◌≡◌, ◌<◌, codes, Some, length, map, option_map, slice_get};
+ghost use Rattle.std.specs.Prelude.{◌≡◌, ◌<◌, ℕ, codes, Some, length, map, slice_get};
 ghost use Rattle.std.specs.List.{position};
 ghost use Rattle.std.specs.Str.{bytes_eq};
 ghost use Rattle.prop_binary.specs.Tables.{set_table_names};
 
-/// The table of the set of a binary property, as a number from 0 to 68.
+use std::marker::Model;
+
+/// The table of the set of a binary property, as a number from 0 to 68. A contract sees it as that number.
 #[derive(Clone, Copy, Debug, PartialEq, Eq)]
 pub struct SetTable {
-    pub(crate) number: u8,
-    ghost in_range: { number < 69 },
+    number: u8,
+}
+
+impl Model for SetTable {
+    ghost Value = { ℕ };
+
+    ghost view = { λ table. table.number };
+
+    ghost invariant = { λ table. table.number < 69 };
+
+    ghost inverse = { λ number. record { number = number } };
 }
 
 const SET_TABLE_NAMES: [&[u8]; 69] = [
@@ -224,7 +235,7 @@ impl SetTable {
 
     /// The number of the table.
     pub fn number(self) -> u8
-        ensures value { result ≡ self.number }
+        ensures value { result ≡ self }
         ensures small { result < 69 }
     {
         self.number
@@ -232,14 +243,14 @@ impl SetTable {
 
     /// The name of the table, which is the long name of its property.
     pub fn name(self) -> &'static [u8]
-        ensures { slice_get set_table_names self.number ≡ Some result.now }
+        ensures { slice_get set_table_names self ≡ Some result.now }
     {
         name_at(&SET_TABLE_NAMES, usize::from(self.number))
     }
 
     /// The table of this name, compared byte for byte.
     pub fn from_name(name: &[u8]) -> Option<SetTable>
-        ensures { option_map (λ table. table.number) result ≡ position (λ known. bytes_eq known name.now) set_table_names }
+        ensures { result ≡ position (λ known. bytes_eq known name.now) set_table_names }
     {
         let number = place_of(&SET_TABLE_NAMES, name)?;
         Some(SetTable {

@@ -1,178 +1,118 @@
 use super::*;
 
-// The names of a property and the number of its table.
-fn row<T: BinaryProperty>(_property: &T) -> (&'static [u8], &'static [u8], u8) {
-    (T::NAME, T::SHORT_NAME, T::TABLE.number())
-}
+// The long and the short name of each binary property, in the order of the tables' numbers.
+const NAMES: [(&str, &str); 69] = [
+    ("ASCII_Hex_Digit", "AHex"),
+    ("alnum", "alnum"),
+    ("Alphabetic", "Alpha"),
+    ("Bidi_Control", "Bidi_C"),
+    ("Bidi_Mirrored", "Bidi_M"),
+    ("blank", "blank"),
+    ("Cased", "Cased"),
+    ("Case_Ignorable", "CI"),
+    ("Full_Composition_Exclusion", "Comp_Ex"),
+    ("Changes_When_Casefolded", "CWCF"),
+    ("Changes_When_Casemapped", "CWCM"),
+    ("Changes_When_NFKC_Casefolded", "CWKCF"),
+    ("Changes_When_Lowercased", "CWL"),
+    ("Changes_When_Titlecased", "CWT"),
+    ("Changes_When_Uppercased", "CWU"),
+    ("Dash", "Dash"),
+    ("Deprecated", "Dep"),
+    ("Default_Ignorable_Code_Point", "DI"),
+    ("Diacritic", "Dia"),
+    ("Emoji_Modifier_Base", "EBase"),
+    ("Emoji_Component", "EComp"),
+    ("Emoji_Modifier", "EMod"),
+    ("Emoji", "Emoji"),
+    ("Emoji_Presentation", "EPres"),
+    ("Extender", "Ext"),
+    ("Extended_Pictographic", "ExtPict"),
+    ("graph", "graph"),
+    ("Grapheme_Base", "Gr_Base"),
+    ("Grapheme_Extend", "Gr_Ext"),
+    ("Grapheme_Link", "Gr_Link"),
+    ("Hex_Digit", "Hex"),
+    ("Hyphen", "Hyphen"),
+    ("ID_Compat_Math_Continue", "ID_Compat_Math_Continue"),
+    ("ID_Compat_Math_Start", "ID_Compat_Math_Start"),
+    ("ID_Continue", "IDC"),
+    ("Ideographic", "Ideo"),
+    ("ID_Start", "IDS"),
+    ("IDS_Binary_Operator", "IDSB"),
+    ("IDS_Trinary_Operator", "IDST"),
+    ("IDS_Unary_Operator", "IDSU"),
+    ("Join_Control", "Join_C"),
+    ("Logical_Order_Exception", "LOE"),
+    ("Lowercase", "Lower"),
+    ("Math", "Math"),
+    ("Modifier_Combining_Mark", "MCM"),
+    ("Noncharacter_Code_Point", "NChar"),
+    ("NFC_Inert", "nfcinert"),
+    ("NFD_Inert", "nfdinert"),
+    ("NFKC_Inert", "nfkcinert"),
+    ("NFKD_Inert", "nfkdinert"),
+    ("Pattern_Syntax", "Pat_Syn"),
+    ("Pattern_White_Space", "Pat_WS"),
+    ("Prepended_Concatenation_Mark", "PCM"),
+    ("print", "print"),
+    ("Quotation_Mark", "QMark"),
+    ("Radical", "Radical"),
+    ("Regional_Indicator", "RI"),
+    ("Soft_Dotted", "SD"),
+    ("Segment_Starter", "segstart"),
+    ("Case_Sensitive", "Sensitive"),
+    ("Sentence_Terminal", "STerm"),
+    ("Terminal_Punctuation", "Term"),
+    ("Unified_Ideograph", "UIdeo"),
+    ("Uppercase", "Upper"),
+    ("Variation_Selector", "VS"),
+    ("White_Space", "WSpace"),
+    ("xdigit", "xdigit"),
+    ("XID_Continue", "XIDC"),
+    ("XID_Start", "XIDS"),
+];
 
-fn emoji_row<T: EmojiSet>(_set: &T) -> (&'static [u8], &'static [u8], u8) {
-    (T::NAME, T::SHORT_NAME, T::TABLE.number())
+// Whether the rows have these names, and the tables of the numbers from `first` on.
+fn are_rows(rows: &[(SetTable, &[u8], &[u8])], names: &[(&str, &str)], first: u8) -> bool {
+    let mut number = first;
+    for ((table, long, short), (name, abbreviation)) in rows.iter().zip(names) {
+        if *long != name.as_bytes() || *short != abbreviation.as_bytes() {
+            return false;
+        }
+        if table.number() != number || table.name() != *long {
+            return false;
+        }
+        number = number.wrapping_add(1);
+    }
+    rows.len() == names.len()
 }
 
 #[test]
 fn properties_have_their_names_and_tables(rt: HostRuntime) {
-    for ((long, short, table), name, abbreviation, number) in [
-        (row(&AsciiHexDigit), "ASCII_Hex_Digit", "AHex", 0),
-        (row(&Alnum), "alnum", "alnum", 1),
-        (row(&Alphabetic), "Alphabetic", "Alpha", 2),
-        (row(&BidiControl), "Bidi_Control", "Bidi_C", 3),
-        (row(&BidiMirrored), "Bidi_Mirrored", "Bidi_M", 4),
-        (row(&Blank), "blank", "blank", 5),
-        (row(&Cased), "Cased", "Cased", 6),
-        (row(&CaseIgnorable), "Case_Ignorable", "CI", 7),
-        (
-            row(&FullCompositionExclusion),
-            "Full_Composition_Exclusion",
-            "Comp_Ex",
-            8,
-        ),
-        (
-            row(&ChangesWhenCasefolded),
-            "Changes_When_Casefolded",
-            "CWCF",
-            9,
-        ),
-        (
-            row(&ChangesWhenCasemapped),
-            "Changes_When_Casemapped",
-            "CWCM",
-            10,
-        ),
-        (
-            row(&ChangesWhenNfkcCasefolded),
-            "Changes_When_NFKC_Casefolded",
-            "CWKCF",
-            11,
-        ),
-        (
-            row(&ChangesWhenLowercased),
-            "Changes_When_Lowercased",
-            "CWL",
-            12,
-        ),
-        (
-            row(&ChangesWhenTitlecased),
-            "Changes_When_Titlecased",
-            "CWT",
-            13,
-        ),
-        (
-            row(&ChangesWhenUppercased),
-            "Changes_When_Uppercased",
-            "CWU",
-            14,
-        ),
-        (row(&Dash), "Dash", "Dash", 15),
-        (row(&Deprecated), "Deprecated", "Dep", 16),
-        (
-            row(&DefaultIgnorableCodePoint),
-            "Default_Ignorable_Code_Point",
-            "DI",
-            17,
-        ),
-        (row(&Diacritic), "Diacritic", "Dia", 18),
-        (row(&EmojiModifierBase), "Emoji_Modifier_Base", "EBase", 19),
-        (row(&EmojiComponent), "Emoji_Component", "EComp", 20),
-        (row(&EmojiModifier), "Emoji_Modifier", "EMod", 21),
-        (row(&Emoji), "Emoji", "Emoji", 22),
-        (row(&EmojiPresentation), "Emoji_Presentation", "EPres", 23),
-        (row(&Extender), "Extender", "Ext", 24),
-        (
-            row(&ExtendedPictographic),
-            "Extended_Pictographic",
-            "ExtPict",
-            25,
-        ),
-        (row(&Graph), "graph", "graph", 26),
-        (row(&GraphemeBase), "Grapheme_Base", "Gr_Base", 27),
-        (row(&GraphemeExtend), "Grapheme_Extend", "Gr_Ext", 28),
-        (row(&GraphemeLink), "Grapheme_Link", "Gr_Link", 29),
-        (row(&HexDigit), "Hex_Digit", "Hex", 30),
-        (row(&Hyphen), "Hyphen", "Hyphen", 31),
-        (
-            row(&IdCompatMathContinue),
-            "ID_Compat_Math_Continue",
-            "ID_Compat_Math_Continue",
-            32,
-        ),
-        (
-            row(&IdCompatMathStart),
-            "ID_Compat_Math_Start",
-            "ID_Compat_Math_Start",
-            33,
-        ),
-        (row(&IdContinue), "ID_Continue", "IDC", 34),
-        (row(&Ideographic), "Ideographic", "Ideo", 35),
-        (row(&IdStart), "ID_Start", "IDS", 36),
-        (row(&IdsBinaryOperator), "IDS_Binary_Operator", "IDSB", 37),
-        (row(&IdsTrinaryOperator), "IDS_Trinary_Operator", "IDST", 38),
-        (row(&IdsUnaryOperator), "IDS_Unary_Operator", "IDSU", 39),
-        (row(&JoinControl), "Join_Control", "Join_C", 40),
-        (
-            row(&LogicalOrderException),
-            "Logical_Order_Exception",
-            "LOE",
-            41,
-        ),
-        (row(&Lowercase), "Lowercase", "Lower", 42),
-        (row(&Math), "Math", "Math", 43),
-        (
-            row(&ModifierCombiningMark),
-            "Modifier_Combining_Mark",
-            "MCM",
-            44,
-        ),
-        (
-            row(&NoncharacterCodePoint),
-            "Noncharacter_Code_Point",
-            "NChar",
-            45,
-        ),
-        (row(&NfcInert), "NFC_Inert", "nfcinert", 46),
-        (row(&NfdInert), "NFD_Inert", "nfdinert", 47),
-        (row(&NfkcInert), "NFKC_Inert", "nfkcinert", 48),
-        (row(&NfkdInert), "NFKD_Inert", "nfkdinert", 49),
-        (row(&PatternSyntax), "Pattern_Syntax", "Pat_Syn", 50),
-        (row(&PatternWhiteSpace), "Pattern_White_Space", "Pat_WS", 51),
-        (
-            row(&PrependedConcatenationMark),
-            "Prepended_Concatenation_Mark",
-            "PCM",
-            52,
-        ),
-        (row(&Print), "print", "print", 53),
-        (row(&QuotationMark), "Quotation_Mark", "QMark", 54),
-        (row(&Radical), "Radical", "Radical", 55),
-        (row(&RegionalIndicator), "Regional_Indicator", "RI", 56),
-        (row(&SoftDotted), "Soft_Dotted", "SD", 57),
-        (row(&SegmentStarter), "Segment_Starter", "segstart", 58),
-        (row(&CaseSensitive), "Case_Sensitive", "Sensitive", 59),
-        (row(&SentenceTerminal), "Sentence_Terminal", "STerm", 60),
-        (
-            row(&TerminalPunctuation),
-            "Terminal_Punctuation",
-            "Term",
-            61,
-        ),
-        (row(&UnifiedIdeograph), "Unified_Ideograph", "UIdeo", 62),
-        (row(&Uppercase), "Uppercase", "Upper", 63),
-        (row(&VariationSelector), "Variation_Selector", "VS", 64),
-        (row(&WhiteSpace), "White_Space", "WSpace", 65),
-        (row(&Xdigit), "xdigit", "xdigit", 66),
-        (row(&XidContinue), "XID_Continue", "XIDC", 67),
-        (row(&XidStart), "XID_Start", "XIDS", 68),
-    ] {
-        assert!(rt; long == name.as_bytes());
-        assert!(rt; short == abbreviation.as_bytes());
-        assert_eq!(rt; table, number);
-        assert_eq!(rt;
-            SetTable::from_name(long).map(SetTable::number),
-            Some(number)
-        );
+    assert!(rt; are_rows(&rows::properties_to_emoji_presentation(), &NAMES[..24], 0));
+    assert!(rt; are_rows(&rows::properties_from_extender(), &NAMES[24..50], 24));
+    assert!(rt; are_rows(&rows::properties_from_pattern_syntax(), &NAMES[50..], 50));
+    assert!(rt; !are_rows(&rows::properties_from_extender(), &NAMES[23..49], 24));
+}
+
+#[test]
+fn tables_are_found_by_the_names_that_they_have(rt: HostRuntime) {
+    let mut number = 0u8;
+    for table in rows::set_tables() {
+        assert_eq!(rt; table.number(), number);
+        assert_eq!(rt; SetTable::from_name(table.name()), Some(table));
+        number = number.wrapping_add(1);
     }
-    let (long, short, table) = emoji_row(&BasicEmoji);
-    assert!(rt; long == "Basic_Emoji".as_bytes() && short == long && table == 0);
-    assert!(rt; EmojiTable::BASIC_EMOJI.name() == long);
+    assert_eq!(rt; number, 69);
+}
+
+#[test]
+fn the_emoji_set_has_its_name_and_table(rt: HostRuntime) {
+    let (table, long, short) = rows::basic_emoji();
+    assert!(rt; long == "Basic_Emoji".as_bytes() && short == long);
+    assert!(rt; table == EmojiTable::BASIC_EMOJI && table.name() == long);
+    assert_eq!(rt; table.number(), 0);
 }
 
 #[test]

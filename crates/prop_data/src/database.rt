@@ -1,8 +1,8 @@
 //! The database.
 use crate::error::LoadError;
 use crate::loader::Loader;
-use crate::tables::SetTable;
 use cp_invlist::{CodePointInversionList, NoMemory};
+use prop_binary::SetTable;
 use std::alloc::Global;
 use std::collections::BTreeMap;
 use text_lines::split_line;

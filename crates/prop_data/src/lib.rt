@@ -13,4 +13,4 @@ mod tests;
 
 pub use database::PropertyDatabase;
 pub use error::{LoadError, TableError, TableErrorKind};
-pub use tables::SetTable;
+pub use prop_binary::SetTable;

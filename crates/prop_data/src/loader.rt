@@ -12,8 +12,9 @@ use crate::error::{LoadError, TableError, TableErrorKind};
 use crate::line::{Line, read_line};
 use crate::numbers::range;
 use crate::row::row_fault;
-use crate::tables::SetTable;
+use crate::tables::syntax_table;
 use cp_invlist::{CodePointInversionListBuilder, NoMemory};
+use prop_binary::SetTable;
 use std::alloc::Global;
 
 /// A table whose rows are being read.
@@ -107,7 +108,7 @@ impl Loader {
     fn begin_table(&mut self, name: &[u8], number: usize) -> Result<(), LoadError>
         ensures { Takes (kept self.old) (header name.now) number result (kept self.new) }
     {
-        let Some(table) = SetTable::from_name(name) else {
+        let Some(table) = syntax_table(name) else {
             return Err(fault(number, TableErrorKind::UnknownTable));
         };
         if self.has_table(table) {

@@ -4,8 +4,8 @@ ghost use Rattle.std.specs.List.{list_any};
 ghost use Rattle.prop_data.specs.TableText.{overlaps, forbidden, row_fault, is_behind};
 
 use crate::error::TableErrorKind;
-use crate::tables::SetTable;
 use cp_invlist::CodePointRange;
+use prop_binary::SetTable;
 
 const LAST_CODE_POINT: u32 = 0x10_FFFF;
 
