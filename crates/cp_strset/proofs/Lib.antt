@@ -1,5 +1,6 @@
 pub mod SoleChar
 pub mod Canonical
+pub mod OneList
 pub mod Clones
 pub mod Written
 pub mod Equality

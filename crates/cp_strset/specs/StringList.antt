@@ -1,10 +1,11 @@
 -- What a list of strings lacks to be strictly ascending by bytes with no string of one character.
-use Rattle.std.specs.Prelude.{◌≡◌, ◌≢◌, All, AllPairs, length, ℕ, suc, if◌then◌else◌, Option, Some, None, is_some, List, [], ◌∷◌}
+use Rattle.std.specs.Prelude.{◌≡◌, ◌≢◌, All, AllPairs, length, ℕ, Bool, suc, if◌then◌else◌, Option, Some, None, is_some, List, [], ◌∷◌}
 use Rattle.std.specs.Ordering.{nat_cmp}
 use Rattle.std.specs.declared.cmp.Ordering.{Ordering}
 use Rattle.std.specs.declared.cmp.Ordering.TheVariants.{Less, Equal, Greater}
 use Rattle.std.specs.Cmp.Lexicographic.{slice_cmp}
-use Rattle.std.specs.Str.{chars}
+use Rattle.std.specs.List.{list_any}
+use Rattle.std.specs.Str.{chars, bytes_eq}
 use Rattle.cp_strset.specs.declared.StringListError.{StringListError}
 use Rattle.cp_strset.specs.declared.StringListError.TheVariants.{StringOfOne, NotSorted, NotUnique}
 
@@ -38,6 +39,10 @@ first_or (Some e) o = Some e
 abbrev pub fault_from : Option (List ℕ) → ℕ → List (List ℕ) → Option StringListError
 fault_from p i [] = None
 fault_from p i (s ∷ ss) = first_or (fault_at p s i) (fault_from (Some s) (suc i) ss)
+
+-- whether some string of the list has these bytes
+abbrev pub holds : List (List ℕ) → List ℕ → Bool
+holds ss bs = list_any (λ s. bytes_eq s bs) ss
 
 -- strictly ascending by bytes, and none has exactly one character
 pub record AreCanonical (ss : List (List ℕ)) : Type 0 where

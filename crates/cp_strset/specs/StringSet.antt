@@ -1,9 +1,8 @@
 -- What a set with strings is seen as.
 use Rattle.std.specs.Prelude.{ℕ, Bool, Option, Some, None, List}
-use Rattle.std.specs.List.{list_any}
-use Rattle.std.specs.Str.{chars, bytes_eq}
+use Rattle.std.specs.Str.{chars}
 use Rattle.cp_invlist.specs.InversionList.{contains}
-use Rattle.cp_strset.specs.StringList.{sole_of}
+use Rattle.cp_strset.specs.StringList.{sole_of, holds}
 
 -- the inversion list of the code points, and the strings in order, each by its bytes
 pub record StringSet : Type 0 where
@@ -13,7 +12,7 @@ pub record StringSet : Type 0 where
 -- a text with its one character, where it has exactly one
 abbrev pub contains_sole : StringSet → List ℕ → Option ℕ → Bool
 contains_sole set bs (Some c) = contains set.code_points c
-contains_sole set bs None = list_any (λ s. bytes_eq s bs) set.strings
+contains_sole set bs None = holds set.strings bs
 
 -- whether a text is in the set: one character as a code point, any other as a string
 abbrev pub contains_text : StringSet → List ℕ → Bool

@@ -3,16 +3,15 @@
 
 ghost use Rattle.std.specs.Prelude.{◌≡◌, ℕ, ◌+◌, ◌&&◌, ◌↔◌, false, nat_eq, IsTrue, IfOk, OnOk, List, length, map, None, Some};
 ghost use Rattle.std.specs.Cmp.Lexicographic.{pointwise};
-ghost use Rattle.std.specs.List.{list_any};
 ghost use Rattle.std.specs.Option.{option_copied};
-ghost use Rattle.std.specs.Str.{IsUtf8, bytes_eq, chars};
+ghost use Rattle.std.specs.Str.{IsUtf8, chars};
 ghost use Rattle.std.specs.String.{string_bytes};
 ghost use Rattle.cp_invlist.specs.InversionList.{contains};
 ghost use Rattle.cp_invlist.specs.Ranges.{AreMaximalRanges};
 ghost use Rattle.cp_invlist.specs.Size.{count_members};
 ghost use Rattle.cp_invlist.specs.declared.ranges.CodePointRange.{CodePointRange};
 ghost use Rattle.cp_strset.specs.PatternText.{pattern_text};
-ghost use Rattle.cp_strset.specs.StringList.{AreCanonical, sole_of, fault_at, fault_from};
+ghost use Rattle.cp_strset.specs.StringList.{AreCanonical, sole_of, holds, fault_at, fault_from};
 ghost use Rattle.cp_strset.specs.StringSet.{contains_text};
 
 pub mod laws;
@@ -202,7 +201,7 @@ impl Eq for CodePointInversionListAndStringList {
 // Whether the text is one of the strings, by binary search.
 fn contains_string(strings: &[String], text: &str) -> bool
     requires { fault_from None 0 (map string_bytes strings.now) ≡ None }
-    ensures { result ≡ list_any (λ s. bytes_eq s text.now) (map string_bytes strings.now) }
+    ensures { result ≡ holds (map string_bytes strings.now) text.now }
 {
     strings
         .binary_search_by(|string| string.as_str().cmp(text))

@@ -59,3 +59,9 @@ fn the_first_faulty_string_is_named(rt: HostRuntime) -> Result<(), Fail> {
     }
     Ok(())
 }
+
+#[test]
+fn the_laws_hold() {
+    laws::faultless();
+    laws::one_list();
+}

@@ -8,7 +8,7 @@ use Rattle.std.proofs.lemmas.Map.Text.{is_eq-slice_cmp}
 use Rattle.std.proofs.lemmas.Slice.Eq.{bytes_eq-Decides}
 use Rattle.std.specs.declared.cmp.Ordering.TheVariants.{Less}
 use Rattle.std.specs.declared.string.String.{String}
-use Rattle.std.specs.Cmp.Lexicographic.{slice_cmp}
+use Rattle.std.specs.Cmp.Lexicographic.{slice_cmp, nat_list_eq_equiv}
 use Rattle.std.specs.Global.{Global}
 use Rattle.std.specs.List.{list_any, AllPairs, AllByRecursion}
 use Rattle.std.specs.List.Sorted.{IsStrictlySortedBy}
@@ -16,7 +16,7 @@ use Rattle.std.specs.Ordering.{nat_cmp, is_eq, eq_by_cmp}
 use Rattle.std.specs.Set.{IsUnion}
 use Rattle.std.specs.Str.{bytes_eq, chars}
 use Rattle.std.specs.String.{string_bytes, string_cmp}
-use Rattle.cp_strset.specs.StringList.{sole_of, AreCanonical}
+use Rattle.cp_strset.specs.StringList.{sole_of, holds, AreCanonical}
 
 -- the string has these bytes
 abbrev pub spells : List ℕ → String Global → Bool
@@ -159,20 +159,11 @@ canonical_bytes ks sorted none = record {
   none_of_one = All-map (λ s. length (chars s) ≢ 1) string_bytes ks (All-from_recursion (λ k. length (chars (string_bytes k)) ≢ 1) ks (each_of_more ks none));
 }
 
-bytes_eq_sym : (a b : List ℕ) → bytes_eq a b ≡ bytes_eq b a
-bytes_eq_sym a b = elim (cases_Bool (bytes_eq a b)) [
-  | inl is ↦ is ∙ sym ((bytes_eq-Decides b a).1 (sym ((bytes_eq-Decides a b).0 is)))
-  | inr isnt ↦ elim (cases_Bool (bytes_eq b a)) [
-    | inl is ↦ (bytes_eq-Decides a b).1 (sym ((bytes_eq-Decides b a).0 is)) ∙ sym is
-    | inr none ↦ isnt ∙ sym none
-  ]
-]
-
 -- whether a list of bytes has these
-pub bytes_spelled : (ks : List (String Global)) (bytes : List ℕ) → list_any (λ s. bytes_eq s bytes) (map string_bytes ks) ≡ spelled_in ks bytes
+pub bytes_spelled : (ks : List (String Global)) (bytes : List ℕ) → holds (map string_bytes ks) bytes ≡ spelled_in ks bytes
 bytes_spelled [] bytes = refl
 bytes_spelled (k ∷ ks) bytes =
-    ap (λ b. b || list_any (λ s. bytes_eq s bytes) (map string_bytes ks)) (bytes_eq_sym (string_bytes k) bytes ∙ sym (is_eq-slice_cmp bytes (string_bytes k)))
+    ap (λ b. b || holds (map string_bytes ks) bytes) (nat_list_eq_equiv.symm (string_bytes k) bytes ∙ sym (is_eq-slice_cmp bytes (string_bytes k)))
     ∙ ap (λ b. spells bytes k || b) (bytes_spelled ks bytes)
 
 -- all strings were given out

@@ -1,9 +1,8 @@
 -- What the reader answers.
 use Rattle.std.specs.Prelude.{◌≡◌, ℕ, Bool, ◌+◌, List, length, encode_utf8_all}
 use Rattle.std.specs.BTreeSet.{contains_text}
-use Rattle.std.specs.List.{list_any}
-use Rattle.std.specs.Str.{bytes_eq}
 use Rattle.cp_invlist.specs.InversionList.{contains}
+use Rattle.cp_strset.specs.StringList.{holds}
 use Rattle.cp_strset.specs.StringSet.{StringSet}
 use Rattle.prop_data.specs.Tables.{Tables}
 use Rattle.uset_parse.specs.declared.syntax.Syntax.{Syntax as CodeSyntax}
@@ -27,7 +26,7 @@ in_members set (string bytes) = contains_text set.strings bytes
 -- whether the set has the member
 abbrev pub in_set : StringSet → Member → Bool
 in_set set (point c) = contains set.code_points c
-in_set set (string bytes) = list_any (λ s. bytes_eq s bytes) set.strings
+in_set set (string bytes) = holds set.strings bytes
 
 -- a set stands at the front of the source, and this has its members; n bytes come before what stands behind it
 pub record IsFront (syntax : Syntax) (source : Text) (size : ℕ) (set : Members) (n : ℕ) : Type 0 where

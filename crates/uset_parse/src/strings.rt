@@ -28,10 +28,9 @@ impl Model for Strings {
 impl Strings {
     ghost use Rattle.std.specs.Prelude.{◌≡◌, ◌||◌, ◌&&◌, not, ℕ, List, map, None, false, IfOk, OnOk};
     ghost use Rattle.std.specs.BTreeSet.{contains_text};
-    ghost use Rattle.std.specs.List.{list_any};
     ghost use Rattle.std.specs.Str.{chars, bytes_eq};
     ghost use Rattle.std.specs.String.{string_bytes};
-    ghost use Rattle.cp_strset.specs.StringList.{sole_of, AreCanonical};
+    ghost use Rattle.cp_strset.specs.StringList.{sole_of, holds, AreCanonical};
 
     /// None.
     pub(crate) fn new(alloc: Global) -> Strings
@@ -78,7 +77,7 @@ impl Strings {
 
     /// The strings as a list.
     pub(crate) fn into_list(self, alloc: Global) -> Result<Vec<String>, NoMemory>
-        ensures strings { IfOk result (λ list. (bytes : List ℕ) → list_any (λ s. bytes_eq s bytes) (map string_bytes list.items) ≡ contains_text self bytes) }
+        ensures strings { IfOk result (λ list. (bytes : List ℕ) → holds (map string_bytes list.items) bytes ≡ contains_text self bytes) }
         ensures canonical { IfOk result (λ list. AreCanonical (map string_bytes list.items)) }
     {
         let mut list = Vec::with_capacity(alloc, self.texts.len())?;

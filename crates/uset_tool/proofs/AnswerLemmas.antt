@@ -3,7 +3,6 @@ use Rattle.std.proofs.Common.{◌≡◌, ◌≢◌, ℕ, Bool, true, false, List
 use mathlib.Core.Path.{fun_ext}
 use Rattle.std.specs.Str.{chars}
 use Rattle.std.specs.String.{string_bytes}
-use Rattle.cp_invlist.specs.InversionList.{contains}
 use Rattle.cp_invlist.specs.Ranges.{AreMaximalRanges}
 use Rattle.cp_strset.specs.StringSet.{StringSet}
 use Rattle.prop_data.specs.Tables.{Tables}
@@ -11,6 +10,7 @@ use Rattle.uset_parse.specs.declared.error.ParseErrorKind.{ParseErrorKind}
 use Rattle.uset_parse.specs.declared.error.ParseErrorKind.TheVariants.{Internal, Unimplemented, NoMemory}
 use Rattle.uset_parse.specs.Fault.{IsFault, IsRefusal}
 use Rattle.uset_parse.specs.Reading.{IsRead}
+use Rattle.uset_parse.specs.Tree.{point, string}
 use Rattle.uset_tool.specs.declared.answer.Answer.{Answer}
 use Rattle.uset_tool.specs.Answer.{PatternAnswer, read, fault, read_text, fault_text, IsReadAnswer, IsFaultAnswer}
 
@@ -18,11 +18,12 @@ use Rattle.uset_tool.specs.Answer.{PatternAnswer, read, fault, read_text, fault_
 answer_at : (tables : Tables) (source text : List ℕ) (err : Bool) (answer : Answer) → string_bytes answer.text ≡ text → answer.is_err ≡ err → PatternAnswer tables source text err → PatternAnswer tables source (string_bytes answer.text) answer.is_err
 answer_at tables source text err answer text_is err_is h = rw (text_is, err_is) h
 
-pub read_answer : (tables : Tables) (source : List ℕ) (n : ℕ) (set : StringSet) (points : List ℕ) (answer : Answer) → IsRead tables (chars source) (length source) set n → points ≡ set.code_points → IsReadAnswer n (contains points) answer →
+pub read_answer : (tables : Tables) (source : List ℕ) (n : ℕ) (set : StringSet) (answer : Answer) → IsRead tables (chars source) (length source) set n → IsReadAnswer n set answer →
     PatternAnswer tables source (string_bytes answer.text) answer.is_err
-read_answer tables source n set points answer h same (rs, maximal, text_is, err_is) =
-    let members = ap contains same ∙ fun_ext h.code_points in
-    answer_at tables source (read_text n rs) false answer text_is err_is (read n rs h.reads h.place (subst (λ (m : ℕ → Bool). AreMaximalRanges m rs) members maximal))
+read_answer tables source n set answer h (rs, maximal, canonical, text_is, err_is) =
+    answer_at tables source (read_text n rs set.strings) false answer text_is err_is
+    (read n rs set.strings h.reads h.place (subst (λ (m : ℕ → Bool). AreMaximalRanges m rs) (fun_ext (λ c. h.members (point c))) maximal)
+    (record { canonical = canonical; holds_them = λ bytes. h.members (string bytes) }))
 
 refusal_is_fault : (tables : Tables) (source : List ℕ) (kind : ParseErrorKind) → IsRefusal tables (chars source) kind → kind ≢ NoMemory → IsFault tables (chars source) kind
 refusal_is_fault tables source Internal h other = h

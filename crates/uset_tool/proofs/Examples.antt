@@ -1,7 +1,8 @@
 -- The answers of the program, computed on small scripts.
-use Rattle.std.proofs.Common.{arith, ℕ, List, ◌≡◌, true, false, [], ◌∷◌, codes, refl}
+use Rattle.std.proofs.Common.{arith, ℕ, List, length, ◌≡◌, ◌≢◌, true, false, [], ◌∷◌, codes, refl}
 use Rattle.std.specs.Prelude.{Some, None}
 use Rattle.std.proofs.lemmas.Bool.Decides.{nat_tests}
+use Rattle.std.proofs.lemmas.List.Elements.{All-nil}
 use Rattle.std.specs.Fmt.{digits}
 use Rattle.std.specs.Str.{chars}
 use Rattle.cp_invlist.specs.InversionList.{contains, is_inversion_list}
@@ -14,12 +15,12 @@ use Rattle.prop_data.specs.Numbers.{range, hyphen_parts, hex}
 use Rattle.prop_data.specs.SetTable.{set_number}
 use Rattle.prop_data.specs.TableText.{table_fault, at_line, header_fault, row_fault}
 use Rattle.uset_parse.specs.declared.error.ParseErrorKind.TheVariants.{Unimplemented}
-use Rattle.uset_tool.specs.Answer.{range_text, read_text, fault_text, bad_line_text, read, fault, ends, answers}
+use Rattle.uset_tool.specs.Answer.{AreStrings, range_text, string_text, read_text, fault_text, bad_line_text, read, fault, ends, answers}
 use Rattle.uset_tool.specs.Script.{silent, pattern, bad, script_line}
 use Rattle.uset_tool.specs.Words.{is_known, table_fault_text}
 use Rattle.uset_tool.specs.Run.{table_lines, script_lines, Answers, usage, Evaluates, faulty_tables, script}
 use Rattle.uset_tool.specs.declared.status.Status.TheVariants.{Usage, Tables, SomeErr, Done}
-use Rattle.uset_parse.specs.Tree.{Tree, bracket, done, add, has}
+use Rattle.uset_parse.specs.Tree.{Tree, point, string, bracket, done, add, has}
 use Rattle.uset_parse.specs.Grammar.{reads_bracket, reads, ends as closed, range as chars_range, members, empty}
 use Rattle.cp_invlist.specs.Ranges.{AreMaximalRanges}
 use Rattle.uset_parse.specs.Fault.{absent_table}
@@ -55,9 +56,19 @@ ranges_are_spelled : ranges_of zero_and_letters ≡ zero ∷ letters ∷ []
 ranges_are_spelled = refl
 
 -- the answer to `pat [a-z0]`
-letters_and_zero : read_text 6 (zero ∷ letters ∷ []) ≡ codes "ok 6 0030 0061-007A\n"
+letters_and_zero : read_text 6 (zero ∷ letters ∷ []) [] ≡ codes "ok 6 0030 0061-007A\n"
 unfolding digits
 letters_and_zero = refl
+
+-- the answer to `pat [{}}]`
+brace_and_empty_string : read_text 5 (record { start = 0x7D; end = 0x7D } ∷ []) ([] ∷ []) ≡ codes "ok 5 007D {}\n"
+unfolding digits chars
+brace_and_empty_string = refl
+
+-- two characters of a string
+string_of_two : string_text (0x61 ∷ 0xC3 ∷ 0x80 ∷ []) ≡ codes " {0061_00C0}"
+unfolding digits chars
+string_of_two = refl
 
 -- the answer to `pat [a&b]`
 unimplemented : fault_text Unimplemented ≡ codes "err error: unimplemented\n"
@@ -128,7 +139,7 @@ absent_tables = script refl (codes "err error: internal error\n") true (answers 
 abbrev letters_and_zero_tree : Tree
 letters_and_zero_tree = bracket false false (add 0x61 0x7A (add 0x30 0x30 done))
 
-maximal_ranges : AreMaximalRanges (has letters_and_zero_tree) (zero ∷ letters ∷ [])
+maximal_ranges : AreMaximalRanges (λ c. has letters_and_zero_tree (point c)) (zero ∷ letters ∷ [])
 maximal_ranges = (
   omega arith,
   omega arith,
@@ -145,6 +156,12 @@ maximal_ranges = (
   ),
 )
 
+no_strings : AreStrings (λ bytes. has letters_and_zero_tree (string bytes)) []
+no_strings = record {
+  canonical = record { ascending = λ i j d below within. absurd (omega (arith, within)); none_of_one = All-nil (λ s. length (chars s) ≢ 1) };
+  holds_them = λ bytes. refl;
+}
+
 abbrev three_tables : List ℕ
 three_tables = codes "set XID_Start\nset XID_Continue\nset Pattern_White_Space\n20\nend\npat [a-z0]\n"
 
@@ -152,8 +169,8 @@ pattern_that_is_read : Evaluates three_tables (codes "ok 6 0030 0061-007A\n") Do
 unfolding is_sole line_of is_header_word set_number header_fault range hyphen_parts hex row_fault script_line digits chars
 pattern_that_is_read =
     script refl (codes "ok 6 0030 0061-007A\n") false (answers (codes "ok 6 0030 0061-007A\n") [] false false
-    (read 6 (zero ∷ letters ∷ []) (record {
+    (read 6 (zero ∷ letters ∷ []) [] (record {
       syntax = _;
       held = refl;
       set = reads_bracket refl (reads refl (reads refl (reads refl (reads refl (closed refl))))) (chars_range {a = 0x61} {b = 0x7A} (omega arith) (members empty));
-    }) refl maximal_ranges) ends)
+    }) refl maximal_ranges no_strings) ends)

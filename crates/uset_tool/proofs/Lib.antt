@@ -1,4 +1,5 @@
 pub mod AnswerLemmas
+pub mod Linked
 pub mod DeviceLemmas
 pub mod Once
 pub mod RunLemmas

@@ -4,9 +4,10 @@ use Rattle.std.proofs.lemmas.Bool.{cases_order, true≢false}
 use Rattle.std.specs.Str.{chars}
 use Rattle.cp_invlist.specs.declared.ranges.CodePointRange.{CodePointRange}
 use Rattle.cp_invlist.specs.Ranges.{AreRangesFrom, AreMaximalRanges}
+use Rattle.cp_strset.specs.StringList.{holds, AreCanonical}
 use Rattle.prop_data.specs.Tables.{Tables}
 use Rattle.uset_parse.specs.Laws.{OneReading, NoFaultOfReading, OneFault}
-use Rattle.uset_parse.specs.Tree.{has}
+use Rattle.uset_parse.specs.Tree.{point, string, has}
 use Rattle.uset_tool.specs.declared.sink.WriteError.{WriteError}
 use Rattle.uset_tool.specs.declared.sink.WriteError.TheVariants.{Failed, NoMemory}
 use Rattle.uset_tool.specs.Answered.{StopsWithin, AnswersScript}
@@ -14,11 +15,12 @@ use Rattle.uset_tool.specs.Device.{Appends, IsProperFront}
 use Rattle.uset_tool.specs.Script.{ScriptLine, silent, pattern, bad, script_line}
 use Rattle.uset_tool.specs.Answer.{PatternAnswer, read, fault, read_text, fault_text, LineAnswer, ScriptAnswer, ends, answers}
 
--- the laws of the grammar
+-- the laws of the grammar and of lists of strings
 pub record Laws : Type 0 where
   pub one_reading : OneReading
   pub no_fault : NoFaultOfReading
   pub one_fault : OneFault
+  pub one_list : (a b : List (List ℕ)) → AreCanonical a → AreCanonical b → ((bytes : List ℕ) → holds a bytes ≡ holds b bytes) → a ≡ b
 
 same_start : (m : ℕ → Bool) (n a b c d : ℕ) → n ≤ a → a ≤ b → n ≤ c → c ≤ d →
     ((x : ℕ) → n ≤ x → x < a → m x ≡ false) → ((x : ℕ) → a ≤ x → x ≤ b → m x ≡ true) →
@@ -49,13 +51,16 @@ ranges_once m n (r ∷ rs) (q ∷ qs) h k =
     λ i. record { start = start i; end = last i } ∷ more i
 
 pattern_once : Laws → (tables : Tables) (source a b : List ℕ) (e f : Bool) → PatternAnswer tables source a e → PatternAnswer tables source b f → (a ≡ b) × (e ≡ f)
-pattern_once laws tables source _ _ _ _ (read {tree} {rest} n rs h place maximal) (read {tree = other} {rest = left} k qs h_too place_too maximal_too) =
+pattern_once laws tables source _ _ _ _ (read {tree} {rest} n rs ss h place maximal strings) (read {tree = other} {rest = left} k qs ts h_too place_too maximal_too strings_too) =
     let one = laws.one_reading tables (chars source) tree other rest left h h_too in
     let same_n : n ≡ k = omega (arith, ap (λ r. length (encode_utf8_all r)) one.1) in
-    let same_ranges : rs ≡ qs = ranges_once (has tree) 0 rs qs maximal (subst (λ t. AreMaximalRanges (has t) qs) (sym one.0) maximal_too) in
-    (λ i. read_text (same_n i) (same_ranges i), refl)
-pattern_once laws tables source _ _ _ _ (read {tree} {rest} n rs h place maximal) (fault {kind} k) = absurd (laws.no_fault tables (chars source) tree rest kind h k)
-pattern_once laws tables source _ _ _ _ (fault {kind} k) (read {tree} {rest} n rs h place maximal) = absurd (laws.no_fault tables (chars source) tree rest kind h k)
+    let same_ranges : rs ≡ qs = ranges_once (λ c. has tree (point c)) 0 rs qs maximal (subst (λ t. AreMaximalRanges (λ c. has t (point c)) qs) (sym one.0) maximal_too) in
+    let same_strings : ss ≡ ts =
+        laws.one_list ss ts strings.canonical strings_too.canonical
+        (λ bytes. strings.holds_them bytes ∙ (ap (λ t. has t (string bytes)) one.0 ∙ sym (strings_too.holds_them bytes))) in
+    (λ i. read_text (same_n i) (same_ranges i) (same_strings i), refl)
+pattern_once laws tables source _ _ _ _ (read {tree} {rest} n rs ss h place maximal strings) (fault {kind} k) = absurd (laws.no_fault tables (chars source) tree rest kind h k)
+pattern_once laws tables source _ _ _ _ (fault {kind} k) (read {tree} {rest} n rs ss h place maximal strings) = absurd (laws.no_fault tables (chars source) tree rest kind h k)
 pattern_once laws tables source _ _ _ _ (fault {kind} h) (fault {kind = other} k) = (ap fault_text (laws.one_fault tables (chars source) kind other h k), refl)
 
 line_once : Laws → (tables : Tables) (line : ScriptLine) (a b : List ℕ) (e f : Bool) → LineAnswer tables line a e → LineAnswer tables line b f → (a ≡ b) × (e ≡ f)

@@ -5,14 +5,17 @@ use Rattle.std.specs.List.{flat_map}
 use Rattle.std.specs.Str.{chars}
 use Rattle.std.specs.String.{string_bytes}
 use Rattle.cp_invlist.specs.declared.ranges.CodePointRange.{CodePointRange}
+use Rattle.cp_invlist.specs.InversionList.{contains}
 use Rattle.cp_invlist.specs.Ranges.{AreMaximalRanges}
+use Rattle.cp_strset.specs.StringList.{holds, AreCanonical}
+use Rattle.cp_strset.specs.StringSet.{StringSet}
 use Rattle.prop_data.specs.Tables.{Tables}
 use Rattle.uset_parse.specs.declared.error.ParseErrorKind.{ParseErrorKind}
 use Rattle.uset_parse.specs.declared.error.ParseErrorKind.TheVariants.{NoMemory}
 use Rattle.uset_parse.specs.Fault.{IsFault, shown}
 use Rattle.uset_parse.specs.Grammar.{Reads}
 use Rattle.uset_parse.specs.Text.{Text}
-use Rattle.uset_parse.specs.Tree.{Tree, has}
+use Rattle.uset_parse.specs.Tree.{Tree, point, string, has}
 use Rattle.uset_tool.specs.declared.answer.Answer.{Answer}
 use Rattle.uset_tool.specs.Script.{ScriptLine, silent, pattern, bad, script_line}
 
@@ -28,9 +31,22 @@ range_text r =
 abbrev pub line_end : List ℕ
 line_end = 0x0A ∷ []
 
--- the answer to a pattern of which n bytes are read, with the maximal ranges of its members
-abbrev pub read_text : ℕ → List CodePointRange → List ℕ
-read_text n rs = codes "ok " ++ (decimal n ++ (flat_map range_text rs ++ line_end))
+-- a low line, and a code point
+abbrev pub further_text : ℕ → List ℕ
+further_text c = codes "_" ++ code_point_text c
+
+-- code points with a low line between two
+abbrev pub linked : List ℕ → List ℕ
+linked [] = []
+linked (c ∷ cs) = code_point_text c ++ flat_map further_text cs
+
+-- a blank, and the characters of a string in braces
+abbrev pub string_text : List ℕ → List ℕ
+string_text bytes = codes " {" ++ (linked (chars bytes) ++ codes "}")
+
+-- the answer to a pattern of which n bytes are read, with the maximal ranges and the strings of its members
+abbrev pub read_text : ℕ → List CodePointRange → List (List ℕ) → List ℕ
+read_text n rs ss = codes "ok " ++ (decimal n ++ (flat_map range_text rs ++ (flat_map string_text ss ++ line_end)))
 
 -- the answer to a pattern with a fault
 abbrev pub fault_text : ParseErrorKind → List ℕ
@@ -39,11 +55,16 @@ fault_text kind = codes "err " ++ (shown kind ++ line_end)
 abbrev pub bad_line_text : List ℕ
 bad_line_text = codes "err bad line" ++ line_end
 
+-- the strings that a set has, in order
+pub record AreStrings (members : List ℕ → Bool) (ss : List (List ℕ)) : Type 0 where
+  pub canonical : AreCanonical ss
+  pub holds_them : (bytes : List ℕ) → holds ss bytes ≡ members bytes
+
 -- The answer to a pattern, and whether it is an `err` line.
 pub data PatternAnswer (tables : Tables) (source : List ℕ) : List ℕ → Bool → Type 0 where
-  read : {tree : Tree} {rest : Text} (n : ℕ) (rs : List CodePointRange) → Reads tables (chars source) tree rest →
-      n + length (encode_utf8_all rest) ≡ length source → AreMaximalRanges (has tree) rs →
-      PatternAnswer tables source (read_text n rs) false
+  read : {tree : Tree} {rest : Text} (n : ℕ) (rs : List CodePointRange) (ss : List (List ℕ)) → Reads tables (chars source) tree rest →
+      n + length (encode_utf8_all rest) ≡ length source → AreMaximalRanges (λ c. has tree (point c)) rs →
+      AreStrings (λ bytes. has tree (string bytes)) ss → PatternAnswer tables source (read_text n rs ss) false
   fault : {kind : ParseErrorKind} → IsFault tables (chars source) kind → PatternAnswer tables source (fault_text kind) true
 
 -- the answer to a line of a script
@@ -63,9 +84,9 @@ abbrev pub AppendsMembers : List ℕ → List ℕ → (ℕ → Bool) → Type 0
 AppendsMembers old new members = (rs : List CodePointRange) × AreMaximalRanges members rs × (new ≡ old ++ flat_map range_text rs)
 
 -- the answer for a set of which so many bytes are read
-abbrev pub IsReadAnswer : ℕ → (ℕ → Bool) → Answer → Type 0
-IsReadAnswer n members answer =
-    (rs : List CodePointRange) × AreMaximalRanges members rs × (string_bytes answer.text ≡ read_text n rs) × (answer.is_err ≡ false)
+abbrev pub IsReadAnswer : ℕ → StringSet → Answer → Type 0
+IsReadAnswer n set answer =
+    (rs : List CodePointRange) × AreMaximalRanges (contains set.code_points) rs × AreCanonical set.strings × (string_bytes answer.text ≡ read_text n rs set.strings) × (answer.is_err ≡ false)
 
 -- the answer for a fault, which want of memory is not
 abbrev pub IsFaultAnswer : ParseErrorKind → Answer → Type 0

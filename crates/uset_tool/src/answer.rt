@@ -1,14 +1,17 @@
 //! Answers to the lines of a script.
-ghost use Rattle.std.specs.Prelude.{◌≡◌, ◌-◌, replicate, ◌++◌, ◌∷◌, [], ◌≤◌, IfOk, OnOk, false, true, codes, option_map};
+ghost use Rattle.std.specs.Prelude.{◌≡◌, ◌-◌, map, replicate, ◌++◌, ◌∷◌, [], ◌≤◌, IfOk, OnOk, false, true, codes, option_map};
 ghost use Rattle.cp_invlist.specs.InversionList.{contains};
 ghost use Rattle.std.specs.Fmt.{digits};
+ghost use Rattle.std.specs.List.{flat_map};
+ghost use Rattle.std.specs.Str.{chars};
 ghost use Rattle.std.specs.String.{string_bytes};
 ghost use Rattle.prop_data.specs.Database.{tables_of};
-ghost use Rattle.uset_tool.specs.Answer.{code_point_text, range_text, line_end, LineAnswer, PatternAnswer, AppendsMembers, IsReadAnswer, IsFaultAnswer};
+ghost use Rattle.uset_tool.specs.Answer.{code_point_text, range_text, linked, string_text, line_end, LineAnswer, PatternAnswer, AppendsMembers, IsReadAnswer, IsFaultAnswer};
 ghost use Rattle.uset_parse.specs.Fault.{kind_of};
 ghost use Rattle.uset_tool.specs.Script.{script_line, stripped, is_silent};
 
 use cp_invlist::{CodePointInversionList, CodePointRange, NoMemory};
+use cp_strset::CodePointInversionListAndStringList;
 use prop_data::PropertyDatabase;
 use std::alloc::{AllocError, Global};
 use uset_parse::{ParseError, ParseErrorKind, VariableMap, parse_unstable_with_variables};
@@ -62,7 +65,7 @@ fn push_range(text: &mut String, alloc: Global, range: CodePointRange) -> Result
 }
 
 /// Appends all maximal ranges of the set.
-fn push_members(
+fn push_ranges(
     text: &mut String,
     alloc: Global,
     set: &CodePointInversionList,
@@ -75,16 +78,52 @@ fn push_members(
     Ok(())
 }
 
+/// Appends code points with a low line between two.
+fn push_linked(text: &mut String, alloc: Global, string: &str) -> Result<(), AllocError>
+    ensures { OnOk result (string_bytes text.new ≡ string_bytes text.old ++ linked (chars string.now)) }
+{
+    let mut characters = string.chars();
+    let Some(first) = characters.next() else {
+        return Ok(());
+    };
+    push_code_point(text, alloc, first as u32)?;
+    for character in characters {
+        text.push_str("_")?;
+        push_code_point(text, alloc, character as u32)?;
+    }
+    Ok(())
+}
+
+/// Appends a string: a blank, and its characters in braces.
+fn push_string(text: &mut String, alloc: Global, string: &str) -> Result<(), AllocError>
+    ensures { OnOk result (string_bytes text.new ≡ string_bytes text.old ++ string_text string.now) }
+{
+    text.push_str(" {")?;
+    push_linked(text, alloc, string)?;
+    text.push_str("}")
+}
+
+/// Appends all strings.
+fn push_strings(text: &mut String, alloc: Global, strings: &[String]) -> Result<(), AllocError>
+    ensures { OnOk result (string_bytes text.new ≡ string_bytes text.old ++ flat_map string_text (map string_bytes strings.now)) }
+{
+    for string in strings {
+        push_string(text, alloc, string.as_str())?;
+    }
+    Ok(())
+}
+
 /// The answer to a pattern that was read.
 fn answer_read(
     alloc: Global,
-    set: &CodePointInversionList,
+    set: &CodePointInversionListAndStringList,
     length: usize,
 ) -> Result<Answer, AllocError>
-    ensures { IfOk result (IsReadAnswer length (contains set.now)) }
+    ensures { IfOk result (IsReadAnswer length set.now) }
 {
     let mut text = format!(in alloc; "ok {length}")?;
-    push_members(&mut text, alloc, set)?;
+    push_ranges(&mut text, alloc, set.code_points())?;
+    push_strings(&mut text, alloc, set.strings())?;
     text.push_str("\n")?;
     Ok(Answer {
         text,
@@ -121,7 +160,7 @@ fn answer_pattern(
     ensures { IfOk result (λ a. PatternAnswer (tables_of database.now) source.now (string_bytes a.text) a.is_err) }
 {
     match parse_unstable_with_variables(alloc, source, &VariableMap::new(alloc), database) {
-        Ok((set, length)) => Ok(answer_read(alloc, set.code_points(), length)?),
+        Ok((set, length)) => Ok(answer_read(alloc, &set, length)?),
         Err(error) => answer_fault(alloc, source, error),
     }
 }

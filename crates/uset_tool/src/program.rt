@@ -16,6 +16,7 @@ use crate::words::{is_known, table_fault_text};
 use prop_data::{LoadError, PropertyDatabase, TableError};
 use std::alloc::Global;
 use text_lines::split_behind;
+use cp_strset::laws::one_list;
 use uset_parse::laws::{no_fault_of_a_reading, one_fault, one_reading};
 
 /// Writes a text, and gives the status that is wanted where all of it was written.
@@ -145,5 +146,6 @@ pub fn run<S: Source, K: Sink>(
     one_reading();
     no_fault_of_a_reading();
     one_fault();
+    one_list();
     answer_words(alloc, words, source, sink)
 }

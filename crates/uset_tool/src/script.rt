@@ -10,6 +10,7 @@ use crate::sink::{Sink, WriteError, write_all};
 use prop_data::PropertyDatabase;
 use std::alloc::Global;
 use text_lines::split_line;
+use cp_strset::laws::one_list;
 use uset_parse::laws::{no_fault_of_a_reading, one_fault, one_reading};
 
 /// Answers the lines of a script one by one: each answer is written before the next line is looked
@@ -28,6 +29,7 @@ pub(crate) fn answer_script<K: Sink>(
     one_reading();
     no_fault_of_a_reading();
     one_fault();
+    one_list();
     let mut rest = script;
     let mut has_err = false;
     while let Some((line, behind)) = split_line(rest) {

@@ -9,7 +9,7 @@ use Rattle.uset_tool.proofs.answer.answer_pattern.Goals as goal
 
 pub returns-in_ok-answer_read-in-Ok : goal.returns-in_ok-answer_read-in-Ok
 returns-in_ok-answer_read-in-Ok c =
-    read_answer _ _ c.in-Ok.length c.in-Ok.set _ c.in_ok-answer_read-in-Ok.field-0 c.in-Ok.ensures.read c.code_points.ensures c.in_ok-answer_read-in-Ok.ensures
+    read_answer _ _ c.in-Ok.length c.in-Ok.set c.in_ok-answer_read-in-Ok.field-0 c.in-Ok.ensures.read c.in_ok-answer_read-in-Ok.ensures
 
 pub returns-in-Err : goal.returns-in-Err
 returns-in-Err c =
