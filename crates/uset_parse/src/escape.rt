@@ -162,11 +162,7 @@ fn read_further_numbers<'a>(
 
 /// Reads the numbers of an escape in braces, and the closing brace.
 #[tactic(auto, unfolding(crate::specs::Escape::braced))]
-fn read_braced<'a>(
-    alloc: Global,
-    syntax: &Syntax<'_>,
-    text: &'a str,
-) -> Result<Read<'a>, NoMemory>
+fn read_braced<'a>(alloc: Global, syntax: &Syntax<'_>, text: &'a str) -> Result<Read<'a>, NoMemory>
     ensures parts { IfOk result (λ read. option_map (λ p. (codes_of p.0, chars p.1.now)) read ≡ braced (syntax_seen syntax.now).white_space (chars text.now)) }
     ensures shorter { IfOk result (λ read. IfSome read (λ p. length p.1.now < length text.now)) }
     ensures fewer { IfOk result (λ read. IfSome read (λ p. length (chars p.1.now) < length (chars text.now))) }

@@ -72,6 +72,52 @@ fn an_escape_stands_for_its_code_point(rt: HostRuntime) -> Result<(), Fail> {
 }
 
 #[test]
+fn an_escape_stands_for_several_code_points(rt: HostRuntime) -> Result<(), Fail> {
+    let alloc = rt.alloc();
+    let database = PropertyDatabase::from_text(alloc, SYNTAX)?;
+    let variables = VariableMap::new(alloc);
+    for (source, list) in [
+        ("[\\u{61 0062   063}]", [0x61, 0x64].as_slice()),
+        ("[a\\x{ 62 d800 }c]", &[0x61, 0x64, 0xD800, 0xD801]),
+        ("[\\u{62 61}-]", &[0x2D, 0x2E, 0x61, 0x63]),
+    ] {
+        let (set, length) = parse_unstable_with_variables(alloc, source, &variables, &database)?;
+        assert_eq!(rt; set.code_points().get_inversion_list(), list, "at {source}");
+        assert_eq!(rt; length, source.len(), "at {source}");
+        assert!(rt; set.strings().is_empty(), "at {source}");
+    }
+    Ok(())
+}
+
+#[test]
+fn strings_are_members(rt: HostRuntime) -> Result<(), Fail> {
+    let alloc = rt.alloc();
+    let database = PropertyDatabase::from_text(alloc, SYNTAX)?;
+    let variables = VariableMap::new(alloc);
+    for (source, expected) in [
+        ("[{}}]", "[\\u{7d}{}]"),
+        ("[{b}{ a }]", "[\\u{61}-\\u{62}]"),
+        ("[{ba}{ab}{ab}]", "[{\\u{61}\\u{62}}{\\u{62}\\u{61}}]"),
+        ("[{ a \\  b }]", "[{\\u{61}\\u{20}\\u{62}}]"),
+        ("[{a}-{c}]", "[\\u{61}-\\u{63}]"),
+        ("[{\\u{61 62}\\p}]", "[{\\u{61}\\u{62}\\u{70}}]"),
+        ("[a{ab}-]", "[\\u{2d}\\u{61}{\\u{61}\\u{62}}]"),
+        ("[^{ab}]", "[\\u{0}-\\u{10ffff}]"),
+        ("[{ab}[{cd}b]-[{ab}]]", "[\\u{62}{\\u{63}\\u{64}}]"),
+        ("[{ab}[{cd}b]&[{ab}a]]", "[{\\u{61}\\u{62}}]"),
+        (
+            "[[{ab}]{é\\x{10FFFF}}]",
+            "[{\\u{61}\\u{62}}{\\u{e9}\\u{10ffff}}]",
+        ),
+    ] {
+        let (set, length) = parse_unstable_with_variables(alloc, source, &variables, &database)?;
+        assert_eq!(rt; set.to_pattern(alloc)?.as_str(), expected, "at {source}");
+        assert_eq!(rt; length, source.len(), "at {source}");
+    }
+    Ok(())
+}
+
+#[test]
 fn what_the_grammar_does_not_read_is_unimplemented(rt: HostRuntime) -> Result<(), Fail> {
     let alloc = rt.alloc();
     let database = PropertyDatabase::from_text(alloc, SYNTAX)?;
@@ -92,7 +138,18 @@ fn what_the_grammar_does_not_read_is_unimplemented(rt: HostRuntime) -> Result<()
         "[a$b]",
         "[a-[b]]",
         "[[a]&]",
-        "[{a}]",
+        "[{a]",
+        "[{ab}-a]",
+        "[a-{bc}]",
+        "[{ab}&[a]]",
+        "[{a\\uD800}]",
+        "[{a\\u{D800 62}}]",
+        "[{\\N}]",
+        "[\\u{61,62}]",
+        "[\\u{61 62]",
+        "[\\u{}]",
+        "[a-\\u{62 63}]",
+        "[\\p{L}]",
         "[\\p]",
         "[\\N]",
         "[\\x4]",

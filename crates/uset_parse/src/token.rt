@@ -113,11 +113,7 @@ fn begins_property(text: &str) -> bool
 }
 
 /// Reads an escape behind its backslash. `None` where a property begins there.
-fn read_escaped<'a>(
-    alloc: Global,
-    syntax: &Syntax<'_>,
-    text: &'a str,
-) -> Result<Read<'a>, NoMemory>
+fn read_escaped<'a>(alloc: Global, syntax: &Syntax<'_>, text: &'a str) -> Result<Read<'a>, NoMemory>
     ensures parts { IfOk result (λ read. option_map (λ p. (token_seen p.0, chars p.1.now)) read ≡ escape_token (syntax_seen syntax.now) (chars text.now)) }
     ensures within { IfOk result (λ read. IfSome read (λ p. length p.1.now ≤ length text.now)) }
 {
@@ -131,11 +127,7 @@ fn read_escaped<'a>(
 }
 
 /// Reads a string behind its `{`.
-fn read_string<'a>(
-    alloc: Global,
-    syntax: &Syntax<'_>,
-    text: &'a str,
-) -> Result<Read<'a>, NoMemory>
+fn read_string<'a>(alloc: Global, syntax: &Syntax<'_>, text: &'a str) -> Result<Read<'a>, NoMemory>
     ensures parts { IfOk result (λ read. option_map (λ p. (token_seen p.0, chars p.1.now)) read ≡ text_token (syntax_seen syntax.now) (chars text.now)) }
     ensures within { IfOk result (λ read. IfSome read (λ p. length p.1.now ≤ length text.now)) }
 {

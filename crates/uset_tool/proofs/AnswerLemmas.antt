@@ -1,5 +1,5 @@
 -- The answers to patterns.
-use Rattle.std.proofs.Common.{◌≡◌, ◌≢◌, ℕ, Bool, true, false, List, length, refl, ap, ◌∙◌, subst}
+use Rattle.std.proofs.Common.{◌≡◌, ◌≢◌, ℕ, Bool, true, false, List, length, refl, subst}
 use mathlib.Core.Path.{fun_ext}
 use Rattle.std.specs.Str.{chars}
 use Rattle.std.specs.String.{string_bytes}

@@ -1,5 +1,6 @@
 pub mod AnswerLemmas
 pub mod Linked
+pub mod Padding
 pub mod DeviceLemmas
 pub mod Once
 pub mod RunLemmas

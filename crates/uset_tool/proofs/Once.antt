@@ -56,8 +56,8 @@ pattern_once laws tables source _ _ _ _ (read {tree} {rest} n rs ss h place maxi
     let same_n : n ≡ k = omega (arith, ap (λ r. length (encode_utf8_all r)) one.1) in
     let same_ranges : rs ≡ qs = ranges_once (λ c. has tree (point c)) 0 rs qs maximal (subst (λ t. AreMaximalRanges (λ c. has t (point c)) qs) (sym one.0) maximal_too) in
     let same_strings : ss ≡ ts =
-        laws.one_list ss ts strings.canonical strings_too.canonical
-        (λ bytes. strings.holds_them bytes ∙ (ap (λ t. has t (string bytes)) one.0 ∙ sym (strings_too.holds_them bytes))) in
+    laws.one_list ss ts strings.canonical strings_too.canonical
+    (λ bytes. strings.holds_them bytes ∙ (ap (λ t. has t (string bytes)) one.0 ∙ sym (strings_too.holds_them bytes))) in
     (λ i. read_text (same_n i) (same_ranges i) (same_strings i), refl)
 pattern_once laws tables source _ _ _ _ (read {tree} {rest} n rs ss h place maximal strings) (fault {kind} k) = absurd (laws.no_fault tables (chars source) tree rest kind h k)
 pattern_once laws tables source _ _ _ _ (fault {kind} k) (read {tree} {rest} n rs ss h place maximal strings) = absurd (laws.no_fault tables (chars source) tree rest kind h k)

@@ -14,6 +14,7 @@ use cp_invlist::{CodePointInversionList, CodePointRange, NoMemory};
 use cp_strset::CodePointInversionListAndStringList;
 use prop_data::PropertyDatabase;
 use std::alloc::{AllocError, Global};
+use std::fmt::Write;
 use uset_parse::{ParseError, ParseErrorKind, VariableMap, parse_unstable_with_variables};
 
 /// The answer to a line, and whether it is an `err` line.
@@ -23,92 +24,70 @@ pub(crate) struct Answer {
     pub(crate) is_err: bool,
 }
 
-/// The zeros that fill a number of digits up to four.
-fn zeros_before(digit_count: usize) -> &'static str
-    ensures { result.now ≡ replicate (4 - digit_count) 0x30 }
-{
-    match digit_count {
-        0 => "0000",
-        1 => "000",
-        2 => "00",
-        3 => "0",
-        _ => "",
-    }
-}
-
-fn hex_digits(alloc: Global, number: u32) -> Result<String, AllocError>
-    ensures { IfOk result (λ text. string_bytes text ≡ digits 16 true number) }
-{
-    format!(in alloc; "{number:X}")
-}
-
 /// Appends a code point in upper-case hexadecimal digits, at least four.
-fn push_code_point(text: &mut String, alloc: Global, code_point: u32) -> Result<(), AllocError>
+#[tactic(auto, using(crate::proofs::Padding::four_digits))]
+fn push_code_point(text: &mut String, code_point: u32) -> Result<(), NoMemory>
     ensures { OnOk result (string_bytes text.new ≡ string_bytes text.old ++ code_point_text code_point) }
 {
-    let digits = hex_digits(alloc, code_point)?;
-    text.push_str(zeros_before(digits.len()))?;
-    text.push_str(&digits)
+    write!(text, "{code_point:04X}")?;
+    Ok(())
 }
 
 /// Appends a range: a blank, the first code point, and a hyphen and the last where it is another.
-fn push_range(text: &mut String, alloc: Global, range: CodePointRange) -> Result<(), AllocError>
+fn push_range(text: &mut String, range: CodePointRange) -> Result<(), NoMemory>
     ensures { OnOk result (string_bytes text.new ≡ string_bytes text.old ++ range_text range) }
 {
     text.push_str(" ")?;
-    push_code_point(text, alloc, range.start)?;
+    push_code_point(text, range.start)?;
     if range.start == range.end {
         return Ok(());
     }
     text.push_str("-")?;
-    push_code_point(text, alloc, range.end)
+    push_code_point(text, range.end)
 }
 
 /// Appends all maximal ranges of the set.
-fn push_ranges(
-    text: &mut String,
-    alloc: Global,
-    set: &CodePointInversionList,
-) -> Result<(), AllocError>
+fn push_ranges(text: &mut String, set: &CodePointInversionList) -> Result<(), NoMemory>
     ensures { OnOk result (AppendsMembers (string_bytes text.old) (string_bytes text.new) (contains set.now)) }
 {
     for range in set.iter_ranges() {
-        push_range(text, alloc, range)?;
+        push_range(text, range)?;
     }
     Ok(())
 }
 
 /// Appends code points with a low line between two.
-fn push_linked(text: &mut String, alloc: Global, string: &str) -> Result<(), AllocError>
+fn push_linked(text: &mut String, string: &str) -> Result<(), NoMemory>
     ensures { OnOk result (string_bytes text.new ≡ string_bytes text.old ++ linked (chars string.now)) }
 {
     let mut characters = string.chars();
     let Some(first) = characters.next() else {
         return Ok(());
     };
-    push_code_point(text, alloc, first as u32)?;
+    push_code_point(text, first as u32)?;
     for character in characters {
         text.push_str("_")?;
-        push_code_point(text, alloc, character as u32)?;
+        push_code_point(text, character as u32)?;
     }
     Ok(())
 }
 
 /// Appends a string: a blank, and its characters in braces.
-fn push_string(text: &mut String, alloc: Global, string: &str) -> Result<(), AllocError>
+fn push_string(text: &mut String, string: &str) -> Result<(), NoMemory>
     ensures { OnOk result (string_bytes text.new ≡ string_bytes text.old ++ string_text string.now) }
 {
     text.push_str(" {")?;
-    push_linked(text, alloc, string)?;
-    text.push_str("}")
+    push_linked(text, string)?;
+    text.push_str("}")?;
+    Ok(())
 }
 
 /// Appends all strings.
-fn push_strings(text: &mut String, alloc: Global, strings: &[String]) -> Result<(), AllocError>
+fn push_strings(text: &mut String, strings: &[String]) -> Result<(), NoMemory>
     ensures { OnOk result (string_bytes text.new ≡ string_bytes text.old ++ flat_map string_text (map string_bytes strings.now)) }
 {
     for string in strings {
-        push_string(text, alloc, string.as_str())?;
+        push_string(text, string.as_str())?;
     }
     Ok(())
 }
@@ -118,12 +97,12 @@ fn answer_read(
     alloc: Global,
     set: &CodePointInversionListAndStringList,
     length: usize,
-) -> Result<Answer, AllocError>
+) -> Result<Answer, NoMemory>
     ensures { IfOk result (IsReadAnswer length set.now) }
 {
     let mut text = format!(in alloc; "ok {length}")?;
-    push_ranges(&mut text, alloc, set.code_points())?;
-    push_strings(&mut text, alloc, set.strings())?;
+    push_ranges(&mut text, set.code_points())?;
+    push_strings(&mut text, set.strings())?;
     text.push_str("\n")?;
     Ok(Answer {
         text,
@@ -160,7 +139,7 @@ fn answer_pattern(
     ensures { IfOk result (λ a. PatternAnswer (tables_of database.now) source.now (string_bytes a.text) a.is_err) }
 {
     match parse_unstable_with_variables(alloc, source, &VariableMap::new(alloc), database) {
-        Ok((set, length)) => Ok(answer_read(alloc, &set, length)?),
+        Ok((set, length)) => answer_read(alloc, &set, length),
         Err(error) => answer_fault(alloc, source, error),
     }
 }

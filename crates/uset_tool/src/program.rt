@@ -13,10 +13,10 @@ use crate::sink::{Sink, WriteError, write_all};
 use crate::source::Source;
 use crate::status::Status;
 use crate::words::{is_known, table_fault_text};
+use cp_strset::laws::one_list;
 use prop_data::{LoadError, PropertyDatabase, TableError};
 use std::alloc::Global;
 use text_lines::split_behind;
-use cp_strset::laws::one_list;
 use uset_parse::laws::{no_fault_of_a_reading, one_fault, one_reading};
 
 /// Writes a text, and gives the status that is wanted where all of it was written.

@@ -7,10 +7,10 @@ ghost use Rattle.uset_tool.specs.Device.{Rose};
 
 use crate::answer::answer_line;
 use crate::sink::{Sink, WriteError, write_all};
+use cp_strset::laws::one_list;
 use prop_data::PropertyDatabase;
 use std::alloc::Global;
 use text_lines::split_line;
-use cp_strset::laws::one_list;
 use uset_parse::laws::{no_fault_of_a_reading, one_fault, one_reading};
 
 /// Answers the lines of a script one by one: each answer is written before the next line is looked

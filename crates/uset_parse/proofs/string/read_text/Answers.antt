@@ -13,7 +13,7 @@ loop-behind-init c =
       search rules,
       omega arith,
       subst (λ read. ReadSoFar white_space (piece white_space) (chars c.args.text.now) read (chars c.args.text.now)) (sym (ap chars c.new-string.ensures.bytes ∙ chars-nil))
-      (nothing_read_yet white_space (piece white_space) (chars c.args.text.now)),
+          (nothing_read_yet white_space (piece white_space) (chars c.args.text.now)),
     )
 
 pub returns-in-Some-clause-parts : goal.returns-in-Some-clause-parts
