@@ -1,5 +1,6 @@
 use Rattle.std.proofs.Common.{refl}
+use Rattle.prop_binary.proofs.TableLemmas.{same_rows-path}
 use Rattle.prop_binary.proofs.rows.properties_from_extender.Goals as goal
 
 pub returns : goal.returns
-returns c = refl
+returns c = same_rows-path _ _ refl

@@ -1,5 +1,6 @@
 use Rattle.std.proofs.Common.{refl}
+use Rattle.std.proofs.lemmas.Slice.Eq.{bytes_eq-Decides}
 use Rattle.prop_binary.proofs.rows.set_tables.Goals as goal
 
 pub returns : goal.returns
-returns c = refl
+returns c = (bytes_eq-Decides _ _).0 refl
