@@ -4,7 +4,7 @@ use Rattle.std.specs.Prelude.{◌≡◌, ℕ, ◌+◌, Bool, true, false, ◌&&�
 use Rattle.std.specs.Str.{bytes_eq}
 
 -- each name with the number of the table of its property: the long name, and the short name where it is another
-abbrev pub ecma262_names : List (List ℕ × ℕ)
+unfoldable pub ecma262_names : List (List ℕ × ℕ)
 ecma262_names =
     (codes "ASCII_Hex_Digit", 0)
     ∷ (codes "AHex", 0)
