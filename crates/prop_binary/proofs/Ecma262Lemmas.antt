@@ -25,4 +25,5 @@ each_found (row ∷ rows) text all =
     (λ same. ap ecma262_number (sym same) ∙ found_number (ecma262_number row.0) row.1 parts.0, each_found rows text parts.1)
 
 pub each_is_behind : (text : List ℕ) → EachIsBehind ecma262_names text (ecma262_number text)
+unfolding ecma262_names
 each_is_behind text = each_found ecma262_names text refl

@@ -1,10 +1,10 @@
 -- The names of the binary properties that ECMA-262 has (its table "Binary Unicode property aliases and their canonical property
 -- names"), other than Any, ASCII and Assigned. White_Space has the short name WSpace.
-use Rattle.std.specs.Prelude.{◌≡◌, ℕ, ◌+◌, Bool, Option, Some, None, List, [], ◌∷◌, ◌++◌, codes, if◌then◌else◌}
+use Rattle.std.specs.Prelude.{◌≡◌, ℕ, ◌+◌, Bool, true, false, ◌&&◌, ◌==◌, Option, Some, None, List, [], ◌∷◌, ◌++◌, codes, if◌then◌else◌}
 use Rattle.std.specs.Str.{bytes_eq}
 
 -- each name with the number of the table of its property: the long name, and the short name where it is another
-abbrev pub ecma262_names : List (List ℕ × ℕ)
+unfoldable pub ecma262_names : List (List ℕ × ℕ)
 ecma262_names =
     (codes "ASCII_Hex_Digit", 0)
     ∷ (codes "AHex", 0)
@@ -126,3 +126,10 @@ abbrev pub names_from : ℕ → List (List ℕ × List ℕ × Bool) → List (Li
 names_from n [] = []
 names_from n (property ∷ more) =
     (if property.2 then names_with n property.0 property.1 else []) ++ names_from (n + 1) more
+
+-- the test that two lists have the same names and numbers
+abbrev pub same_numbers : List (List ℕ × ℕ) → List (List ℕ × ℕ) → Bool
+same_numbers [] [] = true
+same_numbers [] (y ∷ ys) = false
+same_numbers (x ∷ xs) [] = false
+same_numbers (x ∷ xs) (y ∷ ys) = bytes_eq x.0 y.0 && ((x.1 == y.1) && same_numbers xs ys)

@@ -85,5 +85,5 @@ abbrev pub names_by_number : ℕ → List (List ℕ × List ℕ × Bool) → Lis
 names_by_number n [] = []
 names_by_number n (property ∷ more) = (n, property.0, property.1) ∷ names_by_number (n + 1) more
 
-abbrev pub numbered_names : List (ℕ × List ℕ × List ℕ)
+unfoldable pub numbered_names : List (ℕ × List ℕ × List ℕ)
 numbered_names = names_by_number 0 properties

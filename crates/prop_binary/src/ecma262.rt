@@ -1,6 +1,6 @@
 //! The names of ECMA-262.
-ghost use Rattle.std.specs.Prelude.{◌≡◌, map};
-ghost use Rattle.prop_binary.specs.Ecma262.{ecma262_names, ecma262_number, number_behind, EachIsBehind};
+ghost use Rattle.std.specs.Prelude.{◌≡◌, IsTrue, map};
+ghost use Rattle.prop_binary.specs.Ecma262.{ecma262_names, ecma262_number, number_behind, same_numbers, EachIsBehind};
 
 use crate::table::SetTable;
 
@@ -137,7 +137,15 @@ pub fn ecma262_table(name: &[u8]) -> Option<SetTable>
     ensures found { result ≡ ecma262_number name.now }
     ensures only { EachIsBehind ecma262_names name.now result }
 {
-    table_behind(&ECMA262_NAMES, name)
+    table_among(&ECMA262_NAMES, name)
+}
+
+// The table of the property with this name, where the rows are the names of ECMA-262.
+fn table_among(rows: &[(&[u8], SetTable)], text: &[u8]) -> Option<SetTable>
+    requires { IsTrue (same_numbers (map (λ row. (row.0.now, row.1)) rows.now) ecma262_names) }
+    ensures { result ≡ ecma262_number text.now }
+{
+    table_behind(rows, text)
 }
 
 // The table behind the first of the names that equals the text.

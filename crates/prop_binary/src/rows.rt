@@ -201,6 +201,7 @@ pub fn set_tables() -> [SetTable; 69]
 }
 
 /// The names of ECMA-262 are the long names of its properties, and the short ones where they are others.
+#[tactic(auto, unfolding(crate::specs::Ecma262::ecma262_names))]
 pub fn ecma262_names()
     ensures { ecma262_names ≡ names_from 0 properties }
 {}

@@ -1,3 +1,4 @@
 pub mod BitLemmas
+pub mod GroupLemmas
 pub mod ReadLemmas
 pub mod SubtagLemmas

@@ -3,7 +3,6 @@ use Rattle.std.proofs.Common.{◌≡◌, ℕ, Bool, true, false, cond, ◌&&◌,
 use Rattle.std.proofs.lemmas.Bool.{and_parts}
 use Rattle.std.proofs.lemmas.Bool.Decides.{nat_tests}
 use Rattle.prop_values.specs.Groups.{number_in, bits_in, packings, packed_group, unpacked_group}
-use Rattle.prop_values.specs.declared.group.GeneralCategoryGroup.{GeneralCategoryGroup}
 
 -- the bits that the number of these bits stands for are these bits
 abbrev comes_back : ℕ → Bool
@@ -30,12 +29,11 @@ chosen true v w h = cc
 chosen false v w h = cc
 
 -- the packing of a group that a number unpacks to unpacks to that group
-pub unpacked_group-again : (n : ℕ) (group : GeneralCategoryGroup) → unpacked_group n ≡ Some group → unpacked_group (packed_group group) ≡ Some group
+pub unpacked_group-again : (n group : ℕ) → unpacked_group n ≡ Some group → unpacked_group (packed_group group) ≡ Some group
 unpacked_group-again n group h =
-    let of : ℕ → GeneralCategoryGroup = λ bits. record { 0 = bits } in
-    let group_is : of (bits_in packings n) ≡ group = chosen (nat_lt n 65536) (of (bits_in packings n)) group h in
+    let group_is : bits_in packings n ≡ group = chosen (nat_lt n 65536) (bits_in packings n) group h in
     let back = bits_in-comes_back packings n refl refl in
     let parts = and_parts (bits_in packings (number_in packings (bits_in packings n)) == bits_in packings n) _ back in
     let same : bits_in packings (number_in packings (bits_in packings n)) ≡ bits_in packings n = grind (arith, nat_tests, parts.0) in
-    let again : unpacked_group (number_in packings (bits_in packings n)) ≡ Some (of (bits_in packings n)) = ap (λ b. cond b (Some (of (bits_in packings (number_in packings (bits_in packings n))))) None) parts.1 ∙ ap (λ bits. Some (of bits)) same in
+    let again : unpacked_group (number_in packings (bits_in packings n)) ≡ Some (bits_in packings n) = ap (λ b. cond b (Some (bits_in packings (number_in packings (bits_in packings n)))) None) parts.1 ∙ ap Some same in
     ap (λ g. unpacked_group (packed_group g)) (sym group_is) ∙ (again ∙ ap Some group_is)

@@ -1,14 +1,13 @@
 -- Groups of general categories (UAX 44, section 5.7.1): as a number a group has the bit of each of its categories.
-use Rattle.std.specs.Prelude.{ℕ, ◌+◌, ◌^◌, Bool, ◌==◌, nat_lt, Option, Some, None, List, [], ◌∷◌, codes, if◌then◌else◌}
+use Rattle.std.specs.Prelude.{◌≡◌, ℕ, ◌+◌, ◌^◌, ◌<◌, Bool, ◌==◌, nat_lt, Option, Some, None, List, [], ◌∷◌, codes, if◌then◌else◌}
 use Rattle.std.specs.Int.{bit_at}
 use Rattle.prop_values.specs.Category.{number_of}
 use Rattle.prop_values.specs.declared.category.GeneralCategory.{GeneralCategory}
 use Rattle.prop_values.specs.declared.category.GeneralCategory.TheVariants.{Unassigned, UppercaseLetter, LowercaseLetter, TitlecaseLetter, ModifierLetter, OtherLetter, NonspacingMark, EnclosingMark, SpacingMark, DecimalNumber, LetterNumber, OtherNumber, SpaceSeparator, LineSeparator, ParagraphSeparator, Control, Format, PrivateUse, Surrogate, DashPunctuation, OpenPunctuation, ClosePunctuation, ConnectorPunctuation, OtherPunctuation, MathSymbol, CurrencySymbol, ModifierSymbol, OtherSymbol, InitialPunctuation, FinalPunctuation}
-use Rattle.prop_values.specs.declared.group.GeneralCategoryGroup.{GeneralCategoryGroup}
 
--- the group has the category
-abbrev pub has : GeneralCategoryGroup → GeneralCategory → Bool
-has group c = bit_at group.0 (number_of c) == 1
+-- the group of these bits has the category
+abbrev pub has : ℕ → GeneralCategory → Bool
+has bits c = bit_at bits (number_of c) == 1
 
 -- the number of the group of these different categories
 abbrev pub bits_of : List GeneralCategory → ℕ
@@ -92,11 +91,11 @@ abbrev pub bits_in : List (ℕ × ℕ) → ℕ → ℕ
 bits_in [] n = 0
 bits_in (row ∷ rows) n = if row.0 == n then row.1 else bits_in rows n
 
-abbrev pub packed_group : GeneralCategoryGroup → ℕ
-packed_group group = number_in packings group.0
+abbrev pub packed_group : ℕ → ℕ
+packed_group bits = number_in packings bits
 
-abbrev pub unpacked_group : ℕ → Option GeneralCategoryGroup
-unpacked_group n = if nat_lt n 65536 then Some (record { 0 = bits_in packings n }) else None
+abbrev pub unpacked_group : ℕ → Option ℕ
+unpacked_group n = if nat_lt n 65536 then Some (bits_in packings n) else None
 
 -- the short names (UAX 44, section 5.7.1) with their groups
 abbrev pub named_groups : List (List ℕ × ℕ)
@@ -140,3 +139,7 @@ named_groups =
     ∷ (codes "So", bits_of (OtherSymbol ∷ []))
     ∷ (codes "S", symbol)
     ∷ []
+
+-- Two groups with the same categories are the same.
+abbrev pub SameMembers : Type 0
+SameMembers = (a b : ℕ) → a < 2 ^ 30 → b < 2 ^ 30 → ((c : GeneralCategory) → has a c ≡ has b c) → a ≡ b

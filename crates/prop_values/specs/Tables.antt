@@ -1,29 +1,41 @@
 -- The tables of values and of names: their names, the numbers that they accept, and the numbers of the defaults.
-use Rattle.std.specs.Prelude.{ℕ, Bool, ◌||◌, ◌++◌, ◌==◌, nat_lt, List, [], ◌∷◌, take, codes, if◌then◌else◌}
+use Rattle.std.specs.Prelude.{ℕ, ◌+◌, Bool, ◌||◌, ◌++◌, ◌==◌, nat_lt, List, [], ◌∷◌, map, take, codes, if◌then◌else◌}
 use Rattle.prop_values.specs.MirroringGlyph.{is_glyph_number}
 
--- the long name of the property of each table of values (UAX 44, section 5.1), by the number of the table
-abbrev pub map_table_names : List (List ℕ)
-map_table_names =
-    codes "Bidi_Class"
-    ∷ codes "Block"
-    ∷ codes "Numeric_Type"
-    ∷ codes "General_Category"
-    ∷ codes "Script"
-    ∷ codes "Hangul_Syllable_Type"
-    ∷ codes "East_Asian_Width"
-    ∷ codes "Line_Break"
-    ∷ codes "Grapheme_Cluster_Break"
-    ∷ codes "Word_Break"
-    ∷ codes "Sentence_Break"
-    ∷ codes "Canonical_Combining_Class"
-    ∷ codes "Indic_Conjunct_Break"
-    ∷ codes "Indic_Syllabic_Category"
-    ∷ codes "Joining_Group"
-    ∷ codes "Joining_Type"
-    ∷ codes "Vertical_Orientation"
-    ∷ codes "Bidi_Mirroring_Glyph"
+-- the properties, in the order of the numbers of their tables: the long and the short name (UAX 44, section 5.1)
+abbrev pub properties : List (List ℕ × List ℕ)
+properties =
+    (codes "Bidi_Class", codes "bc")
+    ∷ (codes "Block", codes "blk")
+    ∷ (codes "Numeric_Type", codes "nt")
+    ∷ (codes "General_Category", codes "gc")
+    ∷ (codes "Script", codes "sc")
+    ∷ (codes "Hangul_Syllable_Type", codes "hst")
+    ∷ (codes "East_Asian_Width", codes "ea")
+    ∷ (codes "Line_Break", codes "lb")
+    ∷ (codes "Grapheme_Cluster_Break", codes "GCB")
+    ∷ (codes "Word_Break", codes "WB")
+    ∷ (codes "Sentence_Break", codes "SB")
+    ∷ (codes "Canonical_Combining_Class", codes "ccc")
+    ∷ (codes "Indic_Conjunct_Break", codes "InCB")
+    ∷ (codes "Indic_Syllabic_Category", codes "InSC")
+    ∷ (codes "Joining_Group", codes "jg")
+    ∷ (codes "Joining_Type", codes "jt")
+    ∷ (codes "Vertical_Orientation", codes "vo")
+    ∷ (codes "Bidi_Mirroring_Glyph", codes "bmg")
     ∷ []
+
+-- the number of each property's table with the long and the short name, where the first table has this number
+abbrev pub names_by_number : ℕ → List (List ℕ × List ℕ) → List (ℕ × List ℕ × List ℕ)
+names_by_number n [] = []
+names_by_number n (property ∷ more) = (n, property.0, property.1) ∷ names_by_number (n + 1) more
+
+abbrev pub numbered_names : List (ℕ × List ℕ × List ℕ)
+numbered_names = names_by_number 0 properties
+
+-- the long name of the property of each table of values, by the number of the table
+abbrev pub map_table_names : List (List ℕ)
+map_table_names = map (λ property. property.0) properties
 
 -- the names of the tables of names: those of the tables of values but the last, and that of the groups of categories
 abbrev pub names_table_names : List (List ℕ)

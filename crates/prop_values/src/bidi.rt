@@ -1,6 +1,5 @@
 //! The bidirectional class.
 ghost use Rattle.std.specs.Prelude.{◌≡◌, refl};
-ghost use Rattle.std.proofs.Common.{lit<};
 ghost use Rattle.prop_values.specs.NumberedLaws.{value_below, value_below-again, value_below-is_some, same_by_number};
 
 use crate::property::EnumeratedProperty;
@@ -100,7 +99,7 @@ impl TrieValue for BidiClass {
 }
 
 impl EnumeratedProperty for BidiClass {
-    ghost TABLE = { record { number = 0; in_range = lit< tt } };
+    ghost TABLE = { 0 };
 
     const NAME: &'static [u8] = b"Bidi_Class";
 

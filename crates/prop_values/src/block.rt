@@ -1,6 +1,5 @@
 //! Blocks.
 ghost use Rattle.std.specs.Prelude.{◌≡◌, refl};
-ghost use Rattle.std.proofs.Common.{lit<};
 ghost use Rattle.prop_values.specs.NumberedLaws.{value_below, value_below-again, value_below-is_some, same_by_number};
 
 use crate::property::EnumeratedProperty;
@@ -42,7 +41,7 @@ impl TrieValue for Block {
 }
 
 impl EnumeratedProperty for Block {
-    ghost TABLE = { record { number = 1; in_range = lit< tt } };
+    ghost TABLE = { 1 };
 
     const NAME: &'static [u8] = b"Block";
 

@@ -1,6 +1,5 @@
 //! The classes of the break algorithms.
 ghost use Rattle.std.specs.Prelude.{◌≡◌, refl};
-ghost use Rattle.std.proofs.Common.{lit<};
 ghost use Rattle.prop_values.specs.NumberedLaws.{value_below, value_below-again, value_below-is_some, same_by_number};
 
 use crate::property::EnumeratedProperty;
@@ -56,7 +55,7 @@ impl TrieValue for LineBreak {
 }
 
 impl EnumeratedProperty for LineBreak {
-    ghost TABLE = { record { number = 7; in_range = lit< tt } };
+    ghost TABLE = { 7 };
 
     const NAME: &'static [u8] = b"Line_Break";
 
@@ -118,7 +117,7 @@ impl TrieValue for GraphemeClusterBreak {
 }
 
 impl EnumeratedProperty for GraphemeClusterBreak {
-    ghost TABLE = { record { number = 8; in_range = lit< tt } };
+    ghost TABLE = { 8 };
 
     const NAME: &'static [u8] = b"Grapheme_Cluster_Break";
 
@@ -180,7 +179,7 @@ impl TrieValue for WordBreak {
 }
 
 impl EnumeratedProperty for WordBreak {
-    ghost TABLE = { record { number = 9; in_range = lit< tt } };
+    ghost TABLE = { 9 };
 
     const NAME: &'static [u8] = b"Word_Break";
 
@@ -242,7 +241,7 @@ impl TrieValue for SentenceBreak {
 }
 
 impl EnumeratedProperty for SentenceBreak {
-    ghost TABLE = { record { number = 10; in_range = lit< tt } };
+    ghost TABLE = { 10 };
 
     const NAME: &'static [u8] = b"Sentence_Break";
 

@@ -1,6 +1,5 @@
 //! The general category.
 ghost use Rattle.std.specs.Prelude.{◌≡◌, ◌<◌, ◌↔◌, Some, None, MatchResult};
-ghost use Rattle.std.proofs.Common.{lit<};
 ghost use Rattle.prop_values.specs.declared.category.GeneralCategory.TheVariants.{Unassigned};
 ghost use Rattle.prop_values.specs.Category.{category_of, number_of};
 ghost use Rattle.prop_values.specs.CategoryLaws.{category_of-again, same_category, category_of-accepted, default_number_of};
@@ -159,7 +158,7 @@ impl TrieValue for GeneralCategory {
 }
 
 impl EnumeratedProperty for GeneralCategory {
-    ghost TABLE = { record { number = 3; in_range = lit< tt } };
+    ghost TABLE = { 3 };
 
     const NAME: &'static [u8] = b"General_Category";
 

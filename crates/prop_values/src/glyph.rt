@@ -1,6 +1,5 @@
 //! Mirroring glyphs and paired brackets (UAX 9).
 ghost use Rattle.std.specs.Prelude.{◌≡◌};
-ghost use Rattle.std.proofs.Common.{lit<};
 ghost use Rattle.prop_values.specs.MirroringGlyph.{is_glyph_number as is_number_of_glyph};
 ghost use Rattle.prop_values.specs.GlyphPacking.{unpacked_glyph, packed_glyph};
 ghost use Rattle.prop_values.specs.GlyphLaws.{unpacked_glyph-again, same_glyph, unpacked_glyph-accepted, no_glyph, no_glyph-packed};
@@ -105,7 +104,7 @@ impl TrieValue for BidiMirroringGlyph {
 }
 
 impl EnumeratedProperty for BidiMirroringGlyph {
-    ghost TABLE = { record { number = 17; in_range = lit< tt } };
+    ghost TABLE = { 17 };
 
     const NAME: &'static [u8] = b"Bidi_Mirroring_Glyph";
 

@@ -1,18 +1,29 @@
 //! Groups of general categories.
-ghost use Rattle.std.specs.Prelude.{◌≡◌, ◌%◌, ◌^◌, ◌&&◌, ◌||◌, not, true, false, map};
+ghost use Rattle.std.specs.Prelude.{◌≡◌, ◌<◌, ◌+◌, ◌%◌, ◌^◌, ◌&&◌, ◌||◌, ℕ, not, true, false, map};
 ghost use Rattle.prop_values.specs.Category.{number_of};
 ghost use Rattle.prop_values.specs.Groups.{has, named_groups, packed_group, unpacked_group, number_in, bits_in};
 ghost use Rattle.prop_values.specs.GroupLaws.{unpacked_group-again};
-ghost use Rattle.prop_values.specs.NumberedLaws.{same_by_number};
-ghost use Rattle.std.proofs.Common.{refl};
+ghost use Rattle.cp_trie.specs.ValueLaws.{nat_eq-same};
 ghost use Rattle.prop_values.specs.declared.category.GeneralCategory.{GeneralCategory};
 
 use crate::category::GeneralCategory;
 use cp_trie::{TrieValue, ValueError};
+use std::marker::Model;
 
-/// A set of general categories (UAX 44, section 5.7.1). As a number it has the bit of each of its categories.
+/// A set of general categories (UAX 44, section 5.7.1). As a number it has the bit of each of its categories, and no
+/// other: a contract sees it as that number.
 #[derive(Clone, Copy, Debug, PartialEq, Eq)]
-pub struct GeneralCategoryGroup(pub(crate) u32);
+pub struct GeneralCategoryGroup(u32);
+
+impl Model for GeneralCategoryGroup {
+    ghost Value = { ℕ };
+
+    ghost view = { λ group. group.0 };
+
+    ghost invariant = { λ group. group.0 < 2 ^ 30 };
+
+    ghost inverse = { λ bits. record { 0 = bits } };
+}
 
 // The bits of all categories.
 const ALL: u32 = 0x3FFF_FFFF;
@@ -60,6 +71,48 @@ const PACKINGS: [(u16, u32); 38] = [
     (0xFFFA, 0x78001),
     (0xFFF9, 0x30F80000),
     (0xFFF8, 0xF000000),
+];
+
+// The short names with their groups.
+const NAMES: [(&str, GeneralCategoryGroup); 38] = [
+    ("Lu", GeneralCategoryGroup::Lu),
+    ("Ll", GeneralCategoryGroup::Ll),
+    ("Lt", GeneralCategoryGroup::Lt),
+    ("Lm", GeneralCategoryGroup::Lm),
+    ("Lo", GeneralCategoryGroup::Lo),
+    ("LC", GeneralCategoryGroup::LC),
+    ("L", GeneralCategoryGroup::L),
+    ("Mn", GeneralCategoryGroup::Mn),
+    ("Me", GeneralCategoryGroup::Me),
+    ("Mc", GeneralCategoryGroup::Mc),
+    ("M", GeneralCategoryGroup::M),
+    ("Nd", GeneralCategoryGroup::Nd),
+    ("Nl", GeneralCategoryGroup::Nl),
+    ("No", GeneralCategoryGroup::No),
+    ("N", GeneralCategoryGroup::N),
+    ("Zs", GeneralCategoryGroup::Zs),
+    ("Zl", GeneralCategoryGroup::Zl),
+    ("Zp", GeneralCategoryGroup::Zp),
+    ("Z", GeneralCategoryGroup::Z),
+    ("Cc", GeneralCategoryGroup::Cc),
+    ("Cf", GeneralCategoryGroup::Cf),
+    ("Co", GeneralCategoryGroup::Co),
+    ("Cs", GeneralCategoryGroup::Cs),
+    ("Cn", GeneralCategoryGroup::Cn),
+    ("C", GeneralCategoryGroup::C),
+    ("Pd", GeneralCategoryGroup::Pd),
+    ("Ps", GeneralCategoryGroup::Ps),
+    ("Pe", GeneralCategoryGroup::Pe),
+    ("Pc", GeneralCategoryGroup::Pc),
+    ("Pi", GeneralCategoryGroup::Pi),
+    ("Pf", GeneralCategoryGroup::Pf),
+    ("Po", GeneralCategoryGroup::Po),
+    ("P", GeneralCategoryGroup::P),
+    ("Sm", GeneralCategoryGroup::Sm),
+    ("Sc", GeneralCategoryGroup::Sc),
+    ("Sk", GeneralCategoryGroup::Sk),
+    ("So", GeneralCategoryGroup::So),
+    ("S", GeneralCategoryGroup::S),
 ];
 
 impl GeneralCategoryGroup {
@@ -215,50 +268,11 @@ impl GeneralCategoryGroup {
 
     pub const S: GeneralCategoryGroup = GeneralCategoryGroup(0xF000000);
 
-    /// The short names with their groups.
+    /// The short names with their groups, the groups of several categories behind their members.
     pub fn names() -> [(&'static str, GeneralCategoryGroup); 38]
-        ensures { map (λ row. (row.0.now, row.1.0)) result ≡ named_groups }
+        ensures { map (λ row. (row.0.now, row.1)) result ≡ named_groups }
     {
-        [
-            ("Lu", GeneralCategoryGroup::Lu),
-            ("Ll", GeneralCategoryGroup::Ll),
-            ("Lt", GeneralCategoryGroup::Lt),
-            ("Lm", GeneralCategoryGroup::Lm),
-            ("Lo", GeneralCategoryGroup::Lo),
-            ("LC", GeneralCategoryGroup::LC),
-            ("L", GeneralCategoryGroup::L),
-            ("Mn", GeneralCategoryGroup::Mn),
-            ("Me", GeneralCategoryGroup::Me),
-            ("Mc", GeneralCategoryGroup::Mc),
-            ("M", GeneralCategoryGroup::M),
-            ("Nd", GeneralCategoryGroup::Nd),
-            ("Nl", GeneralCategoryGroup::Nl),
-            ("No", GeneralCategoryGroup::No),
-            ("N", GeneralCategoryGroup::N),
-            ("Zs", GeneralCategoryGroup::Zs),
-            ("Zl", GeneralCategoryGroup::Zl),
-            ("Zp", GeneralCategoryGroup::Zp),
-            ("Z", GeneralCategoryGroup::Z),
-            ("Cc", GeneralCategoryGroup::Cc),
-            ("Cf", GeneralCategoryGroup::Cf),
-            ("Co", GeneralCategoryGroup::Co),
-            ("Cs", GeneralCategoryGroup::Cs),
-            ("Cn", GeneralCategoryGroup::Cn),
-            ("C", GeneralCategoryGroup::C),
-            ("Pd", GeneralCategoryGroup::Pd),
-            ("Ps", GeneralCategoryGroup::Ps),
-            ("Pe", GeneralCategoryGroup::Pe),
-            ("Pc", GeneralCategoryGroup::Pc),
-            ("Pi", GeneralCategoryGroup::Pi),
-            ("Pf", GeneralCategoryGroup::Pf),
-            ("Po", GeneralCategoryGroup::Po),
-            ("P", GeneralCategoryGroup::P),
-            ("Sm", GeneralCategoryGroup::Sm),
-            ("Sc", GeneralCategoryGroup::Sc),
-            ("Sk", GeneralCategoryGroup::Sk),
-            ("So", GeneralCategoryGroup::So),
-            ("S", GeneralCategoryGroup::S),
-        ]
+        NAMES
     }
 
     /// Whether the group has the category.
@@ -270,14 +284,15 @@ impl GeneralCategoryGroup {
 
     /// The group of the other categories.
     pub fn complement(self) -> GeneralCategoryGroup
-        ensures { (c : GeneralCategory) → has result c ≡ not (has self c) }
+        ensures members { (c : GeneralCategory) → has result c ≡ not (has self c) }
+        ensures bits { result + self ≡ 0x3FFF_FFFF }
     {
         GeneralCategoryGroup(!self.0 & ALL)
     }
 
     /// The group of all categories.
     pub fn all() -> GeneralCategoryGroup
-        ensures bits { result.0 ≡ 0x3FFF_FFFF }
+        ensures bits { result ≡ 0x3FFF_FFFF }
         ensures members { (c : GeneralCategory) → has result c ≡ true }
     {
         GeneralCategoryGroup(ALL)
@@ -285,7 +300,7 @@ impl GeneralCategoryGroup {
 
     /// The group of no category.
     pub fn empty() -> GeneralCategoryGroup
-        ensures bits { result.0 ≡ 0 }
+        ensures bits { result ≡ 0 }
         ensures members { (c : GeneralCategory) → has result c ≡ false }
     {
         GeneralCategoryGroup(0)
@@ -307,7 +322,7 @@ impl GeneralCategoryGroup {
 }
 
 impl From<GeneralCategory> for GeneralCategoryGroup {
-    ghost from_gives = { λ category group. group.0 ≡ 2 ^ number_of category };
+    ghost from_gives = { λ category group. group ≡ 2 ^ number_of category };
 
     fn from(category: GeneralCategory) -> GeneralCategoryGroup {
         GeneralCategoryGroup(1 << category.to_u32())
@@ -315,7 +330,7 @@ impl From<GeneralCategory> for GeneralCategoryGroup {
 }
 
 impl From<u32> for GeneralCategoryGroup {
-    ghost from_gives = { λ bits group. group.0 ≡ bits % 2 ^ 30 };
+    ghost from_gives = { λ bits group. group ≡ bits % 2 ^ 30 };
 
     fn from(bits: u32) -> GeneralCategoryGroup {
         GeneralCategoryGroup(bits & ALL)
@@ -323,7 +338,7 @@ impl From<u32> for GeneralCategoryGroup {
 }
 
 impl From<GeneralCategoryGroup> for u32 {
-    ghost from_gives = { λ group bits. bits ≡ group.0 };
+    ghost from_gives = { λ group bits. (bits ≡ group) × (bits < 2 ^ 30) };
 
     fn from(group: GeneralCategoryGroup) -> u32 {
         group.0
@@ -361,7 +376,7 @@ impl TrieValue for GeneralCategoryGroup {
 
     ghost unpacks_again = { unpacked_group-again };
 
-    ghost eq_is_same = { same_by_number (λ n. record { 0 = n }) (λ group. group.0) (λ _. refl) };
+    ghost eq_is_same = { nat_eq-same };
 
     fn try_from_u32(i: u32) -> Result<GeneralCategoryGroup, ValueError> {
         match u16::try_from(i) {

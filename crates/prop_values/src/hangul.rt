@@ -1,6 +1,5 @@
 //! The type of Hangul syllables.
 ghost use Rattle.std.specs.Prelude.{◌≡◌, refl};
-ghost use Rattle.std.proofs.Common.{lit<};
 ghost use Rattle.prop_values.specs.NumberedLaws.{value_below, value_below-again, value_below-is_some, same_by_number};
 
 use crate::property::EnumeratedProperty;
@@ -70,7 +69,7 @@ impl TrieValue for HangulSyllableType {
 }
 
 impl EnumeratedProperty for HangulSyllableType {
-    ghost TABLE = { record { number = 5; in_range = lit< tt } };
+    ghost TABLE = { 5 };
 
     const NAME: &'static [u8] = b"Hangul_Syllable_Type";
 

@@ -1,6 +1,5 @@
 //! The classes of Indic scripts.
 ghost use Rattle.std.specs.Prelude.{◌≡◌, refl};
-ghost use Rattle.std.proofs.Common.{lit<};
 ghost use Rattle.prop_values.specs.NumberedLaws.{value_below, value_below-again, value_below-is_some, same_by_number};
 
 use crate::property::EnumeratedProperty;
@@ -56,7 +55,7 @@ impl TrieValue for IndicConjunctBreak {
 }
 
 impl EnumeratedProperty for IndicConjunctBreak {
-    ghost TABLE = { record { number = 12; in_range = lit< tt } };
+    ghost TABLE = { 12 };
 
     const NAME: &'static [u8] = b"Indic_Conjunct_Break";
 
@@ -118,7 +117,7 @@ impl TrieValue for IndicSyllabicCategory {
 }
 
 impl EnumeratedProperty for IndicSyllabicCategory {
-    ghost TABLE = { record { number = 13; in_range = lit< tt } };
+    ghost TABLE = { 13 };
 
     const NAME: &'static [u8] = b"Indic_Syllabic_Category";
 

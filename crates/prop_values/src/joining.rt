@@ -1,6 +1,5 @@
 //! The classes of cursive joining.
 ghost use Rattle.std.specs.Prelude.{◌≡◌, refl};
-ghost use Rattle.std.proofs.Common.{lit<};
 ghost use Rattle.prop_values.specs.NumberedLaws.{value_below, value_below-again, value_below-is_some, same_by_number};
 
 use crate::property::EnumeratedProperty;
@@ -56,7 +55,7 @@ impl TrieValue for JoiningGroup {
 }
 
 impl EnumeratedProperty for JoiningGroup {
-    ghost TABLE = { record { number = 14; in_range = lit< tt } };
+    ghost TABLE = { 14 };
 
     const NAME: &'static [u8] = b"Joining_Group";
 
@@ -118,7 +117,7 @@ impl TrieValue for JoiningType {
 }
 
 impl EnumeratedProperty for JoiningType {
-    ghost TABLE = { record { number = 15; in_range = lit< tt } };
+    ghost TABLE = { 15 };
 
     const NAME: &'static [u8] = b"Joining_Type";
 

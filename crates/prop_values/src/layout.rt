@@ -1,6 +1,5 @@
 //! Width and orientation.
 ghost use Rattle.std.specs.Prelude.{◌≡◌, refl};
-ghost use Rattle.std.proofs.Common.{lit<};
 ghost use Rattle.prop_values.specs.NumberedLaws.{value_below, value_below-again, value_below-is_some, same_by_number};
 
 use crate::property::EnumeratedProperty;
@@ -56,7 +55,7 @@ impl TrieValue for EastAsianWidth {
 }
 
 impl EnumeratedProperty for EastAsianWidth {
-    ghost TABLE = { record { number = 6; in_range = lit< tt } };
+    ghost TABLE = { 6 };
 
     const NAME: &'static [u8] = b"East_Asian_Width";
 
@@ -118,7 +117,7 @@ impl TrieValue for VerticalOrientation {
 }
 
 impl EnumeratedProperty for VerticalOrientation {
-    ghost TABLE = { record { number = 16; in_range = lit< tt } };
+    ghost TABLE = { 16 };
 
     const NAME: &'static [u8] = b"Vertical_Orientation";
 

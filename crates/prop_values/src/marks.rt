@@ -1,6 +1,5 @@
 //! The combining class.
 ghost use Rattle.std.specs.Prelude.{◌≡◌, refl};
-ghost use Rattle.std.proofs.Common.{lit<};
 ghost use Rattle.prop_values.specs.NumberedLaws.{value_below, value_below-again, value_below-is_some, same_by_number};
 
 use crate::property::EnumeratedProperty;
@@ -56,7 +55,7 @@ impl TrieValue for CanonicalCombiningClass {
 }
 
 impl EnumeratedProperty for CanonicalCombiningClass {
-    ghost TABLE = { record { number = 11; in_range = lit< tt } };
+    ghost TABLE = { 11 };
 
     const NAME: &'static [u8] = b"Canonical_Combining_Class";
 

@@ -1,6 +1,5 @@
 //! The numeric type.
 ghost use Rattle.std.specs.Prelude.{◌≡◌, refl};
-ghost use Rattle.std.proofs.Common.{lit<};
 ghost use Rattle.prop_values.specs.NumberedLaws.{value_below, value_below-again, value_below-is_some, same_by_number};
 
 use crate::property::EnumeratedProperty;
@@ -56,7 +55,7 @@ impl TrieValue for NumericType {
 }
 
 impl EnumeratedProperty for NumericType {
-    ghost TABLE = { record { number = 2; in_range = lit< tt } };
+    ghost TABLE = { 2 };
 
     const NAME: &'static [u8] = b"Numeric_Type";
 

@@ -1,6 +1,5 @@
 //! Scripts.
 ghost use Rattle.std.specs.Prelude.{◌≡◌, ◌%◌, ◌==◌, nat_lt, refl};
-ghost use Rattle.std.proofs.Common.{lit<};
 ghost use Rattle.prop_values.specs.NumberedLaws.{value_below, value_below-again, value_below-is_some, same_by_number};
 ghost use Rattle.prop_values.specs.ScriptWithExt.{kind_of, with_extensions};
 
@@ -81,7 +80,7 @@ impl TrieValue for Script {
 }
 
 impl EnumeratedProperty for Script {
-    ghost TABLE = { record { number = 4; in_range = lit< tt } };
+    ghost TABLE = { 4 };
 
     const NAME: &'static [u8] = b"Script";
 

@@ -1,10 +1,11 @@
 //! The tables of values and of names of the enumerated properties.
-ghost use Rattle.std.specs.Prelude.{◌≡◌, ◌<◌, Some, List, ℕ, map, option_map, slice_get};
+ghost use Rattle.std.specs.Prelude.{◌≡◌, ◌<◌, Some, ℕ, slice_get};
 ghost use Rattle.std.specs.List.{position};
 ghost use Rattle.std.specs.Str.{bytes_eq};
 ghost use Rattle.prop_values.specs.Tables.{map_table_names, names_table_names, accepts, default_number, accepts_name_of};
 
 use crate::glyph::is_glyph_number;
+use std::marker::Model;
 
 const BIDI_CLASS: &[u8] = b"Bidi_Class";
 
@@ -86,11 +87,20 @@ const NAMES_TABLE_NAMES: [&[u8]; 18] = [
     GENERAL_CATEGORY_MASK,
 ];
 
-/// The table of values of a property, as a number from 0 to 17.
+/// The table of values of a property, as a number from 0 to 17. A contract sees it as that number.
 #[derive(Clone, Copy, Debug, PartialEq, Eq)]
 pub struct MapTable {
     number: u8,
-    ghost in_range: { number < 18 },
+}
+
+impl Model for MapTable {
+    ghost Value = { ℕ };
+
+    ghost view = { λ table. table.number };
+
+    ghost invariant = { λ table. table.number < 18 };
+
+    ghost inverse = { λ number. record { number = number } };
 }
 
 impl MapTable {
@@ -132,7 +142,7 @@ impl MapTable {
 
     /// The number of the table.
     pub fn number(self) -> u8
-        ensures value { result ≡ self.number }
+        ensures value { result ≡ self }
         ensures small { result < 18 }
     {
         self.number
@@ -140,14 +150,14 @@ impl MapTable {
 
     /// The name of the table, which is the long name of its property (UAX 44, section 5.1).
     pub fn name(self) -> &'static [u8]
-        ensures { slice_get map_table_names self.number ≡ Some result.now }
+        ensures { slice_get map_table_names self ≡ Some result.now }
     {
         MAP_TABLE_NAMES[usize::from(self.number)]
     }
 
     /// The table of this name, compared byte for byte.
     pub fn from_name(name: &[u8]) -> Option<MapTable>
-        ensures { option_map (λ table. table.number) result ≡ position (λ known. bytes_eq known name.now) map_table_names }
+        ensures { result ≡ position (λ known. bytes_eq known name.now) map_table_names }
     {
         let number = place_of(&MAP_TABLE_NAMES, name)?;
         Some(MapTable {
@@ -157,7 +167,7 @@ impl MapTable {
 
     /// Whether the number unpacks to a value of the property.
     pub fn accepts(self, n: u32) -> bool
-        ensures { result ≡ accepts self.number n }
+        ensures { result ≡ accepts self n }
     {
         match self.number {
             1 | 4 => n < 0x1_0000,
@@ -169,18 +179,27 @@ impl MapTable {
 
     /// The number of the property's default.
     pub fn default_number(self) -> u32
-        ensures { result ≡ default_number self.number }
+        ensures { result ≡ default_number self }
     {
         if self.number == 4 { 103 } else { 0 }
     }
 }
 
 /// The table of the names of a property's values, as a number from 0 to 17: the tables 0 to 16 are those of the properties
-/// whose tables of values have these numbers, and 17 is that of the groups of categories.
+/// whose tables of values have these numbers, and 17 is that of the groups of categories. A contract sees it as its number.
 #[derive(Clone, Copy, Debug, PartialEq, Eq)]
 pub struct NamesTable {
     number: u8,
-    ghost in_range: { number < 18 },
+}
+
+impl Model for NamesTable {
+    ghost Value = { ℕ };
+
+    ghost view = { λ table. table.number };
+
+    ghost invariant = { λ table. table.number < 18 };
+
+    ghost inverse = { λ number. record { number = number } };
 }
 
 impl NamesTable {
@@ -222,7 +241,7 @@ impl NamesTable {
 
     /// The number of the table.
     pub fn number(self) -> u8
-        ensures value { result ≡ self.number }
+        ensures value { result ≡ self }
         ensures small { result < 18 }
     {
         self.number
@@ -230,14 +249,14 @@ impl NamesTable {
 
     /// The name of the table: the long name of its property, or `General_Category_Mask`.
     pub fn name(self) -> &'static [u8]
-        ensures { slice_get names_table_names self.number ≡ Some result.now }
+        ensures { slice_get names_table_names self ≡ Some result.now }
     {
         NAMES_TABLE_NAMES[usize::from(self.number)]
     }
 
     /// The table of this name, compared byte for byte.
     pub fn from_name(name: &[u8]) -> Option<NamesTable>
-        ensures { option_map (λ table. table.number) result ≡ position (λ known. bytes_eq known name.now) names_table_names }
+        ensures { result ≡ position (λ known. bytes_eq known name.now) names_table_names }
     {
         let number = place_of(&NAMES_TABLE_NAMES, name)?;
         Some(NamesTable {
@@ -247,7 +266,7 @@ impl NamesTable {
 
     /// Whether the number, 16 bits wide, stands for a value of the property. Each stands for a group of categories.
     pub fn accepts(self, n: u16) -> bool
-        ensures { result ≡ accepts_name_of self.number n }
+        ensures { result ≡ accepts_name_of self n }
     {
         self.number == 17
             || MapTable {

@@ -4,84 +4,92 @@ use cp_trie::{CodePointMapRange, CodePointTrie, ConvertError, TrieValue, ValueEr
 use std::alloc::Global;
 use std::test::Fail;
 
-// What an enumerated property says of itself: its names, the number of its table, and the number of its default.
-fn row<T: EnumeratedProperty>() -> (&'static [u8], &'static [u8], u8, u32) {
-    (
-        T::NAME,
-        T::SHORT_NAME,
-        T::TABLE.number(),
-        T::default().to_u32(),
-    )
+// The long and the short name of each property, in the order of the tables' numbers.
+const NAMES: [(&str, &str); 18] = [
+    ("Bidi_Class", "bc"),
+    ("Block", "blk"),
+    ("Numeric_Type", "nt"),
+    ("General_Category", "gc"),
+    ("Script", "sc"),
+    ("Hangul_Syllable_Type", "hst"),
+    ("East_Asian_Width", "ea"),
+    ("Line_Break", "lb"),
+    ("Grapheme_Cluster_Break", "GCB"),
+    ("Word_Break", "WB"),
+    ("Sentence_Break", "SB"),
+    ("Canonical_Combining_Class", "ccc"),
+    ("Indic_Conjunct_Break", "InCB"),
+    ("Indic_Syllabic_Category", "InSC"),
+    ("Joining_Group", "jg"),
+    ("Joining_Type", "jt"),
+    ("Vertical_Orientation", "vo"),
+    ("Bidi_Mirroring_Glyph", "bmg"),
+];
+
+// The short names of the groups, each union behind its members.
+const GROUP_NAMES: [&str; 38] = [
+    "Lu", "Ll", "Lt", "Lm", "Lo", "LC", "L", "Mn", "Me", "Mc", "M", "Nd", "Nl", "No", "N", "Zs",
+    "Zl", "Zp", "Z", "Cc", "Cf", "Co", "Cs", "Cn", "C", "Pd", "Ps", "Pe", "Pc", "Pi", "Pf", "Po",
+    "P", "Sm", "Sc", "Sk", "So", "S",
+];
+
+#[test]
+fn properties_have_their_names_and_tables(rt: HostRuntime) {
+    let mut number = 0u8;
+    for ((table, long, short), (name, abbreviation)) in rows::properties().iter().zip(&NAMES) {
+        assert!(rt; *long == name.as_bytes() && *short == abbreviation.as_bytes());
+        assert!(rt; table.number() == number && table.name() == *long);
+        assert_eq!(rt; MapTable::from_name(long), Some(*table));
+        number = number.wrapping_add(1);
+    }
+    assert_eq!(rt; number, 18);
 }
 
 #[test]
-fn properties_have_their_names_tables_and_defaults(rt: HostRuntime) {
-    let rows = [
-        (row::<BidiClass>(), "Bidi_Class", "bc", 0),
-        (row::<Block>(), "Block", "blk", 0),
-        (row::<NumericType>(), "Numeric_Type", "nt", 0),
-        (row::<GeneralCategory>(), "General_Category", "gc", 0),
-        (row::<Script>(), "Script", "sc", 103),
-        (
-            row::<HangulSyllableType>(),
-            "Hangul_Syllable_Type",
-            "hst",
-            0,
-        ),
-        (row::<EastAsianWidth>(), "East_Asian_Width", "ea", 0),
-        (row::<LineBreak>(), "Line_Break", "lb", 0),
-        (
-            row::<GraphemeClusterBreak>(),
-            "Grapheme_Cluster_Break",
-            "GCB",
-            0,
-        ),
-        (row::<WordBreak>(), "Word_Break", "WB", 0),
-        (row::<SentenceBreak>(), "Sentence_Break", "SB", 0),
-        (
-            row::<CanonicalCombiningClass>(),
-            "Canonical_Combining_Class",
-            "ccc",
-            0,
-        ),
-        (
-            row::<IndicConjunctBreak>(),
-            "Indic_Conjunct_Break",
-            "InCB",
-            0,
-        ),
-        (
-            row::<IndicSyllabicCategory>(),
-            "Indic_Syllabic_Category",
-            "InSC",
-            0,
-        ),
-        (row::<JoiningGroup>(), "Joining_Group", "jg", 0),
-        (row::<JoiningType>(), "Joining_Type", "jt", 0),
-        (
-            row::<VerticalOrientation>(),
-            "Vertical_Orientation",
-            "vo",
-            0,
-        ),
-        (
-            row::<BidiMirroringGlyph>(),
-            "Bidi_Mirroring_Glyph",
-            "bmg",
-            0,
-        ),
-    ];
+fn tables_of_names_are_found_by_the_names_that_they_have(rt: HostRuntime) {
     let mut number = 0u8;
-    for ((long, short, table, default), name, abbreviation, packed) in rows {
-        assert!(rt; long == name.as_bytes());
-        assert!(rt; short == abbreviation.as_bytes());
-        assert_eq!(rt; table, number);
-        assert_eq!(rt; default, packed);
-        assert_eq!(rt;
-            MapTable::from_name(name.as_bytes()).map(MapTable::number),
-            Some(number)
-        );
+    for (table, (name, _)) in rows::names_tables().iter().zip(&NAMES) {
+        assert_eq!(rt; table.number(), number);
+        assert_eq!(rt; NamesTable::from_name(table.name()), Some(*table));
+        assert!(rt; number == 17 || table.name() == name.as_bytes());
         number = number.wrapping_add(1);
+    }
+    assert_eq!(rt; number, 18);
+}
+
+// The number of the default of a property.
+fn default_number<T: EnumeratedProperty>() -> u32 {
+    T::default().to_u32()
+}
+
+#[test]
+fn properties_have_the_defaults_of_their_tables(rt: HostRuntime) {
+    let defaults = [
+        default_number::<BidiClass>(),
+        default_number::<Block>(),
+        default_number::<NumericType>(),
+        default_number::<GeneralCategory>(),
+        default_number::<Script>(),
+        default_number::<HangulSyllableType>(),
+        default_number::<EastAsianWidth>(),
+        default_number::<LineBreak>(),
+        default_number::<GraphemeClusterBreak>(),
+        default_number::<WordBreak>(),
+        default_number::<SentenceBreak>(),
+        default_number::<CanonicalCombiningClass>(),
+        default_number::<IndicConjunctBreak>(),
+        default_number::<IndicSyllabicCategory>(),
+        default_number::<JoiningGroup>(),
+        default_number::<JoiningType>(),
+        default_number::<VerticalOrientation>(),
+        default_number::<BidiMirroringGlyph>(),
+    ];
+    assert_eq!(rt;
+        defaults,
+        [0, 0, 0, 0, 103, 0, 0, 0, 0, 0, 0, 0, 0, 0, 0, 0, 0, 0]
+    );
+    for (table, number) in rows::map_tables().iter().zip(&defaults) {
+        assert_eq!(rt; table.default_number(), *number);
     }
 }
 
@@ -160,6 +168,23 @@ fn groups_pack_to_their_numbers(rt: HostRuntime) {
 }
 
 #[test]
+fn groups_with_a_number_of_their_own_pack_to_it(rt: HostRuntime) {
+    let mut number = 0u32;
+    for (long, short) in rows::groups() {
+        let packed = if number < 30 {
+            number
+        } else {
+            0x1_001D_u32.saturating_sub(number)
+        };
+        assert_eq!(rt; long, short);
+        assert_eq!(rt; long.to_u32(), packed);
+        assert_eq!(rt; GeneralCategoryGroup::try_from_u32(packed), Ok(long));
+        number = number.wrapping_add(1);
+    }
+    assert_eq!(rt; number, 38);
+}
+
+#[test]
 fn groups_are_sets_of_categories(rt: HostRuntime) {
     let cased = GeneralCategoryGroup::CasedLetter;
     assert!(rt; cased.contains(GeneralCategory::TitlecaseLetter));
@@ -181,9 +206,13 @@ fn groups_are_sets_of_categories(rt: HostRuntime) {
         cased.complement().union(cased),
         GeneralCategoryGroup::all()
     );
-    let names = GeneralCategoryGroup::names();
-    assert_eq!(rt; names[6].0, "L");
-    assert_eq!(rt; names[6].1, GeneralCategoryGroup::Letter);
+    for ((name, _), expected) in GeneralCategoryGroup::names().iter().zip(&GROUP_NAMES) {
+        assert_eq!(rt; *name, *expected);
+    }
+    assert_eq!(rt;
+        GeneralCategoryGroup::names()[6].1,
+        GeneralCategoryGroup::Letter
+    );
 }
 
 #[test]
