@@ -1,5 +1,5 @@
 -- Parts up to a closing brace, read one by one.
-use Rattle.std.proofs.Common.{◌≡◌, ℕ, zero, suc, ◌<◌, ◌≤◌, Bool, List, [], ◌∷◌, ◌++◌, length, Option, Some, None, refl, sym, ap, ◌∙◌, arith, append_assoc, append-nil}
+use Rattle.std.proofs.Common.{◌≡◌, ℕ, zero, suc, ◌<◌, ◌≤◌, Bool, [], ◌∷◌, ◌++◌, length, Option, Some, None, refl, sym, ap, ◌∙◌, arith, append_assoc, append-nil}
 use Rattle.uset_parse.specs.Text.{Text, ◌>>=◌, skip, behind, in_front, ended_or, up_to_brace}
 
 in_front_nothing : (read : Option (Text × Text)) → read ≡ in_front [] read

@@ -1,5 +1,5 @@
 -- What the reader answers.
-use Rattle.std.specs.Prelude.{◌≡◌, ℕ, Bool, ◌+◌, List, length, encode_utf8_all}
+use Rattle.std.specs.Prelude.{◌≡◌, ℕ, Bool, ◌+◌, length, encode_utf8_all}
 use Rattle.std.specs.BTreeSet.{contains_text}
 use Rattle.cp_invlist.specs.InversionList.{contains}
 use Rattle.cp_strset.specs.StringList.{holds}

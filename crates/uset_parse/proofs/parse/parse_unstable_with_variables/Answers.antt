@@ -1,4 +1,4 @@
-use Rattle.std.proofs.Common.{map, refl, rules}
+use Rattle.std.proofs.Common.{map, refl}
 use Rattle.std.proofs.lemmas.Result.{err_from_is_err_and}
 use Rattle.std.specs.String.{string_bytes}
 use Rattle.uset_parse.specs.Fault.{absent_table}

@@ -1,4 +1,4 @@
-use Rattle.std.proofs.Common.{[], sym, ap, ◌∙◌, rules, arith, subst}
+use Rattle.std.proofs.Common.{sym, ap, ◌∙◌, rules, arith, subst}
 use Rattle.std.proofs.lemmas.Str.{chars-nil}
 use Rattle.std.specs.Str.{chars}
 use Rattle.uset_parse.specs.Reading.{syntax_seen}
