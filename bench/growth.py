@@ -1,11 +1,13 @@
 #!/usr/bin/env python3
-"""Times `uset eval` on inputs of growing size, and prints the time a byte, so that growth shows.
+"""Times `uset eval` on inputs of growing size, and prints the time a byte, so that growth shows; and the
+memory that brackets inside one another take.
 
 Usage: bench/growth.py [PROGRAM]. PROGRAM is crates/uset/out/uset, which `rt run` in crates/uset builds.
 Each input is timed REPEATS times, and the least time stands in the table. The time of an input of two
 lines, which is that of starting the program, is taken off.
 """
 
+import os
 import random
 import subprocess
 import sys
@@ -34,14 +36,32 @@ def elements(count, order):
     return TABLES + "pat [" + "".join(chosen) + "]\n"
 
 
-def nested(depth):
+def strings(count, order):
+    """A script of one pattern of this many strings, in this order."""
+    chosen = [f"{{s{index:06d}}}" for index in range(count)]
+    if order == "shuffled":
+        random.Random(1).shuffle(chosen)
+    return TABLES + "pat [" + "".join(chosen) + "]\n"
+
+
+def one_string(length):
+    """A script of one pattern of one string with this many characters."""
+    return TABLES + "pat [{" + "a" * length + "}]\n"
+
+
+def one_escape(count):
+    """A script of one pattern of one escape with this many numbers."""
+    return TABLES + "pat [\\u{" + " ".join(f"{ord(element):X}" for element in ELEMENTS[:count]) + "}]\n"
+
+
+def nested(depth, inside="a"):
     """A script of one pattern of brackets inside one another."""
-    return TABLES + "pat " + "[" * depth + "a" + "]" * depth + "\n"
+    return TABLES + "pat " + "[" * depth + inside + "]" * depth + "\n"
 
 
 def operations(count):
     """A script of one pattern of this many sets with operations, one behind another."""
-    return TABLES + "pat [" + "[[a-z]-[b-d]&[c-x]]" * count + "]\n"
+    return TABLES + "pat [" + "[[a-z{ab}]-[b-d{bc}]&[c-x{ab}]]" * count + "]\n"
 
 
 def rows(count):
@@ -66,6 +86,27 @@ def seconds(program, text):
     return least, len(data)
 
 
+def peak(program, text):
+    """The most memory that the program holds for the input, in bytes."""
+    with subprocess.Popen([program, "eval"], stdin=subprocess.PIPE, stdout=subprocess.DEVNULL) as run:
+        run.stdin.write(text.encode("utf-8"))
+        run.stdin.close()
+        _, _, usage = os.wait4(run.pid, 0)
+        run.returncode = 0
+    return usage.ru_maxrss * 1024
+
+
+def memory(program):
+    """Prints what an open bracket takes: against the same text as a comment, which opens none."""
+    print()
+    print("| brackets inside one another | bytes of memory a bracket |")
+    print("|---|---|")
+    for depth in (10_000, 100_000, 1_000_000, 4_000_000):
+        text = nested(depth, "")
+        taken = peak(program, text) - peak(program, text.replace("pat ", "# "))
+        print(f"| {depth:,} | {taken / depth:.0f} |")
+
+
 def main():
     program = sys.argv[1] if len(sys.argv) > 1 else str(TOP / "crates" / "uset" / "out" / "uset")
     start, _ = seconds(program, lines(2))
@@ -75,13 +116,19 @@ def main():
     series = [("`pat` lines", lines, (100, 1_000, 10_000, 100_000)), ("rows of a table", rows, (1_000, 10_000, 100_000))]
     for order in ("ascending", "shuffled", "descending"):
         series.append((f"elements, {order}", lambda count, order=order: elements(count, order), (1_000, 10_000, 100_000)))
+    for order in ("ascending", "shuffled"):
+        series.append((f"strings, {order}", lambda count, order=order: strings(count, order), (1_000, 10_000, 100_000)))
+    series.append(("characters of one string", one_string, (1_000, 100_000, 1_000_000)))
+    series.append(("numbers of one escape", one_escape, (1_000, 10_000, 100_000)))
     series.append(("brackets inside one another", nested, (10, 1_000, 100_000, 1_000_000)))
+    series.append(("brackets around a string", lambda depth: nested(depth, "{ab}"), (10, 1_000, 100_000, 1_000_000)))
     series.append(("sets with operations", operations, (10, 1_000, 100_000)))
     for name, make, counts in series:
         for count in counts:
             taken, size = seconds(program, make(count))
             net = max(taken - start, 0.0)
             print(f"| {name} | {count:,} | {size:,} | {net * 1000:.1f} | {net * 1e9 / size:.0f} |")
+    memory(program)
 
 
 if __name__ == "__main__":

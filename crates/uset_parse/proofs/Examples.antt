@@ -113,6 +113,66 @@ complement_twice_has_letter = refl
 complement_twice_lacks_digit : has complement_twice (point 0x30) ≡ false
 complement_twice_lacks_digit = refl
 
+-- `[-[a-z]&[b]]`: what is kept is kept of the leading hyphen too
+abbrev kept_letter : Tree
+kept_letter = bracket false true (join (bracket false false (add 0x61 0x7A done)) (keep (bracket false false (add 0x62 0x62 done)) done))
+
+kept_letter_is_read : ReadsSet spaced (codes "[-[a-z]&[b]]") kept_letter []
+kept_letter_is_read =
+    reads_bracket refl
+    (nests refl (reads refl (reads refl (reads refl (ends refl)))) (range (omega arith) empty)
+    (reads refl (nests refl (reads refl (ends refl)) (members empty) (ends refl))))
+    (joins (keeps (goes_on empty)))
+
+leading_hyphen_is_not_kept : has kept_letter (point 0x2D) ≡ false
+leading_hyphen_is_not_kept = refl
+
+letter_is_kept : has kept_letter (point 0x62) ≡ true
+letter_is_kept = refl
+
+-- `[a-z\]{[}] []`
+escaped_bracket_is_read : ReadsSet spaced (codes "[a-z\\]{[}] []") (bracket false false (add 0x61 0x7A (add 0x5D 0x5D (add 0x5B 0x5B done)))) (codes " []")
+unfolding braced_text up_to_brace piece escape escape_at braced first_number further_number number optional_digit digit plain
+escaped_bracket_is_read =
+    reads_bracket refl (reads refl (reads refl (reads refl (reads refl (reads refl (ends refl)))))) (range (omega arith) (members (members empty)))
+
+-- `[{}}]`: the empty string, and a brace behind it
+empty_string_is_read : ReadsSet spaced (codes "[{}}]") (bracket false false (add_text [] (add 0x7D 0x7D done))) []
+unfolding braced_text up_to_brace piece escape escape_at braced first_number further_number number optional_digit digit plain
+empty_string_is_read = reads_bracket refl (reads refl (reads refl (ends refl))) (texts (members empty))
+
+-- `[\x{61 0062   063}]`
+several_numbers_are_read : ReadsSet spaced (codes "[\\x{61 0062   063}]") (bracket false false (add 0x61 0x61 (add 0x62 0x62 (add 0x63 0x63 done)))) []
+unfolding braced_text up_to_brace piece escape escape_at braced first_number further_number number optional_digit digit plain
+several_numbers_are_read = reads_bracket refl (reads refl (ends refl)) (members empty)
+
+-- `[^{h\u{65}llo\ world}]`
+escapes_in_a_string_are_read : ReadsSet spaced (codes "[^{h\\u{65}llo\\ world}]") (bracket true false (add_text (codes "hello world") done)) []
+unfolding braced_text up_to_brace piece escape escape_at braced first_number further_number number optional_digit digit plain
+escapes_in_a_string_are_read = reads_bracket refl (reads refl (ends refl)) (texts empty)
+
+-- `[[a{abc}]&[b{abc}{abx}]]`: strings are kept like code points
+abbrev text_kept : Tree
+text_kept =
+    bracket false false (join (bracket false false (add 0x61 0x61 (add_text (codes "abc") done)))
+    (keep (bracket false false (add 0x62 0x62 (add_text (codes "abc") (add_text (codes "abx") done)))) done))
+
+text_kept_is_read : ReadsSet spaced (codes "[[a{abc}]&[b{abc}{abx}]]") text_kept []
+unfolding braced_text up_to_brace piece escape escape_at braced first_number further_number number optional_digit digit plain
+text_kept_is_read =
+    reads_bracket refl
+    (nests refl (reads refl (reads refl (ends refl))) (members (texts empty))
+    (reads refl (nests refl (reads refl (reads refl (reads refl (ends refl)))) (members (texts (texts empty))) (ends refl))))
+    (joins (keeps (goes_on empty)))
+
+common_text_is_kept : has text_kept (string (codes "abc")) ≡ true
+unfolding lib.Utf8.encode
+common_text_is_kept = refl
+
+other_text_is_not_kept : has text_kept (string (codes "abx")) ≡ false
+unfolding lib.Utf8.encode
+other_text_is_not_kept = refl
+
 -- `[^{ab}]`: strings aren't in a complement
 abbrev without_text : Tree
 without_text = bracket true false (add_text (codes "ab") done)
