@@ -66,13 +66,28 @@ impl Ranges {
         Ok(())
     }
 
-    /// Adds the members of the set.
+    /// Adds the members of the set. The first set is merged at once. The ranges of all further sets are
+    /// put aside, so that many sets one behind another cost no more than a sort.
     #[tactic(auto, unfolding(crate::specs::Gathered::in_ranges))]
     pub(crate) fn add_set(&mut self, set: &CodePointInversionList) -> Result<(), NoMemory>
         ensures ok { OnOk result ((c : ℕ) → in_ranges self.new c ≡ (in_ranges self.old c || contains set.now c)) }
     {
+        if self.open_from > 0 {
+            return self.put_aside(set);
+        }
         self.open_from = NOWHERE;
         self.builder.add_set(set)
+    }
+
+    /// Puts the ranges of the set aside.
+    fn put_aside(&mut self, set: &CodePointInversionList) -> Result<(), NoMemory>
+        ensures ok { OnOk result ((c : ℕ) → in_ranges self.new c ≡ (in_ranges self.old c || contains set.now c)) }
+    {
+        self.aside.reserve(set.get_inversion_list().len() / 2)?;
+        for range in set.iter_ranges() {
+            self.aside.push(range)?;
+        }
+        Ok(())
     }
 
     /// Takes the members of the set away.

@@ -1,0 +1,29 @@
+use Rattle.std.proofs.Common.{◌||◌, [], ◌∷◌, ◌++◌, refl, sym, ap, ◌∙◌, subst, append_assoc}
+use Rattle.std.proofs.lemmas.List.{append-nil}
+use Rattle.cp_invlist.specs.InversionList.{contains}
+use Rattle.cp_invlist.specs.Ranges.{AreMaximalRanges}
+use Rattle.uset_parse.specs.Gathered.{in_ranges}
+use Rattle.uset_parse.proofs.RangesLemmas.{none_put, one_put, set_spelled}
+use Rattle.uset_parse.proofs.ranges.Ranges.put_aside.Goals as goal
+
+pub loop-range-init : goal.loop-range-init
+loop-range-init c = (
+  rw c.into_iter-range-iterator.ensures.into_iter_gives c.iter_ranges-range-items.ensures.maximal,
+  none_put c.args.self.now _ refl c.in_ok-reserve.ensures.items,
+)
+
+pub loop-range-preserved : goal.loop-range-preserved
+loop-range-preserved c =
+    let given = c.loop-range.yielded in
+    let parts = ap (λ rs. given ++ rs) c.in-Some.ensures.steps ∙ sym (append_assoc given (c.in-Some.range ∷ []) c.next.new.self) in (
+      subst (AreMaximalRanges (contains c.args.set.now)) parts c.loop-range.invariant.0,
+      λ d. one_put c.args.self.now c.loop-range.self _ given c.in-Some.range d refl c.in_ok-push.ensures.items (c.loop-range.invariant.1 d),
+    )
+
+pub returns : goal.returns
+returns c =
+    let given = c.loop-range.yielded in
+    let all = subst (AreMaximalRanges (contains c.args.set.now)) (ap (λ rs. given ++ rs) c.in-None.ensures.steps.0 ∙ append-nil given) c.loop-range.invariant.0 in
+    record {
+      ok = λ d. c.loop-range.invariant.1 d ∙ ap (λ b. in_ranges c.args.self.now d || b) (set_spelled c.args.set.now given c.get_inversion_list.ensures.canonical all d);
+    }
