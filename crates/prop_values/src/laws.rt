@@ -24,18 +24,43 @@ pub fn same_members()
 
 /// The numbers of the constants for bidirectional classes.
 pub fn bidi_class_numbers()
-    ensures { map (λ value. value.0) (BidiClass.LeftToRight ∷ BidiClass.RightToLeft ∷ BidiClass.EuropeanNumber ∷ BidiClass.EuropeanSeparator ∷ BidiClass.EuropeanTerminator ∷ BidiClass.ArabicNumber ∷ BidiClass.CommonSeparator ∷ BidiClass.ParagraphSeparator ∷ BidiClass.SegmentSeparator ∷ BidiClass.WhiteSpace ∷ BidiClass.OtherNeutral ∷ BidiClass.LeftToRightEmbedding ∷ BidiClass.LeftToRightOverride ∷ BidiClass.ArabicLetter ∷ BidiClass.RightToLeftEmbedding ∷ BidiClass.RightToLeftOverride ∷ BidiClass.PopDirectionalFormat ∷ BidiClass.NonspacingMark ∷ BidiClass.BoundaryNeutral ∷ BidiClass.FirstStrongIsolate ∷ BidiClass.LeftToRightIsolate ∷ BidiClass.RightToLeftIsolate ∷ BidiClass.PopDirectionalIsolate ∷ []) ≡ 0 ∷ 1 ∷ 2 ∷ 3 ∷ 4 ∷ 5 ∷ 6 ∷ 7 ∷ 8 ∷ 9 ∷ 10 ∷ 11 ∷ 12 ∷ 13 ∷ 14 ∷ 15 ∷ 16 ∷ 17 ∷ 18 ∷ 19 ∷ 20 ∷ 21 ∷ 22 ∷ [] }
+    ensures { map (λ value. value.0) (
+        BidiClass.LeftToRight ∷ BidiClass.RightToLeft ∷ BidiClass.EuropeanNumber
+        ∷ BidiClass.EuropeanSeparator ∷ BidiClass.EuropeanTerminator ∷ BidiClass.ArabicNumber
+        ∷ BidiClass.CommonSeparator ∷ BidiClass.ParagraphSeparator
+        ∷ BidiClass.SegmentSeparator ∷ BidiClass.WhiteSpace ∷ BidiClass.OtherNeutral
+        ∷ BidiClass.LeftToRightEmbedding ∷ BidiClass.LeftToRightOverride
+        ∷ BidiClass.ArabicLetter ∷ BidiClass.RightToLeftEmbedding
+        ∷ BidiClass.RightToLeftOverride ∷ BidiClass.PopDirectionalFormat
+        ∷ BidiClass.NonspacingMark ∷ BidiClass.BoundaryNeutral ∷ BidiClass.FirstStrongIsolate
+        ∷ BidiClass.LeftToRightIsolate ∷ BidiClass.RightToLeftIsolate
+        ∷ BidiClass.PopDirectionalIsolate ∷ [])
+        ≡
+        0 ∷ 1 ∷ 2 ∷ 3 ∷ 4 ∷ 5 ∷ 6 ∷ 7 ∷ 8 ∷ 9 ∷ 10 ∷ 11 ∷ 12 ∷ 13 ∷ 14 ∷ 15 ∷ 16 ∷ 17 ∷ 18
+        ∷ 19 ∷ 20 ∷ 21 ∷ 22 ∷ [] }
 {}
 
 /// The numbers of the constants for scripts, and that of Unknown without extensions.
 pub fn script_numbers()
-    ensures scripts { map (λ value. value.0) (Script.Common ∷ Script.Inherited ∷ Script.Bengali ∷ Script.Cyrillic ∷ Script.Devanagari ∷ Script.Ethiopic ∷ Script.Ethiopian ∷ Script.Han ∷ Script.Latin ∷ Script.Thai ∷ Script.Unknown ∷ Script.Lisu ∷ Script.Chisoi ∷ []) ≡ 0 ∷ 1 ∷ 4 ∷ 8 ∷ 10 ∷ 11 ∷ 11 ∷ 17 ∷ 25 ∷ 38 ∷ 103 ∷ 131 ∷ 60000 ∷ [] }
+    ensures scripts { map (λ value. value.0) (
+        Script.Common ∷ Script.Inherited ∷ Script.Bengali ∷ Script.Cyrillic
+        ∷ Script.Devanagari ∷ Script.Ethiopic ∷ Script.Ethiopian ∷ Script.Han ∷ Script.Latin
+        ∷ Script.Thai ∷ Script.Unknown ∷ Script.Lisu ∷ Script.Chisoi ∷ [])
+        ≡
+        0 ∷ 1 ∷ 4 ∷ 8 ∷ 10 ∷ 11 ∷ 11 ∷ 17 ∷ 25 ∷ 38 ∷ 103 ∷ 131 ∷ 60000 ∷ [] }
     ensures unknown { (ScriptWithExt.Unknown).0 ≡ (Script.Unknown).0 }
 {}
 
 /// The numbers of the constants for types of Hangul syllables.
 pub fn hangul_syllable_type_numbers()
-    ensures { map (λ value. value.0) (HangulSyllableType.NotApplicable ∷ HangulSyllableType.LeadingJamo ∷ HangulSyllableType.VowelJamo ∷ HangulSyllableType.TrailingJamo ∷ HangulSyllableType.LVSyllable ∷ HangulSyllableType.LVTSyllable ∷ HangulSyllableType.LeadingVowelSyllable ∷ HangulSyllableType.LeadingVowelTrailingSyllable ∷ []) ≡ 0 ∷ 1 ∷ 2 ∷ 3 ∷ 4 ∷ 5 ∷ 4 ∷ 5 ∷ [] }
+    ensures { map (λ value. value.0) (
+        HangulSyllableType.NotApplicable ∷ HangulSyllableType.LeadingJamo
+        ∷ HangulSyllableType.VowelJamo ∷ HangulSyllableType.TrailingJamo
+        ∷ HangulSyllableType.LVSyllable ∷ HangulSyllableType.LVTSyllable
+        ∷ HangulSyllableType.LeadingVowelSyllable
+        ∷ HangulSyllableType.LeadingVowelTrailingSyllable ∷ [])
+        ≡
+        0 ∷ 1 ∷ 2 ∷ 3 ∷ 4 ∷ 5 ∷ 4 ∷ 5 ∷ [] }
 {}
 
 /// The constants for defaults have the numbers of the defaults of their tables.
