@@ -59,6 +59,11 @@ def nested(depth, inside="a"):
     return TABLES + "pat " + "[" * depth + inside + "]" * depth + "\n"
 
 
+def neighbours(count):
+    """A script of one pattern of this many sets of one element each, one behind another."""
+    return TABLES + "pat [" + "".join(f"[{element}]" for element in ELEMENTS[:count]) + "]\n"
+
+
 def operations(count):
     """A script of one pattern of this many sets with operations, one behind another."""
     return TABLES + "pat [" + "[[a-z{ab}]-[b-d{bc}]&[c-x{ab}]]" * count + "]\n"
@@ -97,13 +102,13 @@ def peak(program, text):
 
 
 def memory(program):
-    """Prints what an open bracket takes: against the same text as a comment, which opens none."""
+    """Prints what an open bracket takes beside the text itself, at depths that outweigh all else."""
     print()
     print("| brackets inside one another | bytes of memory a bracket |")
     print("|---|---|")
-    for depth in (10_000, 100_000, 1_000_000, 4_000_000):
+    for depth in (1_000_000, 2_000_000, 4_000_000):
         text = nested(depth, "")
-        taken = peak(program, text) - peak(program, text.replace("pat ", "# "))
+        taken = peak(program, text) - len(text)
         print(f"| {depth:,} | {taken / depth:.0f} |")
 
 
@@ -122,6 +127,7 @@ def main():
     series.append(("numbers of one escape", one_escape, (1_000, 10_000, 100_000)))
     series.append(("brackets inside one another", nested, (10, 1_000, 100_000, 1_000_000)))
     series.append(("brackets around a string", lambda depth: nested(depth, "{ab}"), (10, 1_000, 100_000, 1_000_000)))
+    series.append(("sets one behind another", neighbours, (10, 1_000, 100_000)))
     series.append(("sets with operations", operations, (10, 1_000, 100_000)))
     for name, make, counts in series:
         for count in counts:
