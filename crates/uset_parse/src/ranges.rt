@@ -6,9 +6,9 @@ ghost use Rattle.uset_parse.specs.Gathered.{in_some};
 use cp_invlist::{CodePointInversionList, CodePointInversionListBuilder, CodePointRange, NoMemory};
 use std::alloc::Global;
 
-/// A set of code points in the making. A range that begins behind all that is held is appended to the builder, any
-/// other is put aside, and all of those are sorted once the whole set is needed: so the order of
-/// elements in a source costs no more than a sort.
+/// A set of code points in the making. A range that begins behind all that is held is appended to the
+/// builder, any other is put aside, and all of those are sorted once the whole set is needed: so the
+/// order of elements in a source costs no more than a sort.
 #[derive(Drop)]
 pub(crate) struct Ranges {
     alloc: Global,
