@@ -68,7 +68,6 @@ impl CodePointInversionListBuilder {
         ensures ok { OnOk result ((d : ℕ) → contains self.new d ≡ (contains self.old d || in_code_points range d)) }
         ensures err { OnErr result (self.new ≡ self.old) }
     {
-        let _ = &self.elements;
         if range.start > range.end || range.start > LAST_CODE_POINT {
             return Ok(());
         }
