@@ -86,7 +86,10 @@ fn strings_and_escapes_of_several_numbers_are_members(rt: HostRuntime) -> Result
         ("pat [{{}]", "ok 5 007B\n"),
         ("pat [ { [ a - z } ]", "ok 15 {005B_0061_002D_007A}\n"),
         ("pat [\\x{D800 D801 D802}]", "ok 20 D800-D802\n"),
-        ("pat [{bc}{}{ab}a]", "ok 13 0061 {} {0061_0062} {0062_0063}\n"),
+        (
+            "pat [{bc}{}{ab}a]",
+            "ok 13 0061 {} {0061_0062} {0062_0063}\n",
+        ),
     ] {
         let input = format!(in alloc; "{SYNTAX}{line}\n")?;
         let (status, sink) = run_in_memory(alloc, &words, input.into_bytes());
