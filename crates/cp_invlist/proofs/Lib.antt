@@ -7,3 +7,4 @@ pub mod SizeLemmas
 pub mod FaultLemmas
 pub mod MergeLemmas
 pub mod FirstFault
+pub mod Members

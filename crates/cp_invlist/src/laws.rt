@@ -1,7 +1,7 @@
 //! Laws of inversion lists, each the contract of a function that does nothing.
-ghost use Rattle.std.specs.Prelude.{◌≡◌, ℕ, ◌↔◌, None, Some, List};
+ghost use Rattle.std.specs.Prelude.{◌≡◌, ◌&&◌, ℕ, ◌↔◌, None, Some, List};
 ghost use Rattle.cp_invlist.specs.Fault.{fault_of, IsFirstFault};
-ghost use Rattle.cp_invlist.specs.InversionList.{contains, IsInversionList};
+ghost use Rattle.cp_invlist.specs.InversionList.{contains, is_code_point, IsInversionList};
 
 /// Two inversion lists with the same members are the same list.
 pub fn same_members()
@@ -16,4 +16,9 @@ pub fn first_fault()
 /// The inversion lists are the lists without a fault.
 pub fn faultless()
     ensures { (xs : List ℕ) → (fault_of xs ≡ None) ↔ IsInversionList xs }
+{}
+
+/// The members of an inversion list are code points.
+pub fn members_are_code_points()
+    ensures { (xs : List ℕ) (c : ℕ) → IsInversionList xs → (contains xs c && is_code_point c) ≡ contains xs c }
 {}

@@ -47,3 +47,11 @@ fn all_code_points_are_one_range(rt: HostRuntime) -> Result<(), Fail> {
     assert_eq!(rt; all.size(), 1_114_112);
     Ok(())
 }
+
+#[test]
+fn the_laws_hold() {
+    laws::same_members();
+    laws::first_fault();
+    laws::faultless();
+    laws::members_are_code_points();
+}

@@ -1,10 +1,10 @@
 -- What is put aside, and how it comes into the builder.
 use Rattle.std.proofs.Common.{◌≡◌, ℕ, suc, ◌+◌, ◌<◌, ◌≤◌, arith, Bool, true, false, not, ◌||◌, ◌&&◌, nat_le, List, [], ◌∷◌, ◌++◌, inl, inr, IsPermutation, Result, Ok, Err, OnOk, refl, sym, ap, ◌∙◌}
-use Rattle.std.proofs.Math.Bool.{and-true, or_assoc}
-use Rattle.std.proofs.lemmas.Bool.{and_parts, cases_lt, leb-true, le-leb, lt-leb}
+use Rattle.std.proofs.Math.Bool.{or_assoc}
+use Rattle.std.proofs.lemmas.Bool.{cases_lt, le-leb, lt-leb}
 use Rattle.std.proofs.lemmas.List.Folds.{list_any-append}
 use Rattle.std.proofs.lemmas.List.Sorted.{list_any-IsPermutation}
-use Rattle.cp_invlist.specs.InversionList.{contains, differ, is_code_point, ascends_from, has_even_length, IsInversionList}
+use Rattle.cp_invlist.specs.InversionList.{contains, is_code_point}
 use Rattle.cp_invlist.specs.Ranges.{in_code_points, AreRangesFrom, AreMaximalRanges}
 use Rattle.cp_invlist.specs.declared.ranges.CodePointRange.{CodePointRange}
 use Rattle.uset_parse.specs.declared.ranges.Ranges.{Ranges}
@@ -30,24 +30,6 @@ pub settled_result : {A E : Type 0} (result : Result A E) (old new : Ranges) (so
     OnOk result ((c : ℕ) → in_ranges new c ≡ in_ranges old c)
 settled_result (Ok x) old new sorted set permuted union_is joined none = settled_members old new sorted set permuted union_is joined none
 settled_result (Err e) old new sorted set permuted union_is joined none = tt
-
--- past all code points every element counts, and they are even in number
-past_all : (n : ℕ) (xs : List ℕ) (c : ℕ) → ascends_from n xs ≡ true → 0x110000 ≤ c → contains xs c ≡ not (has_even_length xs)
-past_all n [] c ascends past = refl
-past_all n (x ∷ xs) c ascends past =
-    let parts = and_parts (nat_le n x && nat_le x 0x110000) (ascends_from (suc x) xs) ascends in
-    let bounds = and_parts (nat_le n x) (nat_le x 0x110000) parts.0 in
-    let below : x ≤ c = omega (arith, leb-true x 0x110000 bounds.1) in
-    ap (λ b. differ b (contains xs c)) (le-leb x c below) ∙ ap not (past_all (suc x) xs c parts.1 past)
-
--- the members of a set are code points
-members_within : (xs : List ℕ) (c : ℕ) → IsInversionList xs → (contains xs c && is_code_point c) ≡ contains xs c
-members_within xs c canonical =
-    let parts = and_parts (ascends_from 0 xs) (has_even_length xs) canonical in
-    elim (cases_lt c 0x110000) [
-      | inl below ↦ ap (λ b. contains xs c && b) (le-leb c 0x10FFFF (omega (arith, below))) ∙ and-true (contains xs c)
-      | inr past ↦ (let none : contains xs c ≡ false = past_all 0 xs c parts.0 past ∙ ap not parts.1 in ap (λ b. b && is_code_point c) none ∙ sym none)
-    ]
 
 before : (r : CodePointRange) (c : ℕ) → c < r.start → in_code_points r c ≡ false
 before r c lt = ap (λ b. (b && nat_le c r.end) && is_code_point c) (lt-leb r.start c lt)
@@ -82,9 +64,10 @@ spelled_from m n (r ∷ rs) h c above = elim (cases_lt c r.start) [
   ]
 ]
 
--- the ranges of a set hold its members
-pub set_spelled : (set : List ℕ) (rs : List CodePointRange) → IsInversionList set → AreMaximalRanges (contains set) rs → (c : ℕ) → in_some rs c ≡ contains set c
-set_spelled set rs canonical maximal c = spelled_from (contains set) 0 rs maximal c (omega arith) ∙ members_within set c canonical
+-- the ranges of a set hold its members, which are code points
+pub set_spelled : (set : List ℕ) (rs : List CodePointRange) → ((c : ℕ) → (contains set c && is_code_point c) ≡ contains set c) → AreMaximalRanges (contains set) rs →
+    (c : ℕ) → in_some rs c ≡ contains set c
+set_spelled set rs within maximal c = spelled_from (contains set) 0 rs maximal c (omega arith) ∙ within c
 
 spelled_more : (given : List CodePointRange) (r : CodePointRange) (c : ℕ) → in_some (given ++ r ∷ []) c ≡ (in_some given c || in_code_points r c)
 spelled_more given r c = list_any-append (λ s. in_code_points s c) given (r ∷ []) ∙ ap (λ b. in_some given c || b) (or_none (in_code_points r c))

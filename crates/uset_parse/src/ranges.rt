@@ -3,6 +3,7 @@ ghost use Rattle.std.specs.Prelude.{◌≡◌, ℕ, IfOk};
 ghost use Rattle.cp_invlist.specs.InversionList.{contains};
 ghost use Rattle.uset_parse.specs.Gathered.{in_some};
 
+use cp_invlist::laws::members_are_code_points;
 use cp_invlist::{CodePointInversionList, CodePointInversionListBuilder, CodePointRange, NoMemory};
 use std::alloc::Global;
 
@@ -83,6 +84,7 @@ impl Ranges {
     fn put_aside(&mut self, set: &CodePointInversionList) -> Result<(), NoMemory>
         ensures ok { OnOk result ((c : ℕ) → in_ranges self.new c ≡ (in_ranges self.old c || contains set.now c)) }
     {
+        members_are_code_points();
         self.aside.reserve(set.get_inversion_list().len() / 2)?;
         for range in set.iter_ranges() {
             self.aside.push(range)?;

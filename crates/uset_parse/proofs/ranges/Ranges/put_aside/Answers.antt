@@ -25,5 +25,5 @@ returns c =
     let given = c.loop-range.yielded in
     let all = subst (AreMaximalRanges (contains c.args.set.now)) (ap (λ rs. given ++ rs) c.in-None.ensures.steps.0 ∙ append-nil given) c.loop-range.invariant.0 in
     record {
-      ok = λ d. c.loop-range.invariant.1 d ∙ ap (λ b. in_ranges c.args.self.now d || b) (set_spelled c.args.set.now given c.get_inversion_list.ensures.canonical all d);
+      ok = λ d. c.loop-range.invariant.1 d ∙ ap (λ b. in_ranges c.args.self.now d || b) (set_spelled c.args.set.now given (λ n. c.members_are_code_points.ensures c.args.set.now n c.get_inversion_list.ensures.canonical) all d);
     }
