@@ -22,6 +22,10 @@ first_or (Some i) o = Some i
 abbrev pub fault_of : List ℕ → Option ℕ
 fault_of xs = first_or (first_out_of_order 0 0 xs) (odd_end xs)
 
+-- the fault of a list has this index
+abbrev pub IsFaultAt : List ℕ → ℕ → Type 0
+IsFaultAt xs index = fault_of xs ≡ Some index
+
 -- the element at the index is not above the one before it, or is above 110000
 abbrev pub IsOutOfOrder : List ℕ → ℕ → Type 0
 IsOutOfOrder xs k = (k < length xs) × (((0 < k) × (slice_index xs k ≤ slice_index xs (k - 1))) ⊎ (0x11_0000 < slice_index xs k))

@@ -1,6 +1,6 @@
 -- How two sets are merged: a walk over the elements of both lists in order, which keeps count of whether it is inside each.
 use Rattle.std.specs.Prelude.{◌≡◌, ℕ, IfNone, ◌==◌, Bool, not, ◌&&◌, ◌||◌, if◌then◌else◌, Option, Some, None, option_to_list, min, List, [], ◌∷◌, ◌++◌}
-use Rattle.cp_invlist.specs.InversionList.{differ, has_even_length}
+use Rattle.cp_invlist.specs.InversionList.{contains, differ, has_even_length}
 use Rattle.cp_invlist.specs.declared.merge.Operation.{Operation}
 use Rattle.cp_invlist.specs.declared.merge.Operation.TheVariants.{Union, Difference, Intersection}
 use Rattle.cp_invlist.specs.declared.merge.Side.{Side}
@@ -10,6 +10,10 @@ abbrev pub keeps : Operation → Bool → Bool → Bool
 keeps Union x y = x || y
 keeps Difference x y = x && not y
 keeps Intersection x y = x && y
+
+-- the third list has the members that the operation keeps of the sets of the first two
+abbrev pub IsKept : Operation → List ℕ → List ℕ → List ℕ → Type 0
+IsKept operation first second kept = (d : ℕ) → contains kept d ≡ keeps operation (contains first d) (contains second d)
 
 -- the elements that a side has still to pass
 abbrev pub elements_of : Side → List ℕ

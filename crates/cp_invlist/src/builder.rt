@@ -2,8 +2,8 @@
 ghost use Rattle.std.specs.Prelude.{◌≡◌, ℕ, ◌+◌, ◌||◌, ◌&&◌, not, ◌==◌, ◌<◌, ◌≤◌, [], OnOk, OnErr, All, vec_len, length};
 ghost use Rattle.std.specs.Bool.{OnTrue};
 ghost use Rattle.std.specs.List.{splice};
-ghost use Rattle.cp_invlist.specs.InversionList.{contains, is_code_point, IsInversionList};
-ghost use Rattle.cp_invlist.specs.Merge.{keeps};
+ghost use Rattle.cp_invlist.specs.InversionList.{contains, is_code_point, is_added, IsInversionList};
+ghost use Rattle.cp_invlist.specs.Merge.{IsKept};
 ghost use Rattle.cp_invlist.specs.Cuts.{CutBefore, CutAfter};
 ghost use Rattle.cp_invlist.specs.Ranges.{in_code_points};
 
@@ -48,7 +48,7 @@ impl CodePointInversionListBuilder {
 
     /// Adds one code point. A number past 10FFFF adds nothing.
     pub fn add32(&mut self, c: u32) -> Result<(), NoMemory>
-        ensures ok { OnOk result ((d : ℕ) → contains self.new d ≡ (contains self.old d || (d == c && is_code_point d))) }
+        ensures ok { OnOk result ((d : ℕ) → contains self.new d ≡ (contains self.old d || is_added c d)) }
         ensures err { OnErr result (self.new ≡ self.old) }
     {
         self.add_range32(CodePointRange { start: c, end: c })
@@ -91,7 +91,8 @@ impl CodePointInversionListBuilder {
         self.merge_with(Operation::Union, set)
     }
 
-    /// `add_set`, which counts one step for each element that it takes from either list.
+    /// `add_set`, which counts one step for each element that it takes from either list: all elements of both, or
+    /// fewer where a request for memory was refused on the way.
     pub fn add_set_steps<L: Ledger>(
         &mut self,
         set: &CodePointInversionList,
@@ -99,7 +100,8 @@ impl CodePointInversionListBuilder {
     ) -> Result<(), NoMemory>
         ensures ok { OnOk result ((d : ℕ) → contains self.new d ≡ (contains self.old d || contains set.now d)) }
         ensures err { OnErr result (self.new ≡ self.old) }
-        ensures cost { steps.new ≤ steps.old + (length self.old + length set.now) }
+        ensures counted { OnOk result (steps.new ≡ steps.old + (length self.old + length set.now)) }
+        ensures at_most { OnErr result (steps.new ≤ steps.old + (length self.old + length set.now)) }
     {
         self.merge_with_steps(Operation::Union, set, steps)
     }
@@ -112,7 +114,8 @@ impl CodePointInversionListBuilder {
         self.merge_with(Operation::Difference, set)
     }
 
-    /// `remove_set`, which counts one step for each element that it takes from either list.
+    /// `remove_set`, which counts one step for each element that it takes from either list: all elements of both, or
+    /// fewer where a request for memory was refused on the way.
     pub fn remove_set_steps<L: Ledger>(
         &mut self,
         set: &CodePointInversionList,
@@ -120,7 +123,8 @@ impl CodePointInversionListBuilder {
     ) -> Result<(), NoMemory>
         ensures ok { OnOk result ((d : ℕ) → contains self.new d ≡ (contains self.old d && not (contains set.now d))) }
         ensures err { OnErr result (self.new ≡ self.old) }
-        ensures cost { steps.new ≤ steps.old + (length self.old + length set.now) }
+        ensures counted { OnOk result (steps.new ≡ steps.old + (length self.old + length set.now)) }
+        ensures at_most { OnErr result (steps.new ≤ steps.old + (length self.old + length set.now)) }
     {
         self.merge_with_steps(Operation::Difference, set, steps)
     }
@@ -133,7 +137,8 @@ impl CodePointInversionListBuilder {
         self.merge_with(Operation::Intersection, set)
     }
 
-    /// `retain_set`, which counts one step for each element that it takes from either list.
+    /// `retain_set`, which counts one step for each element that it takes from either list: all elements of both, or
+    /// fewer where a request for memory was refused on the way.
     pub fn retain_set_steps<L: Ledger>(
         &mut self,
         set: &CodePointInversionList,
@@ -141,7 +146,8 @@ impl CodePointInversionListBuilder {
     ) -> Result<(), NoMemory>
         ensures ok { OnOk result ((d : ℕ) → contains self.new d ≡ (contains self.old d && contains set.now d)) }
         ensures err { OnErr result (self.new ≡ self.old) }
-        ensures cost { steps.new ≤ steps.old + (length self.old + length set.now) }
+        ensures counted { OnOk result (steps.new ≡ steps.old + (length self.old + length set.now)) }
+        ensures at_most { OnErr result (steps.new ≤ steps.old + (length self.old + length set.now)) }
     {
         self.merge_with_steps(Operation::Intersection, set, steps)
     }
@@ -162,7 +168,7 @@ impl CodePointInversionListBuilder {
         operation: Operation,
         set: &CodePointInversionList,
     ) -> Result<(), NoMemory>
-        ensures ok { OnOk result ((d : ℕ) → contains self.new d ≡ keeps operation (contains self.old d) (contains set.now d)) }
+        ensures ok { OnOk result (IsKept operation self.old set.now self.new) }
         ensures err { OnErr result (self.new ≡ self.old) }
     {
         let alloc = *self.elements.allocator();
@@ -181,9 +187,10 @@ impl CodePointInversionListBuilder {
         set: &CodePointInversionList,
         steps: &mut Steps<L>,
     ) -> Result<(), NoMemory>
-        ensures ok { OnOk result ((d : ℕ) → contains self.new d ≡ keeps operation (contains self.old d) (contains set.now d)) }
+        ensures ok { OnOk result (IsKept operation self.old set.now self.new) }
         ensures err { OnErr result (self.new ≡ self.old) }
-        ensures cost { steps.new ≤ steps.old + (length self.old + length set.now) }
+        ensures counted { OnOk result (steps.new ≡ steps.old + (length self.old + length set.now)) }
+        ensures at_most { OnErr result (steps.new ≤ steps.old + (length self.old + length set.now)) }
     {
         let alloc = *self.elements.allocator();
         self.elements = merge(
@@ -196,7 +203,7 @@ impl CodePointInversionListBuilder {
         Ok(())
     }
 
-    // Whether the number is above all elements.
+    /// Whether the number is above all elements.
     fn is_behind_all(&self, start: u32) -> bool
         ensures { OnTrue result (All (λ x. x < start) self.now) }
     {
@@ -214,7 +221,7 @@ impl CodePointInversionListBuilder {
     }
 }
 
-// The place before the first element that is at least the number.
+/// The place before the first element that is at least the number.
 fn cut_before(elements: &[u32], number: u32) -> usize
     requires { IsInversionList elements.now }
     ensures bound { result ≤ length elements.now }
@@ -223,7 +230,7 @@ fn cut_before(elements: &[u32], number: u32) -> usize
     elements.partition_point(|element| *element < number)
 }
 
-// The place behind the last element that is at most the number.
+/// The place behind the last element that is at most the number.
 fn cut_after(elements: &[u32], number: u32) -> usize
     requires { IsInversionList elements.now }
     ensures bound { result ≤ length elements.now }
@@ -232,7 +239,7 @@ fn cut_after(elements: &[u32], number: u32) -> usize
     elements.partition_point(|element| *element <= number)
 }
 
-// Puts the given elements in place of those from `low` up to `high`.
+/// Puts the given elements in place of those from `low` up to `high`.
 fn replace(elements: &mut Vec<u32>, low: usize, high: usize, with: &[u32]) -> Result<(), NoMemory>
     requires ordered { low ≤ high }
     requires within { high ≤ vec_len elements.old }

@@ -1,11 +1,13 @@
 //! Laws of inversion lists, each the contract of a function that does nothing.
-ghost use Rattle.std.specs.Prelude.{◌≡◌, ◌&&◌, ℕ, ◌↔◌, None, Some, List};
+ghost use Rattle.std.specs.Prelude.{◌≡◌, ◌&&◌, ℕ, Bool, ◌↔◌, None, Some, List};
 ghost use Rattle.cp_invlist.specs.Fault.{fault_of, IsFirstFault};
-ghost use Rattle.cp_invlist.specs.InversionList.{contains, is_code_point, IsInversionList};
+ghost use Rattle.cp_invlist.specs.InversionList.{contains, is_code_point, IsInversionList, HaveSameMembers};
+ghost use Rattle.cp_invlist.specs.Ranges.{AreMaximalRanges};
+ghost use Rattle.cp_invlist.specs.declared.ranges.CodePointRange.{CodePointRange};
 
 /// Two inversion lists with the same members are the same list.
 pub fn same_members()
-    ensures { (xs ys : List ℕ) → IsInversionList xs → IsInversionList ys → ((c : ℕ) → contains xs c ≡ contains ys c) → xs ≡ ys }
+    ensures { (xs ys : List ℕ) → IsInversionList xs → IsInversionList ys → HaveSameMembers xs ys → xs ≡ ys }
 {}
 
 /// The fault of a list is its first.
@@ -21,4 +23,9 @@ pub fn faultless()
 /// The members of an inversion list are code points.
 pub fn members_are_code_points()
     ensures { (xs : List ℕ) (c : ℕ) → IsInversionList xs → (contains xs c && is_code_point c) ≡ contains xs c }
+{}
+
+/// A set has one list of maximal ranges.
+pub fn one_list_of_ranges()
+    ensures { (m : ℕ → Bool) (rs qs : List CodePointRange) → AreMaximalRanges m rs → AreMaximalRanges m qs → rs ≡ qs }
 {}

@@ -14,6 +14,6 @@ mod tests;
 
 pub use builder::CodePointInversionListBuilder;
 pub use error::{InversionListError, NoMemory};
-pub use ranges::{CodePointRange, ComplementedRanges, InversionListRanges};
+pub use ranges::{CodePointRange, ComplementedRanges, InversionListRanges, LAST_CODE_POINT};
 pub use set::CodePointInversionList;
 pub use steps::Steps;

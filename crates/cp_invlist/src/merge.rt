@@ -1,7 +1,7 @@
 //! The linear merge that union, difference and intersection are made of.
-ghost use Rattle.std.specs.Prelude.{◌≡◌, ℕ, ◌+◌, ◌<◌, ◌≤◌, OnOk, OnErr, IfOk, false, length};
-ghost use Rattle.cp_invlist.specs.InversionList.{contains, IsInversionList};
-ghost use Rattle.cp_invlist.specs.Merge.{keeps, IsAtNext, elements_of, elements_behind, turned_at, lower_of, turned_list};
+ghost use Rattle.std.specs.Prelude.{◌≡◌, ◌+◌, ◌<◌, ◌≤◌, OnOk, OnErr, IfOk, false, length};
+ghost use Rattle.cp_invlist.specs.InversionList.{IsInversionList};
+ghost use Rattle.cp_invlist.specs.Merge.{keeps, IsAtNext, elements_of, elements_behind, turned_at, lower_of, turned_list, IsKept};
 
 use crate::cursor::Cursor;
 use crate::error::NoMemory;
@@ -33,7 +33,7 @@ impl Operation {
     }
 }
 
-// One of the two lists on the way: its next element, and whether the walk is inside the set.
+/// One of the two lists on the way: its next element, and whether the walk is inside the set.
 #[derive(Drop)]
 struct Side<'a> {
     cursor: Cursor<'a>,
@@ -57,7 +57,7 @@ impl<'a> Side<'a> {
         }
     }
 
-    // Goes behind the number, which is at most the next element.
+    /// Goes behind the number, which is at most the next element.
     fn pass<L: Ledger>(&mut self, number: u32, steps: &mut Steps<L>)
         requires { IsAtNext self.old }
         ensures at_next { IsAtNext self.new }
@@ -75,7 +75,7 @@ impl<'a> Side<'a> {
     }
 }
 
-// The lower of the next elements.
+/// The lower of the next elements.
 fn lower(first: Option<u32>, second: Option<u32>) -> Option<u32>
     ensures { result ≡ lower_of first second }
 {
@@ -86,7 +86,7 @@ fn lower(first: Option<u32>, second: Option<u32>) -> Option<u32>
     }
 }
 
-// Puts the number behind the list where its end is to turn.
+/// Puts the number behind the list where its end is to turn.
 fn turn(merged: &mut Vec<u32>, number: u32, inside: bool) -> Result<(), NoMemory>
     ensures ok { OnOk result (merged.new.items ≡ turned_list merged.old.items number inside) }
 {
@@ -107,8 +107,9 @@ pub(crate) fn merge<L: Ledger>(
     requires first { IsInversionList first.now }
     requires second { IsInversionList second.now }
     ensures list { IfOk result (λ v. IsInversionList v.items) }
-    ensures members { IfOk result (λ v. (d : ℕ) → contains v.items d ≡ keeps operation (contains first.now d) (contains second.now d)) }
-    ensures cost { steps.new ≤ steps.old + (length first.now + length second.now) }
+    ensures members { IfOk result (λ v. IsKept operation first.now second.now v.items) }
+    ensures counted { OnOk result (steps.new ≡ steps.old + (length first.now + length second.now)) }
+    ensures at_most { OnErr result (steps.new ≤ steps.old + (length first.now + length second.now)) }
 {
     let mut left = Side::new(first, steps);
     let mut right = Side::new(second, steps);
@@ -132,12 +133,12 @@ pub(crate) fn merge_uncounted(
     requires first { IsInversionList first.now }
     requires second { IsInversionList second.now }
     ensures list { IfOk result (λ v. IsInversionList v.items) }
-    ensures members { IfOk result (λ v. (d : ℕ) → contains v.items d ≡ keeps operation (contains first.now d) (contains second.now d)) }
+    ensures members { IfOk result (λ v. IsKept operation first.now second.now v.items) }
 {
     merge_over::<Brand>(alloc, operation, first, second, Blank::new(1))
 }
 
-// A merge whose steps count in a blank ledger.
+/// A merge whose steps count in a blank ledger.
 fn merge_over<L: Ledger>(
     alloc: Global,
     operation: Operation,
@@ -151,7 +152,7 @@ fn merge_over<L: Ledger>(
     requires parts { blank.parts ≡ L.parts }
     requires some { 0 < blank.parts }
     ensures list { IfOk result (λ v. IsInversionList v.items) }
-    ensures members { IfOk result (λ v. (d : ℕ) → contains v.items d ≡ keeps operation (contains first.now d) (contains second.now d)) }
+    ensures members { IfOk result (λ v. IsKept operation first.now second.now v.items) }
 {
     let mut steps = Steps::<L>::new(blank);
     merge(alloc, operation, first, second, &mut steps)

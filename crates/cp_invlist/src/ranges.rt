@@ -6,8 +6,8 @@ ghost use Rattle.std.specs.Iterator.{YieldsFirst, item_count};
 
 use std::marker::Model;
 
-/// The last code point.
-pub(crate) const LAST_CODE_POINT: u32 = 0x10_FFFF;
+/// The last code point: 10FFFF.
+pub const LAST_CODE_POINT: u32 = 0x10_FFFF;
 
 /// The code points from `start` to `end`, both ends included. Where `start` is above `end` it holds nothing.
 #[derive(Clone, Copy, Debug, PartialEq, Eq)]

@@ -1,8 +1,8 @@
 //! The set: its list, and what it answers.
-ghost use Rattle.std.specs.Prelude.{◌≡◌, ℕ, ◌≤◌, ◌↔◌, IsTrue, IsErrOf, IfOk, OnOk, IfNone, Some, nat_eq, sum_by, [], ◌∷◌, List};
+ghost use Rattle.std.specs.Prelude.{◌≡◌, ℕ, ◌≤◌, ◌↔◌, IsTrue, IsErrOf, IfOk, OnOk, IfNone, Some, nat_eq, [], ◌∷◌, List};
 ghost use Rattle.std.specs.Cmp.Lexicographic.{pointwise};
-ghost use Rattle.cp_invlist.specs.Fault.{fault_of};
-ghost use Rattle.cp_invlist.specs.Size.{count_members, range_size};
+ghost use Rattle.cp_invlist.specs.Fault.{fault_of, IsFaultAt};
+ghost use Rattle.cp_invlist.specs.Size.{count_members, SumsTo};
 ghost use Rattle.cp_invlist.specs.InversionList.{contains, is_code_point, IsInversionList};
 ghost use Rattle.cp_invlist.specs.Ranges.{AreMaximalRanges, is_outside};
 ghost use Rattle.cp_invlist.specs.declared.ranges.CodePointRange.{CodePointRange};
@@ -49,7 +49,7 @@ impl CodePointInversionList {
     ) -> Result<CodePointInversionList, InversionListError>
         ensures list { IfOk result (λ s. s ≡ list.now) }
         ensures canonical { OnOk result (IsInversionList list.now) }
-        ensures invalid { (index : ℕ) → IsErrOf result (InversionListError.Invalid index) ↔ (fault_of list.now ≡ Some index) }
+        ensures invalid { (index : ℕ) → IsErrOf result (InversionListError.Invalid index) ↔ IsFaultAt list.now index }
     {
         if let Some(index) = find_fault(list) {
             return Err(InversionListError::Invalid { index });
@@ -101,7 +101,7 @@ impl CodePointInversionList {
     pub fn size(&self) -> usize
         ensures counted { result ≡ count_members (contains self.now) 0x11_0000 }
         ensures bound { result ≤ 0x11_0000 }
-        ensures summed { (rs : List CodePointRange) → AreMaximalRanges (contains self.now) rs → result ≡ sum_by range_size rs }
+        ensures summed { (rs : List CodePointRange) → AreMaximalRanges (contains self.now) rs → SumsTo rs result }
     {
         let mut size = 0;
         for range in InversionListRanges::new(&self.elements) {
@@ -159,7 +159,7 @@ impl Eq for CodePointInversionList {
     ghost laws = { nat_list_eq_equiv };
 }
 
-// The index of the first fault of a list that is no inversion list.
+/// The index of the first fault of a list that is no inversion list.
 fn find_fault(list: &[u32]) -> Option<usize>
     ensures fault { result ≡ fault_of list.now }
     ensures none { IfNone result (IsInversionList list.now) }

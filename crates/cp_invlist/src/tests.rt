@@ -54,4 +54,5 @@ fn the_laws_hold() {
     laws::first_fault();
     laws::faultless();
     laws::members_are_code_points();
+    laws::one_list_of_ranges();
 }

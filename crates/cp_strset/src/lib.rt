@@ -198,7 +198,7 @@ impl Eq for CodePointInversionListAndStringList {
     ghost laws = { and_equiv (on_equiv (λ s. s.code_points) nat_list_eq_equiv) (on_equiv (λ s. s.strings) (lists_equiv nat_list_eq_equiv)) };
 }
 
-// Whether the text is one of the strings, by binary search.
+/// Whether the text is one of the strings, by binary search.
 fn contains_string(strings: &[String], text: &str) -> bool
     requires { fault_from None 0 (map string_bytes strings.now) ≡ None }
     ensures { result ≡ holds (map string_bytes strings.now) text.now }
@@ -208,7 +208,7 @@ fn contains_string(strings: &[String], text: &str) -> bool
         .is_ok()
 }
 
-// The character of a text that has exactly one.
+/// The character of a text that has exactly one.
 fn sole_char(text: &str) -> Option<char>
     ensures { result ≡ sole_of (chars text.now) }
 {
@@ -220,7 +220,7 @@ fn sole_char(text: &str) -> Option<char>
     }
 }
 
-// The fault of a string behind another.
+/// The fault of a string behind another.
 fn fault_at(before: Option<&str>, string: &str, index: usize) -> Option<StringListError>
     ensures { result ≡ fault_at (option_copied before.entry) string.now index }
 {
@@ -235,7 +235,7 @@ fn fault_at(before: Option<&str>, string: &str, index: usize) -> Option<StringLi
     }
 }
 
-// The first fault of a list of strings.
+/// The first fault of a list of strings.
 fn find_fault(strings: &[String]) -> Option<StringListError>
     ensures { result ≡ fault_from None 0 (map string_bytes strings.now) }
 {

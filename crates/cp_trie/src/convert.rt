@@ -40,7 +40,7 @@ impl<T: TrieValue> CodePointTrie<T> {
     }
 }
 
-// The value of the other type that the number of this one unpacks to, if there is one.
+/// The value of the other type that the number of this one unpacks to, if there is one.
 fn converted<T: TrieValue, P: TrieValue>(value: T) -> Option<P>
     ensures { result ≡ conversion T.packed P.unpacked value }
 {

@@ -51,7 +51,7 @@ impl<T: Copy, U: Copy + Eq, F: Fn(T) -> U> Iterator for TrieRangesMapped<'_, T, 
     }
 }
 
-// How many runs at the front have a mapped value equal to this one.
+/// How many runs at the front have a mapped value equal to this one.
 fn equal_front<T: Copy, U: Copy + Eq, F: Fn(T) -> U>(
     runs: &[CodePointMapRange<T>],
     map: &F,

@@ -10,7 +10,7 @@ fn run<T>(start: u32, end: u32, value: T) -> CodePointMapRange<T> {
     }
 }
 
-// The map with this value from 41 to 5A, and 0 elsewhere.
+/// The map with this value from 41 to 5A, and 0 elsewhere.
 fn letters<T: TrieValue>(alloc: Global, none: T, letter: T) -> Result<CodePointTrie<T>, Fail> {
     let mut runs = Vec::new(alloc);
     runs.push(run(0, 0x40, none))?;

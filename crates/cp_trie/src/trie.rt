@@ -55,7 +55,7 @@ impl<T: TrieValue> CodePointTrie<T> {
         Ok(CodePointTrie::from_cover(alloc, &runs, error_value)?)
     }
 
-    // The map of runs that cover 0 to 10FFFF in order.
+    /// The map of runs that cover 0 to 10FFFF in order.
     pub(crate) fn from_cover(
         alloc: Global,
         runs: &[CodePointMapRange<T>],

@@ -4,7 +4,7 @@ ghost use Rattle.prop_binary.specs.Ecma262.{ecma262_names, ecma262_number, numbe
 
 use crate::table::SetTable;
 
-// The names, each with its table: the long name of a property, and the short one where it is another.
+/// The names, each with its table: the long name of a property, and the short one where it is another.
 const ECMA262_NAMES: [(&[u8], SetTable); 95] = [
     (b"ASCII_Hex_Digit", SetTable::ASCII_HEX_DIGIT),
     (b"AHex", SetTable::ASCII_HEX_DIGIT),
@@ -140,7 +140,7 @@ pub fn ecma262_table(name: &[u8]) -> Option<SetTable>
     table_among(&ECMA262_NAMES, name)
 }
 
-// The table of the property with this name, where the rows are the names of ECMA-262.
+/// The table of the property with this name, where the rows are the names of ECMA-262.
 fn table_among(rows: &[(&[u8], SetTable)], text: &[u8]) -> Option<SetTable>
     requires { IsTrue (same_numbers (map (λ row. (row.0.now, row.1)) rows.now) ecma262_names) }
     ensures { result ≡ ecma262_number text.now }
@@ -148,7 +148,7 @@ fn table_among(rows: &[(&[u8], SetTable)], text: &[u8]) -> Option<SetTable>
     table_behind(rows, text)
 }
 
-// The table behind the first of the names that equals the text.
+/// The table behind the first of the names that equals the text.
 fn table_behind(rows: &[(&[u8], SetTable)], text: &[u8]) -> Option<SetTable>
     ensures { result ≡ number_behind (map (λ row. (row.0.now, row.1)) rows.now) text.now }
 {

@@ -20,7 +20,7 @@ macro_rules! row {
     };
 }
 
-// The tables in the order of their numbers.
+/// The tables in the order of their numbers.
 const SET_TABLES: [SetTable; 69] = [
     SetTable::ASCII_HEX_DIGIT,
     SetTable::ALNUM,

@@ -281,7 +281,7 @@ impl EmojiTable {
     }
 }
 
-// The name of this index.
+/// The name of this index.
 fn name_at(names: &[&'static [u8]], index: usize) -> &'static [u8]
     requires { index < length names.now }
     ensures { slice_get (map (λ name. name.now) names.now) index ≡ Some result.now }
@@ -289,7 +289,7 @@ fn name_at(names: &[&'static [u8]], index: usize) -> &'static [u8]
     names[index]
 }
 
-// The index of the first of the names that equals the text.
+/// The index of the first of the names that equals the text.
 fn place_of(names: &[&[u8]], text: &[u8]) -> Option<usize>
     ensures { result ≡ position (λ name. bytes_eq name.now text.now) names.now }
 {

@@ -1,6 +1,6 @@
 use super::*;
 
-// The long and the short name of each binary property, in the order of the tables' numbers.
+/// The long and the short name of each binary property, in the order of the tables' numbers.
 const NAMES: [(&str, &str); 69] = [
     ("ASCII_Hex_Digit", "AHex"),
     ("alnum", "alnum"),
@@ -73,7 +73,7 @@ const NAMES: [(&str, &str); 69] = [
     ("XID_Start", "XIDS"),
 ];
 
-// Whether the rows have these names, and the tables of the numbers from `first` on.
+/// Whether the rows have these names, and the tables of the numbers from `first` on.
 fn are_rows(rows: &[(SetTable, &[u8], &[u8])], names: &[(&str, &str)], first: u8) -> bool {
     let mut number = first;
     for ((table, long, short), (name, abbreviation)) in rows.iter().zip(names) {

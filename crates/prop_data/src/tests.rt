@@ -3,7 +3,7 @@ use cp_invlist::NoMemory;
 use std::alloc::Global;
 use std::test::Fail;
 
-// A text with each table; XID_Continue has no row.
+/// A text with each table; XID_Continue has no row.
 const GOOD: &str =
     "# tables\nset XID_Start # letters\n41-5A\r\n  5F\n\n61-7a\n7B0-7b1 # two\nset\tXID_Continue\nset Pattern_White_Space\n9-D\n000020\n10FFFF\nend # all\n\n# no more";
 

@@ -79,7 +79,7 @@ pub enum GeneralCategory {
 #[error("GeneralCategoryOutOfBoundsError")]
 pub struct GeneralCategoryOutOfBoundsError;
 
-// The categories in the order of their numbers.
+/// The categories in the order of their numbers.
 const CATEGORIES: [GeneralCategory; 30] = [
     GeneralCategory::Unassigned,
     GeneralCategory::UppercaseLetter,
@@ -113,7 +113,7 @@ const CATEGORIES: [GeneralCategory; 30] = [
     GeneralCategory::FinalPunctuation,
 ];
 
-// The category of the number, which is at most 29.
+/// The category of the number, which is at most 29.
 fn category_at(number: usize) -> Option<GeneralCategory>
     ensures { result ≡ category_of number }
 {

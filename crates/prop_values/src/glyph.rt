@@ -32,13 +32,13 @@ pub struct BidiMirroringGlyph {
     pub paired_bracket_type: BidiPairedBracketType,
 }
 
-// Bits 0 to 20 of a packed glyph are below this number, which bit 21 counts.
+/// Bits 0 to 20 of a packed glyph are below this number, which bit 21 counts.
 const MIRRORED_UNIT: u32 = 0x20_0000;
 
-// What bit 22 counts in a packed glyph.
+/// What bit 22 counts in a packed glyph.
 const BRACKET_UNIT: u32 = 0x40_0000;
 
-// Whether the number unpacks to a mirroring glyph.
+/// Whether the number unpacks to a mirroring glyph.
 pub(crate) fn is_glyph_number(n: u32) -> bool
     ensures { result ≡ is_number_of_glyph n }
 {

@@ -25,13 +25,13 @@ impl Model for GeneralCategoryGroup {
     ghost inverse = { λ bits. record { 0 = bits } };
 }
 
-// The bits of all categories.
+/// The bits of all categories.
 const ALL: u32 = 0x3FFF_FFFF;
 
-// The number of the groups that have none of their own.
+/// The number of the groups that have none of their own.
 const OTHERS: u16 = 0xFF00;
 
-// The groups that have a number of their own, each behind that number.
+/// The groups that have a number of their own, each behind that number.
 const PACKINGS: [(u16, u32); 38] = [
     (0, 1 << 0),
     (1, 1 << 1),
@@ -73,7 +73,7 @@ const PACKINGS: [(u16, u32); 38] = [
     (0xFFF8, 0xF000000),
 ];
 
-// The short names with their groups.
+/// The short names with their groups.
 const NAMES: [(&str, GeneralCategoryGroup); 38] = [
     ("Lu", GeneralCategoryGroup::Lu),
     ("Ll", GeneralCategoryGroup::Ll),
@@ -345,7 +345,7 @@ impl From<GeneralCategoryGroup> for u32 {
     }
 }
 
-// The number of the first row with these bits.
+/// The number of the first row with these bits.
 fn number_of_bits(rows: &[(u16, u32)], bits: u32) -> u16
     ensures { result ≡ number_in rows.now bits }
 {
@@ -357,7 +357,7 @@ fn number_of_bits(rows: &[(u16, u32)], bits: u32) -> u16
     OTHERS
 }
 
-// The bits of the first row with this number.
+/// The bits of the first row with this number.
 fn bits_of_number(rows: &[(u16, u32)], number: u16) -> u32
     ensures { result ≡ bits_in rows.now number }
 {

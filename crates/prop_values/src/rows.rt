@@ -72,7 +72,7 @@ const NAMES_TABLES: [NamesTable; 18] = [
     NamesTable::GENERAL_CATEGORY_MASK,
 ];
 
-// The groups under their long and their short names, in the order of the numbers that they pack to.
+/// The groups under their long and their short names, in the order of the numbers that they pack to.
 const GROUPS: [(GeneralCategoryGroup, GeneralCategoryGroup); 38] = [
     (GeneralCategoryGroup::Unassigned, GeneralCategoryGroup::Cn),
     (

@@ -99,7 +99,7 @@ impl EnumeratedProperty for Script {
 #[derive(Clone, Copy, Debug, PartialEq, Eq)]
 pub struct ScriptWithExt(pub u16);
 
-// The low ten bits are below this number, which the kind counts.
+/// The low ten bits are below this number, which the kind counts.
 const KIND_UNIT: u16 = 1024;
 
 impl ScriptWithExt {

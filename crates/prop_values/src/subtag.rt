@@ -46,7 +46,7 @@ impl Subtag {
     }
 }
 
-// Whether all four bytes are ASCII letters.
+/// Whether all four bytes are ASCII letters.
 fn is_letters(letters: [u8; 4]) -> bool
     ensures { result ≡ is_four_letters letters }
 {

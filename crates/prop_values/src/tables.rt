@@ -276,7 +276,7 @@ impl NamesTable {
     }
 }
 
-// The index of the first of the names that equals the text.
+/// The index of the first of the names that equals the text.
 fn place_of(names: &[&[u8]], text: &[u8]) -> Option<usize>
     ensures { result ≡ position (λ name. bytes_eq name.now text.now) names.now }
 {

@@ -4,7 +4,7 @@ use cp_trie::{CodePointMapRange, CodePointTrie, ConvertError, TrieValue, ValueEr
 use std::alloc::Global;
 use std::test::Fail;
 
-// The long and the short name of each property, in the order of the tables' numbers.
+/// The long and the short name of each property, in the order of the tables' numbers.
 const NAMES: [(&str, &str); 18] = [
     ("Bidi_Class", "bc"),
     ("Block", "blk"),
@@ -26,7 +26,7 @@ const NAMES: [(&str, &str); 18] = [
     ("Bidi_Mirroring_Glyph", "bmg"),
 ];
 
-// The short names of the groups, each union behind its members.
+/// The short names of the groups, each union behind its members.
 const GROUP_NAMES: [&str; 38] = [
     "Lu", "Ll", "Lt", "Lm", "Lo", "LC", "L", "Mn", "Me", "Mc", "M", "Nd", "Nl", "No", "N", "Zs",
     "Zl", "Zp", "Z", "Cc", "Cf", "Co", "Cs", "Cn", "C", "Pd", "Ps", "Pe", "Pc", "Pi", "Pf", "Po",
@@ -57,7 +57,7 @@ fn tables_of_names_are_found_by_the_names_that_they_have(rt: HostRuntime) {
     assert_eq!(rt; number, 18);
 }
 
-// The number of the default of a property.
+/// The number of the default of a property.
 fn default_number<T: EnumeratedProperty>() -> u32 {
     T::default().to_u32()
 }

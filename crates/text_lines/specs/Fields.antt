@@ -1,6 +1,6 @@
 -- The fields of a line, as their bytes.
-use Rattle.std.specs.Prelude.{ℕ, Bool, true, false, ◌||◌, ◌==◌, List, [], ◌∷◌, if◌then◌else◌}
-use Rattle.std.specs.List.{before_first}
+use Rattle.std.specs.Prelude.{ℕ, Bool, true, false, ◌||◌, ◌==◌, List, [], ◌∷◌, drop, if◌then◌else◌}
+use Rattle.std.specs.List.{before_first, position_or_len, prefix_len}
 use Rattle.std.specs.Str.{bytes_eq}
 use Rattle.text_lines.specs.Lines.{onto_first}
 
@@ -19,6 +19,18 @@ runs (c ∷ bytes) =
     if is_blank c then runs bytes
     else if begins_blank bytes then (c ∷ []) ∷ runs bytes
     else onto_first c (runs bytes)
+
+-- the bytes without the blanks in front
+abbrev pub unindented : List ℕ → List ℕ
+unindented bytes = drop (prefix_len is_blank bytes) bytes
+
+-- the bytes from the first blank on
+abbrev pub from_blank : List ℕ → List ℕ
+from_blank bytes = drop (position_or_len is_blank bytes) bytes
+
+-- what stands behind the first run
+abbrev pub behind_run : List ℕ → List ℕ
+behind_run bytes = from_blank (unindented bytes)
 
 -- the fields of a line: the runs before its first `#`
 abbrev pub fields : List ℕ → List (List ℕ)

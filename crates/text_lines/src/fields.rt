@@ -1,7 +1,7 @@
 //! Fields of a line.
-ghost use Rattle.std.specs.Prelude.{◌≡◌, ◌==◌, ◌∷◌, [], ◌≤◌, length, MatchOption};
+ghost use Rattle.std.specs.Prelude.{◌≡◌, ◌==◌, ◌∷◌, [], ◌≤◌, length, IfSome, MatchOption};
 ghost use Rattle.std.specs.List.{before_first, position_or_len, prefix_len};
-ghost use Rattle.text_lines.specs.Fields.{runs, is_blank};
+ghost use Rattle.text_lines.specs.Fields.{runs, behind_run, is_blank};
 
 /// What stands before the first `#` of the line.
 pub fn before_comment(line: &[u8]) -> &[u8]
@@ -43,6 +43,7 @@ fn word_len(bytes: &[u8]) -> usize
 /// `None` where there is none.
 pub fn split_field(bytes: &[u8]) -> Option<(&[u8], &[u8])>
     ensures parts { MatchOption result (runs bytes.now ≡ []) (λ p. runs bytes.now ≡ p.0.now ∷ runs p.1.now) }
+    ensures rest { IfSome result (λ p. p.1.now ≡ behind_run bytes.now) }
 {
     let (_, text) = bytes.split_at(blank_len(bytes));
     let (field, rest) = text.split_at(word_len(text));

@@ -1,5 +1,5 @@
 //! A text cut behind one of its lines.
-ghost use Rattle.std.specs.Prelude.{◌≡◌};
+ghost use Rattle.std.specs.Prelude.{◌≡◌, ◌++◌};
 ghost use Rattle.text_lines.specs.Lines.{lines};
 ghost use Rattle.text_lines.specs.Fields.{is_sole, through, past};
 
@@ -20,6 +20,7 @@ fn is_sole(line: &[u8], word: &[u8]) -> bool
 /// Cuts the text behind its first line whose one field is the word. Where there is none, the first
 /// part is the whole text.
 pub fn split_behind<'a>(text: &'a str, word: &[u8]) -> (&'a str, &'a str)
+    ensures joined { text.now ≡ result.0.now ++ result.1.now }
     ensures front { lines result.0.now ≡ through word.now (lines text.now) }
     ensures rest { lines result.1.now ≡ past word.now (lines text.now) }
 {

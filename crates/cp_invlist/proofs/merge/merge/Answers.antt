@@ -1,4 +1,4 @@
-use Rattle.std.proofs.Common.{arith, sym}
+use Rattle.std.proofs.Common.{arith, ap, length, length-append, sym}
 use Rattle.cp_invlist.specs.Merge.{elements_of}
 use Rattle.cp_invlist.proofs.MergeLemmas.{Walks-next, Walks-empty, Walks-members, IsLowest-from_lower, none_left}
 use Rattle.cp_invlist.proofs.merge.merge.Goals as goal
@@ -27,3 +27,11 @@ returns-clause-members g c =
     h.left_next h.right_next (sym c.in_default.ensures) in
     Walks-members c.args.operation c.args.first.now c.args.second.now c.elements.merged.items c.elements.left.inside c.elements.right.inside
     (Walks-empty _ _ _ _ _ _ _ _ h.walk none)
+
+-- both lists are taken to their ends
+pub returns-clause-counted : goal.returns-clause-counted
+returns-clause-counted g c =
+    let h = c.elements.invariant in
+    let none = none_left c.elements.left.next c.elements.right.next c.elements.left.cursor.rest.now c.elements.right.cursor.rest.now
+    h.left_next h.right_next (sym c.in_default.ensures) in
+    omega (arith, simp length-append at (ap length none.0), simp length-append at (ap length none.1))

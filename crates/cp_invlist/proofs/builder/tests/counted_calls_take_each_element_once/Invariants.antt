@@ -1,4 +1,4 @@
-use Rattle.cp_invlist.proofs.builder.tests.counted_calls_answer_as_the_plain_ones.Given as goal
+use Rattle.cp_invlist.proofs.builder.tests.counted_calls_take_each_element_once.Given as goal
 
 -- the steps count in the blank ledger that is made here
 abbrev pub ghosts-combine_counted : goal.ghosts-combine_counted
