@@ -1,12 +1,10 @@
 -- The runs whose values all convert, and the values that they spell.
-use Rattle.std.proofs.Common.{◌≡◌, ℕ, ◌+◌, ◌<◌, ◌≤◌, Bool, true, false, cond, ◌==◌, Option, Some, None, List, [], ◌∷◌, ◌++◌, length, get_or, drop, refl, sym, ap, ◌∙◌, arith}
+use Rattle.std.proofs.Common.{◌≡◌, ℕ, ◌+◌, ◌<◌, ◌≤◌, Bool, true, false, cond, Option, Some, None, List, [], ◌∷◌, ◌++◌, length, get_or, drop, refl, sym, ap, ◌∙◌}
 use Rattle.std.specs.Prelude.{is_some}
 use Rattle.std.proofs.lemmas.List.{drop_more, drop_all, append-nil}
-use Rattle.std.proofs.lemmas.Bool.Decides.{nat_tests}
 use Rattle.cp_invlist.specs.Ranges.{in_range}
 use Rattle.cp_invlist.specs.declared.ranges.CodePointRange.{CodePointRange}
 use Rattle.cp_trie.specs.Conversion.{refused_from}
-use Rattle.cp_trie.specs.Faults.{fault_from, is_in_order}
 use Rattle.cp_trie.specs.Runs.{value_in}
 use Rattle.cp_trie.specs.declared.ranges.CodePointMapRange.{CodePointMapRange}
 use Rattle.cp_trie.proofs.CoverLemmas.{IsCover}
@@ -43,14 +41,6 @@ IsCover-converted_runs convert e i n [] none cover = cover
 IsCover-converted_runs convert e i n (r ∷ rs) none cover =
     let p = passed (convert r.value) (refused_from convert e (i + 1) rs) i none in
     rw p.1 (cover.0, cover.1, cover.2, IsCover-converted_runs convert e (i + 1) (r.range.end + 1) rs p.2 cover.3)
-
--- runs that cover have no fault
-pub no_fault-from_IsCover : {V : Type 0} (index n : ℕ) (rs : List (CodePointMapRange V)) → IsCover n rs → fault_from index n rs ≡ None
-no_fault-from_IsCover index n [] cover = grind (arith, nat_tests)
-no_fault-from_IsCover index n (r ∷ rs) cover =
-    let starts : (r.range.start == n) ≡ true = grind (arith, nat_tests) in
-    let order : is_in_order r ≡ true = grind (arith, nat_tests) in
-    rw (starts, order) (no_fault-from_IsCover (index + 1) (r.range.end + 1) rs cover.3)
 
 -- what is left from an index on begins with the run read there
 left_from : {V : Type 0} (rs : List (CodePointMapRange V)) (i : ℕ) (r : CodePointMapRange V) → i < length rs → r ≡ get_or rs i r → drop i rs ≡ r ∷ drop (i + 1) rs

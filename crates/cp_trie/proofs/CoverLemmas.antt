@@ -1,10 +1,11 @@
 -- Runs that cover the numbers from one on up to 10FFFF in order, and the values that they spell.
-use Rattle.std.proofs.Common.{◌≡◌, ℕ, ◌+◌, ◌<◌, ◌≤◌, Bool, true, false, cond, ◌==◌, Option, Some, None, List, [], ◌∷◌, refl, ap, ◌∙◌, arith}
+use Rattle.std.proofs.Common.{◌≡◌, ℕ, ◌+◌, ◌<◌, ◌≤◌, Bool, true, false, cond, ◌==◌, Option, Some, None, List, [], ◌∷◌, refl, sym, ap, ◌∙◌, arith}
 use Rattle.std.proofs.lemmas.Bool.Decides.{nat_tests}
 use Rattle.cp_invlist.specs.Ranges.{in_range}
 use Rattle.cp_invlist.specs.declared.ranges.CodePointRange.{CodePointRange}
 use Rattle.cp_trie.specs.Faults.{fault_from, is_in_order}
-use Rattle.cp_trie.specs.Runs.{value_in, AreRunsFrom}
+use Rattle.cp_trie.specs.Map.{CodePointMap, value_at}
+use Rattle.cp_trie.specs.Runs.{value_in, AreRunsFrom, AreMaximalRuns}
 use Rattle.cp_trie.specs.declared.ranges.CodePointMapRange.{CodePointMapRange}
 
 -- each run starts one past the end of the run before it, the first at this number, and the last ends at 10FFFF
@@ -60,8 +61,22 @@ Spells-value_in n [] e at agree cover = tt
 Spells-value_in n (r ∷ rs) e at agree cover =
     (λ c low high. agree c (omega arith) ∙ value_in-within r rs e c low high, Spells-value_in (r.range.end + 1) rs e at (λ c low. agree c (omega arith) ∙ value_in-behind r rs e c (omega arith)) cover.3)
 
+-- a map has the value of each of its runs at the numbers of that run
+pub Spells-runs : {V : Type 0} (eq : V → V → Bool) (m : CodePointMap V) (rs : List (CodePointMapRange V)) → rs ≡ m.runs → AreMaximalRuns eq (value_at m) rs → Spells (value_at m) rs
+Spells-runs {V} eq m rs same maximal =
+    let at : (c : ℕ) → 0 ≤ c → value_at m c ≡ value_in rs m.error_value c = λ c _. ap (λ (xs : List (CodePointMapRange V)). value_in xs m.error_value c) (sym same) in
+    Spells-value_in 0 rs m.error_value (value_at m) at (IsCover-from_runs eq (value_at m) 0 rs maximal)
+
 -- past 10FFFF runs that cover leave the error value
 pub value_in-past_end : {V : Type 0} (n : ℕ) (rs : List (CodePointMapRange V)) (e : V) (c : ℕ) → IsCover n rs → 0x10_FFFF < c → value_in rs e c ≡ e
 value_in-past_end n [] e c cover h = refl
 value_in-past_end n (r ∷ rs) e c cover h =
     value_in-behind r rs e c (omega arith) ∙ value_in-past_end (r.range.end + 1) rs e c cover.3 h
+
+-- runs that cover have no fault
+pub no_fault-from_IsCover : {V : Type 0} (index n : ℕ) (rs : List (CodePointMapRange V)) → IsCover n rs → fault_from index n rs ≡ None
+no_fault-from_IsCover index n [] cover = grind (arith, nat_tests)
+no_fault-from_IsCover index n (r ∷ rs) cover =
+    let starts : (r.range.start == n) ≡ true = grind (arith, nat_tests) in
+    let order : is_in_order r ≡ true = grind (arith, nat_tests) in
+    rw (starts, order) (no_fault-from_IsCover (index + 1) (r.range.end + 1) rs cover.3)

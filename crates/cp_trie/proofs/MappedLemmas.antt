@@ -1,14 +1,11 @@
 -- Walks over runs whose values are mapped as the walk meets them.
-use Rattle.std.proofs.Common.{◌≡◌, ℕ, zero, suc, ◌+◌, ◌<◌, ◌-◌, ◌≤◌, Bool, true, false, cond, Option, List, [], ◌∷◌, length, take, drop, get_or, refl, sym, ap, ap₂, subst, ◌∙◌, inl, inr, arith}
+use Rattle.std.proofs.Common.{◌≡◌, ℕ, zero, suc, ◌+◌, ◌<◌, ◌-◌, ◌≤◌, Bool, true, false, Option, List, [], ◌∷◌, length, take, drop, get_or, sym, subst, ◌∙◌, inl, inr, arith}
 use Rattle.std.proofs.lemmas.Bool.{cases_lt}
 use Rattle.std.proofs.lemmas.List.{get_or-drop, get_or_read, length-drop, take_all}
-use Rattle.std.specs.Iterator.{AlwaysYields}
-use Rattle.cp_trie.specs.Joined.{up_to, joined_from, joined}
-use Rattle.cp_trie.specs.Mapped.{TakesEach, AnswersWith, TakesRun, MappedStep}
-use Rattle.cp_trie.specs.Runs.{AreRunsFrom}
+use Rattle.std.specs.Iterator.{Drains}
+use Rattle.cp_trie.specs.Mapped.{TakesEach, TakesEachValue, IsFunctionOnEach, IsFunctionOnValues, KeepsMapping, AnswersWith, TakesRun, MappedStep, AreMappedRunsFrom}
 use Rattle.cp_trie.specs.declared.ranges.CodePointMapRange.{CodePointMapRange}
 use Rattle.cp_trie.proofs.CoverLemmas.{IsCover, Spells}
-use Rattle.cp_trie.proofs.RunsLemmas.{runs-joined}
 
 -- what holds of the answers at the runs before one holds with its own
 pub more_answers : {T U : Type 0} (post : T → U → Type 0) (test : U → Bool) (b : Bool) (rs : List (CodePointMapRange T)) (i : ℕ) (r : CodePointMapRange T) (u : U) → ((k : ℕ) (d : CodePointMapRange T) → k < i → AnswersWith post test b (get_or rs k d).value) → i < length rs → r ≡ get_or rs i r → post r.value u → test u ≡ b → (k : ℕ) (d : CodePointMapRange T) → k < i + 1 → AnswersWith post test b (get_or rs k d).value
@@ -37,35 +34,23 @@ TakesEach-tail {T} pre r rs rest split takes k d h =
 pub part-from : {X : Type 0} (rs : List X) (n : ℕ) → take (length rs - n) (drop n rs) ≡ drop n rs
 part-from rs n = take_all (length rs - n) (drop n rs) (omega (arith, length-drop n rs))
 
--- the runs with their values mapped
-abbrev pub runs_mapped : {T U : Type 0} → (T → U) → List (CodePointMapRange T) → List (CodePointMapRange U)
-runs_mapped f [] = []
-runs_mapped f (r ∷ rs) = record { range = r.range; value = f r.value } ∷ runs_mapped f rs
-
--- each answer at the value of a run is that of the function
-abbrev pub AnswersAs : {T U : Type 0} → (T → U → Type 0) → (T → U) → List (CodePointMapRange T) → Type 0
-AnswersAs {T} {U} post f rs =
-    (k : ℕ) (d : CodePointMapRange T) (u : U) → k < length rs → post (get_or rs k d).value u → u ≡ f (get_or rs k d).value
-
-AnswersAs-drop : {T U : Type 0} (post : T → U → Type 0) (f : T → U) (rs : List (CodePointMapRange T)) (n : ℕ) → AnswersAs post f rs → AnswersAs post f (drop n rs)
-AnswersAs-drop {T} post f rs n answers k d u h post_at =
+-- what a mapping keeps at the value of each run it keeps at those behind some of them
+IsFunctionOnEach-drop : {T U : Type 0} (post : T → U → Type 0) (rs : List (CodePointMapRange T)) (n : ℕ) → IsFunctionOnEach post rs → IsFunctionOnEach post (drop n rs)
+IsFunctionOnEach-drop {T} {U} post rs n one k d u w h =
     let within : n + k < length rs = omega (arith, length-drop n rs) in
-    let same : get_or (drop n rs) k d ≡ get_or rs (n + k) d = get_or-drop n rs k d in
-    let P : CodePointMapRange T → Type 0 = λ x. post x.value u in
-    answers (n + k) d u within (subst P same post_at) ∙ ap (λ x. f x.value) (sym same)
+    let P : CodePointMapRange T → Type 0 = λ x. post x.value u → post x.value w → u ≡ w in
+    subst P (sym (get_or-drop n rs k d)) (one (n + k) d u w within)
 
-IsCover-mapped : {T U : Type 0} (f : T → U) (n : ℕ) (rs : List (CodePointMapRange T)) → IsCover n rs → IsCover n (runs_mapped f rs)
-IsCover-mapped f n [] cover = cover
-IsCover-mapped f n (r ∷ rs) cover = (cover.0, cover.1, cover.2, IsCover-mapped f (r.range.end + 1) rs cover.3)
+IsFunctionOnEach-tail : {T U : Type 0} (post : T → U → Type 0) (r : CodePointMapRange T) (rs rest : List (CodePointMapRange T)) → rs ≡ r ∷ rest → IsFunctionOnEach post rs → IsFunctionOnEach post rest
+IsFunctionOnEach-tail {T} {U} post r rs rest split one k d u w h =
+    let P : List (CodePointMapRange T) → Type 0 = λ xs. IsFunctionOnEach post xs in
+    (subst P split one) (suc k) d u w (omega arith)
 
-Spells-mapped : {T U : Type 0} (f : T → U) (at : ℕ → T) (rs : List (CodePointMapRange T)) → Spells at rs → Spells (λ c. f (at c)) (runs_mapped f rs)
-Spells-mapped f at [] spells = tt
-Spells-mapped f at (r ∷ rs) spells = (λ c low high. ap f (spells.0 c low high), Spells-mapped f at rs spells.1)
+pub KeepsMapping-tail : {T U : Type 0} (pre : T → Type 0) (post : T → U → Type 0) (r : CodePointMapRange T) (rs rest : List (CodePointMapRange T)) → rs ≡ r ∷ rest → KeepsMapping pre post rs → KeepsMapping pre post rest
+KeepsMapping-tail pre post r rs rest split keeps = (TakesEach-tail pre r rs rest split keeps.0, IsFunctionOnEach-tail post r rs rest split keeps.1)
 
--- the mapped runs, joined, are the maximal runs of the mapped values
-pub runs-joined_mapped : {T U : Type 0} (eq : U → U → Bool) → ((x : U) → eq x x ≡ true) → (f : T → U) (at : ℕ → T) (rs : List (CodePointMapRange T)) → IsCover 0 rs → Spells at rs → AreRunsFrom eq (λ c. f (at c)) 0 (joined eq (runs_mapped f rs))
-runs-joined_mapped eq reflexive f at rs cover spells =
-    runs-joined eq reflexive (λ c. f (at c)) 0 (runs_mapped f rs) (IsCover-mapped f 0 rs cover) (Spells-mapped f at rs spells)
+pub KeepsMapping-drop : {T U : Type 0} (pre : T → Type 0) (post : T → U → Type 0) (rs : List (CodePointMapRange T)) (n : ℕ) → KeepsMapping pre post rs → KeepsMapping pre post (drop n rs)
+KeepsMapping-drop pre post rs n keeps = (TakesEach-drop pre rs n keeps.0, IsFunctionOnEach-drop post rs n keeps.1)
 
 -- the value of a run is that of a code point
 record IsHeld {T : Type 0} (at : ℕ → T) (v : T) : Type 0 where
@@ -80,78 +65,105 @@ IsHeld-run at n (r ∷ rs) zero d cover spells h =
 IsHeld-run at n (r ∷ rs) (suc k) d cover spells h = IsHeld-run at (r.range.end + 1) rs k d cover.3 spells.1 (omega arith)
 
 -- a mapping that may be called on the value of each code point may be called on that of each run
-pub TakesEach-from_values : {T : Type 0} (pre : T → Type 0) (at : ℕ → T) (rs : List (CodePointMapRange T)) → IsCover 0 rs → Spells at rs → ((c : ℕ) → c ≤ 0x10_FFFF → pre (at c)) → TakesEach pre rs
+pub TakesEach-from_values : {T : Type 0} (pre : T → Type 0) (at : ℕ → T) (rs : List (CodePointMapRange T)) → IsCover 0 rs → Spells at rs → TakesEachValue pre at → TakesEach pre rs
 TakesEach-from_values pre at rs cover spells callable k d h =
     let held = IsHeld-run at 0 rs k d cover spells h in subst pre (sym held.is) (callable held.c held.small)
 
--- one whose answer at the value of each code point is that of the function answers so at each run
-pub AnswersAs-from_values : {T U : Type 0} (post : T → U → Type 0) (f : T → U) (at : ℕ → T) (rs : List (CodePointMapRange T)) → IsCover 0 rs → Spells at rs → ((c : ℕ) (u w : U) → c ≤ 0x10_FFFF → post (at c) u → post (at c) w → u ≡ w) → ((c : ℕ) → c ≤ 0x10_FFFF → post (at c) (f (at c))) → AnswersAs post f rs
-AnswersAs-from_values {T} post f at rs cover spells determined answers k d u h post_at =
+-- one that answers by a function at the value of each code point does so at that of each run
+IsFunctionOnEach-from_values : {T U : Type 0} (post : T → U → Type 0) (at : ℕ → T) (rs : List (CodePointMapRange T)) → IsCover 0 rs → Spells at rs → IsFunctionOnValues post at → IsFunctionOnEach post rs
+IsFunctionOnEach-from_values {T} {U} post at rs cover spells one k d u w h =
     let held = IsHeld-run at 0 rs k d cover spells h in
-    let P : T → Type 0 = λ v. post v u in
-    determined held.c u (f (at held.c)) held.small (subst P held.is post_at) (answers held.c held.small) ∙ ap f (sym held.is)
+    let P : T → Type 0 = λ v. post v u → post v w → u ≡ w in
+    subst P (sym held.is) (one held.c u w held.small)
 
--- a run joined with the mapped runs behind it takes those at the front whose values are equal to its own
-front_joined : {T U : Type 0} (eq : U → U → Bool) (f : T → U) (start : ℕ) (v : U) (x : CodePointMapRange T) (xs : List (CodePointMapRange T)) (n : ℕ) (d : CodePointMapRange T) → n ≤ length xs → ((k : ℕ) (e : CodePointMapRange T) → k < n → eq v (f (get_or xs k e).value) ≡ true) → ((e : CodePointMapRange T) → n < length xs → eq v (f (get_or xs n e).value) ≡ false) → joined_from eq (record { range = record { start = start; end = x.range.end }; value = v }) (runs_mapped f xs) ≡ record { range = record { start = start; end = (get_or (x ∷ xs) n d).range.end }; value = v } ∷ joined eq (runs_mapped f (drop n xs))
-front_joined eq f start v x [] zero d within equal other = refl
-front_joined eq f start v x [] (suc n) d within equal other = absurd (omega arith)
-front_joined eq f start v x (y ∷ ys) zero d within equal other = rw (other y (omega arith)) refl
-front_joined eq f start v x (y ∷ ys) (suc n) d within equal other =
-    rw (equal 0 y (omega arith)) (front_joined eq f start v y ys n d (omega arith) (λ k e h. equal (suc k) e (omega arith)) (λ e h. other e (omega arith)))
+pub KeepsMapping-from_values : {T U : Type 0} (pre : T → Type 0) (post : T → U → Type 0) (at : ℕ → T) (rs : List (CodePointMapRange T)) → IsCover 0 rs → Spells at rs → TakesEachValue pre at → IsFunctionOnValues post at → KeepsMapping pre post rs
+KeepsMapping-from_values pre post at rs cover spells callable one = (TakesEach-from_values pre at rs cover spells callable, IsFunctionOnEach-from_values post at rs cover spells one)
 
--- what a step of the walk takes is the first of the joined mapped runs, and leaves the others
-pub record TakesJoined {T U : Type 0} (eq : U → U → Bool) (post : T → U → Type 0) (f : T → U) (rs : List (CodePointMapRange T)) (run : CodePointMapRange U) (rest : List (CodePointMapRange T)) : Type 0 where
-  pub first : joined eq (runs_mapped f rs) ≡ run ∷ joined eq (runs_mapped f rest)
-  pub shorter : length rest < length rs
-  pub answers : AnswersAs post f rest
+-- What a step takes, where the first run has an answer that passes the test: all numbers up to the end of the last run that passes
+-- have one, the number behind has one that doesn't pass, and the runs that are left cover what is behind.
+record TakesFront {T U : Type 0} (post : T → U → Type 0) (test : U → Bool) (at : ℕ → T) (n end : ℕ) (rest : List (CodePointMapRange T)) : Type 0 where
+  low : n ≤ end
+  high : end ≤ 0x10_FFFF
+  inside : (c : ℕ) → n ≤ c → c ≤ end → AnswersWith post test true (at c)
+  behind : end < 0x10_FFFF → AnswersWith post test false (at (end + 1))
+  cover : IsCover (end + 1) rest
+  spells : Spells at rest
 
-pub TakesJoined-from_step : {T U : Type 0} (eq : U → U → Bool) (post : T → U → Type 0) (f : T → U) (rs : List (CodePointMapRange T)) (run : CodePointMapRange U) (rest : List (CodePointMapRange T)) → AnswersAs post f rs → TakesRun eq post rs run rest → TakesJoined eq post f rs run rest
-TakesJoined-from_step eq post f [] run rest answers step = absurd step
-TakesJoined-from_step {T} {U} eq post f (r ∷ rs) run rest answers step =
-    let n = step.2 in
-    let front = step.3 in
-    let value : run.value ≡ f r.value = answers 0 r run.value (omega arith) step.1 in
-    let equal : (k : ℕ) (e : CodePointMapRange T) → k < n → eq run.value (f (get_or rs k e).value) ≡ true = λ k e h. let a = front.1 k e h in ap (eq run.value) (sym (answers (suc k) e a.0 (omega (arith, front.0)) a.1)) ∙ a.2 in
-    let other : (e : CodePointMapRange T) → n < length rs → eq run.value (f (get_or rs n e).value) ≡ false = λ e h. let a = front.2 e h in ap (eq run.value) (sym (answers (suc n) e a.0 (omega arith) a.1)) ∙ a.2 in
-    let joins = front_joined eq f r.range.start run.value r rs n r front.0 equal other in
-    let begins : joined eq (runs_mapped f (r ∷ rs)) ≡ joined_from eq (record { range = record { start = r.range.start; end = r.range.end }; value = run.value }) (runs_mapped f rs) = ap (λ v. joined_from eq (record { range = r.range; value = v }) (runs_mapped f rs)) (sym value) in
-    let same : record { range = record { start = r.range.start; end = (get_or (r ∷ rs) n r).range.end }; value = run.value } ≡ run = ap₂ (λ (s e : ℕ). record { range = record { start = s; end = e }; value = run.value }) (sym step.0) (sym step.4) in
+TakesFront-from : {T U : Type 0} (post : T → U → Type 0) (test : U → Bool) (at : ℕ → T) (m : ℕ) (x : CodePointMapRange T) (xs : List (CodePointMapRange T)) (n : ℕ) (d : CodePointMapRange T) → IsCover m (x ∷ xs) → Spells at (x ∷ xs) → AnswersWith post test true x.value → n ≤ length xs → ((k : ℕ) (e : CodePointMapRange T) → k < n → AnswersWith post test true (get_or xs k e).value) → ((e : CodePointMapRange T) → n < length xs → AnswersWith post test false (get_or xs n e).value) → TakesFront post test at m (get_or (x ∷ xs) n d).range.end (drop n xs)
+TakesFront-from {T} {U} post test at m x [] zero d cover spells here within passes stops =
     record {
-      first = begins ∙ (joins ∙ ap₂ (λ x y. x ∷ joined eq (runs_mapped f y)) same (sym step.5));
-      shorter = omega (arith, ap length step.5, length-drop n rs);
-      answers = let P : List (CodePointMapRange T) → Type 0 = λ xs. AnswersAs post f xs in subst P (sym step.5) (AnswersAs-drop post f rs n (λ k d u h p. answers (suc k) d u (omega arith) p));
+      low = cover.1;
+      high = cover.2;
+      inside = λ c low high. let P : T → Type 0 = λ v. AnswersWith post test true v in subst P (sym (spells.0 c (omega arith) high)) here;
+      behind = λ h. absurd (omega arith);
+      cover = cover.3;
+      spells = tt;
+    }
+TakesFront-from post test at m x [] (suc n) d cover spells here within passes stops = absurd (omega arith)
+TakesFront-from {T} {U} post test at m x (y ∷ ys) zero d cover spells here within passes stops =
+    record {
+      low = cover.1;
+      high = cover.2;
+      inside = λ c low high. let P : T → Type 0 = λ v. AnswersWith post test true v in subst P (sym (spells.0 c (omega arith) high)) here;
+      behind = λ h. let P : T → Type 0 = λ v. AnswersWith post test false v in subst P (sym (spells.1.0 (x.range.end + 1) (omega arith) (omega arith))) (stops y (omega arith));
+      cover = cover.3;
+      spells = spells.1;
+    }
+TakesFront-from {T} {U} post test at m x (y ∷ ys) (suc n) d cover spells here within passes stops =
+    let more = TakesFront-from post test at (x.range.end + 1) y ys n d cover.3 spells.1 (passes 0 y (omega arith)) (omega arith) (λ k e h. passes (suc k) e (omega arith)) (λ e h. stops e (omega arith)) in
+    record {
+      low = omega (arith, more.low, cover.1);
+      high = more.high;
+      inside = λ c low high. elim (cases_lt x.range.end c) as (λ _. AnswersWith post test true (at c)) [
+        | inl lt ↦ more.inside c (omega arith) high
+        | inr le ↦ let P : T → Type 0 = λ v. AnswersWith post test true v in subst P (sym (spells.0 c (omega arith) le)) here
+      ];
+      behind = more.behind;
+      cover = more.cover;
+      spells = more.spells;
     }
 
--- joined runs begin with a run
-joined_from-cons : {V : Type 0} (eq : V → V → Bool) (r : CodePointMapRange V) (ss : List (CodePointMapRange V)) → (y : CodePointMapRange V) × (ys : List (CodePointMapRange V)) × (joined_from eq r ss ≡ y ∷ ys)
-joined_from-cons eq r [] = (r, [], refl)
-joined_from-cons eq r (s ∷ ss) =
-    elim (eq r.value s.value) as (λ b. (y : CodePointMapRange _) × (ys : List (CodePointMapRange _)) × (cond b (joined_from eq (up_to r s) ss) (r ∷ joined_from eq s ss) ≡ y ∷ ys))
-    [ true ↦ joined_from-cons eq (up_to r s) ss | false ↦ (r, joined_from eq s ss, refl) ]
+-- what one step takes: it begins at the number, with an answer of it
+record TakesFirst {T U : Type 0} (eq : U → U → Bool) (post : T → U → Type 0) (at : ℕ → T) (n : ℕ) (run : CodePointMapRange U) (rest : List (CodePointMapRange T)) : Type 0 where
+  starts : run.range.start ≡ n
+  value : post (at n) run.value
+  front : TakesFront post (eq run.value) at n run.range.end rest
+
+TakesFirst-from_step : {T U : Type 0} (eq : U → U → Bool) → ((u : U) → eq u u ≡ true) → (post : T → U → Type 0) (at : ℕ → T) (n : ℕ) (rs : List (CodePointMapRange T)) (run : CodePointMapRange U) (rest : List (CodePointMapRange T)) → IsCover n rs → Spells at rs → TakesRun eq post rs run rest → TakesFirst eq post at n run rest
+TakesFirst-from_step eq reflexive post at n [] run rest cover spells step = absurd step
+TakesFirst-from_step {T} {U} eq reflexive post at n (r ∷ rs) run rest cover spells step =
+    let P : T → Type 0 = λ v. post v run.value in
+    let taken = TakesFront-from post (eq run.value) at n r rs step.2 r cover spells (run.value, step.1, reflexive run.value) step.3.0 step.3.1 step.3.2 in
+    let Q : ℕ → Type 0 = λ e. TakesFront post (eq run.value) at n e (drop step.2 rs) in
+    let R : List (CodePointMapRange T) → Type 0 = λ xs. TakesFront post (eq run.value) at n run.range.end xs in
+    record {
+      starts = step.0 ∙ cover.0;
+      value = subst P (sym (spells.0 n (omega arith) (omega arith))) step.1;
+      front = subst R (sym step.5) (subst Q (sym step.4) taken);
+    }
 
 -- the steps of a walk that keeps its mapping
 abbrev pub walk_steps : {S M T U : Type 0} → (U → U → Bool) → (M → T → U → Type 0) → (S → List (CodePointMapRange T)) → (S → M) → S → Option (CodePointMapRange U) → S → Type 0
 walk_steps eq post left callee s r t = MappedStep eq (post (callee s)) (left s) r (left t) × (callee t ≡ callee s)
 
--- the walk gives the joined mapped runs, one after another, and then nothing
-pub walk_yields : {S M T U : Type 0} (eq : U → U → Bool) (post : M → T → U → Type 0) (left : S → List (CodePointMapRange T)) (callee : S → M) (m : M) (f : T → U) (fuel : ℕ) (s : S) (rs : List (CodePointMapRange T)) → left s ≡ rs → callee s ≡ m → length rs ≤ fuel → AnswersAs (post m) f rs → AlwaysYields (walk_steps eq post left callee) (λ r. r) s (joined eq (runs_mapped f rs))
-walk_yields {S} {M} {T} {U} eq post left callee m f fuel s [] left_is callee_is short answers =
-    λ x t step.
-    let P : List (CodePointMapRange T) → Type 0 = λ rs. TakesRun eq (post (callee s)) rs x (left t) in
-    subst P left_is step.0
-walk_yields eq post left callee m f zero s (r ∷ rs) left_is callee_is short answers = absurd (omega arith)
-walk_yields {S} {M} {T} {U} eq post left callee m f (suc fuel) s (r ∷ rs) left_is callee_is short answers =
-    let begins = joined_from-cons eq (record { range = r.range; value = f r.value }) (runs_mapped f rs) in
-    let Q : List (CodePointMapRange U) → Type 0 = λ ys. AlwaysYields (walk_steps eq post left callee) (λ y. y) s ys in
-    subst Q (sym begins.2) (
-      λ t step. let gone : r ∷ rs ≡ [] = sym left_is ∙ step.0.0 in cc,
-      λ x t step.
-          let P : List (CodePointMapRange T) → M → Type 0 = λ xs q. TakesRun eq (post q) xs x (left t) in
-          let at_runs : P (r ∷ rs) (callee s) = subst (λ (xs : List (CodePointMapRange T)). P xs (callee s)) left_is step.0 in
-          let taken = TakesJoined-from_step eq (post m) f (r ∷ rs) x (left t) answers (subst (λ (q : M). P (r ∷ rs) q) callee_is at_runs) in
-          let all : begins.0 ∷ begins.1 ≡ x ∷ joined eq (runs_mapped f (left t)) = sym begins.2 ∙ taken.first in
-          let here : x ≡ begins.0 = cc in
-          let behind : joined eq (runs_mapped f (left t)) ≡ begins.1 = cc in
-          let R : List (CodePointMapRange U) → Type 0 = λ ys. AlwaysYields (walk_steps eq post left callee) (λ y. y) t ys in
-          (here, subst R behind (walk_yields eq post left callee m f fuel t (left t) refl (step.1 ∙ callee_is) (omega (arith, taken.shorter)) taken.answers)),
+-- what a walk gives before it ends are the maximal runs of the mapped values
+pub walk_gives : {S M T U : Type 0} (eq : U → U → Bool) → ((u : U) → eq u u ≡ true) → (post : M → T → U → Type 0) (left : S → List (CodePointMapRange T)) (callee : S → M) (m : M) (at : ℕ → T) (n : ℕ) (s : S) (ys : List (CodePointMapRange U)) → callee s ≡ m → IsCover n (left s) → Spells at (left s) → Drains (walk_steps eq post left callee) s ys → AreMappedRunsFrom eq (post m) at n ys
+walk_gives {S} {M} {T} {U} eq reflexive post left callee m at n s [] callee_is cover spells drains =
+    let P : S → Type 0 = λ t. left t ≡ [] in
+    let none : left s ≡ [] = subst P (sym drains.1.1) drains.1.2.0.0 in
+    let Q : List (CodePointMapRange T) → Type 0 = λ xs. IsCover n xs in
+    subst Q none cover
+walk_gives {S} {M} {T} {U} eq reflexive post left callee m at n s (y ∷ ys) callee_is cover spells drains =
+    let t = drains.1.1.0 in
+    let step = drains.1.1.1 in
+    let P : M → Type 0 = λ q. TakesRun eq (post q) (left s) y (left t) in
+    let first = TakesFirst-from_step eq reflexive (post m) at n (left s) y (left t) cover spells (subst P callee_is step.0) in
+    let front = first.front in (
+      first.starts,
+      front.low,
+      front.high,
+      first.value,
+      front.inside,
+      front.behind,
+      walk_gives eq reflexive post left callee m at (y.range.end + 1) t ys (step.1 ∙ callee_is) front.cover front.spells (drains.0, (drains.1.0, drains.1.1.2, drains.1.2)),
     )

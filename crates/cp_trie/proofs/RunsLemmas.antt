@@ -106,3 +106,14 @@ pub runs-of_joined : {V : Type 0} (eq : V → V → Bool) → ((x : V) → eq x 
 runs-of_joined eq reflexive exact rs e cover =
     let at = value_in (joined eq rs) e in
     runs-joined eq reflexive at 0 rs cover (Spells-value_in 0 rs e at (λ c _. value_in-joined eq exact 0 rs e c cover) cover)
+
+IsCover-joined_from : {V : Type 0} (eq : V → V → Bool) (n : ℕ) (r : CodePointMapRange V) (ss : List (CodePointMapRange V)) → IsCover n (r ∷ ss) → IsCover n (joined_from eq r ss)
+IsCover-joined_from eq n r [] cover = cover
+IsCover-joined_from eq n r (s ∷ ss) cover =
+    elim (eq r.value s.value) as (λ b. IsCover n (cond b (joined_from eq (up_to r s) ss) (r ∷ joined_from eq s ss)))
+    [ true ↦ IsCover-joined_from eq n (up_to r s) ss (cover.0, omega arith, cover.3.2, cover.3.3) | false ↦ (cover.0, cover.1, cover.2, IsCover-joined_from eq (r.range.end + 1) s ss cover.3) ]
+
+-- joining neighbours leaves runs that cover
+pub IsCover-joined : {V : Type 0} (eq : V → V → Bool) (n : ℕ) (rs : List (CodePointMapRange V)) → IsCover n rs → IsCover n (joined eq rs)
+IsCover-joined eq n [] cover = cover
+IsCover-joined eq n (r ∷ rs) cover = IsCover-joined_from eq n r rs cover

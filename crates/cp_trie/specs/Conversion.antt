@@ -1,5 +1,7 @@
 -- The values of a map, packed and unpacked as values of another type.
-use Rattle.std.specs.Prelude.{◌≡◌, ℕ, ◌+◌, Option, Some, None, is_some, List, [], ◌∷◌, if◌then◌else◌}
+use Rattle.std.specs.Prelude.{◌≡◌, ℕ, ◌+◌, Bool, Option, Some, None, is_some, Result, MatchResult, List, [], ◌∷◌, if◌then◌else◌}
+use Rattle.cp_trie.specs.Map.{CodePointMap, value_at}
+use Rattle.cp_trie.specs.Runs.{AreMaximalRuns}
 use Rattle.cp_trie.specs.declared.ranges.CodePointMapRange.{CodePointMapRange}
 use Rattle.cp_trie.specs.declared.error.ConvertError.{ConvertError}
 use Rattle.cp_trie.specs.declared.error.ConvertError.TheVariants.{Value, NoMemory}
@@ -23,3 +25,14 @@ first_refused convert error rs = refused_from convert error 0 rs
 abbrev pub NamesRefused : ConvertError → Option ℕ → Type 0
 NamesRefused (Value index) refused = refused ≡ Some index
 NamesRefused NoMemory refused = Unit {0}
+
+-- the second map has at each number what the value of the first converts to
+abbrev pub ConvertsTo : {V W : Type 0} → (V → Option W) → CodePointMap V → CodePointMap W → Type 0
+ConvertsTo convert old new = (c : ℕ) → convert (value_at old c) ≡ Some (value_at new c)
+
+-- The answer is a map only where each value of the map converts, and else it names the first that does not, counted along the
+-- maximal runs.
+abbrev pub NamesFirstRefused : {V W M : Type 0} → (V → V → Bool) → (V → Option W) → CodePointMap V → Result M ConvertError → Type 0
+NamesFirstRefused {V} eq convert m result =
+    (rs : List (CodePointMapRange V)) → AreMaximalRuns eq (value_at m) rs →
+    MatchResult result (λ _. first_refused convert m.error_value rs ≡ None) (λ e. NamesRefused e (first_refused convert m.error_value rs))

@@ -1,7 +1,12 @@
 -- Runs of numbers with one value each, the values that a list of them spells, and the maximal runs of a map.
-use Rattle.std.specs.Prelude.{◌≡◌, ℕ, ◌+◌, ◌<◌, ◌≤◌, Bool, true, false, List, [], ◌∷◌, if◌then◌else◌}
+use Rattle.std.specs.Prelude.{◌≡◌, ℕ, ◌+◌, ◌<◌, ◌≤◌, Bool, true, false, Option, Some, None, List, [], ◌∷◌, if◌then◌else◌}
 use Rattle.cp_invlist.specs.Ranges.{in_range}
 use Rattle.cp_trie.specs.declared.ranges.CodePointMapRange.{CodePointMapRange}
+
+-- the first run that holds a number
+abbrev pub run_at : {V : Type 0} → List (CodePointMapRange V) → ℕ → Option (CodePointMapRange V)
+run_at [] c = None
+run_at (r ∷ rs) c = if in_range r.range c then Some r else run_at rs c
 
 -- the value at a number: that of the first run that holds it, and the error value where none does
 abbrev pub value_in : {V : Type 0} → List (CodePointMapRange V) → V → ℕ → V

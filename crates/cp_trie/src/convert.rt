@@ -1,9 +1,6 @@
 //! The conversion of a map to another type of values.
-ghost use Rattle.std.specs.Prelude.{◌≡◌, ℕ, Some, None, List, IfOk, MatchResult};
-ghost use Rattle.cp_trie.specs.Conversion.{conversion, first_refused, NamesRefused};
-ghost use Rattle.cp_trie.specs.Map.{value_at};
-ghost use Rattle.cp_trie.specs.Runs.{AreMaximalRuns};
-ghost use Rattle.cp_trie.specs.declared.ranges.CodePointMapRange.{CodePointMapRange};
+ghost use Rattle.std.specs.Prelude.{◌≡◌, Some, IfOk};
+ghost use Rattle.cp_trie.specs.Conversion.{conversion, ConvertsTo, NamesFirstRefused};
 
 use crate::error::ConvertError;
 use crate::ranges::CodePointMapRange;
@@ -19,21 +16,21 @@ impl<T: TrieValue> CodePointTrie<T> {
         self,
         alloc: Global,
     ) -> Result<CodePointTrie<P>, ConvertError>
-        ensures values { IfOk result (λ map. (c : ℕ) → conversion T.packed P.unpacked (value_at self c) ≡ Some (value_at map c)) }
+        ensures values { IfOk result (λ map. ConvertsTo (conversion T.packed P.unpacked) self map) }
         ensures past_end { IfOk result (λ map. conversion T.packed P.unpacked self.error_value ≡ Some map.error_value) }
-        ensures refusal { (rs : List (CodePointMapRange T)) → AreMaximalRuns T.eq (value_at self) rs → MatchResult result (λ _. first_refused (conversion T.packed P.unpacked) self.error_value rs ≡ None) (λ e. NamesRefused e (first_refused (conversion T.packed P.unpacked) self.error_value rs)) }
+        ensures refusal { NamesFirstRefused T.eq (conversion T.packed P.unpacked) self result }
     {
         let mut runs = Vec::new(alloc);
-        for (index, run) in self.runs.iter().enumerate() {
+        for (index, run) in self.runs().iter().enumerate() {
             let Some(value) = converted(run.value) else {
                 return Err(ConvertError::Value { index });
             };
             let range = run.range;
             runs.push(CodePointMapRange { range, value })?;
         }
-        let Some(error_value) = converted(self.error_value) else {
+        let Some(error_value) = converted(self.error_value()) else {
             return Err(ConvertError::Value {
-                index: self.runs.len(),
+                index: self.runs().len(),
             });
         };
         Ok(CodePointTrie::from_cover(alloc, &runs, error_value)?)

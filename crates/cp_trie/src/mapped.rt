@@ -1,7 +1,7 @@
 //! The walk over the maximal runs of mapped values.
 ghost use Rattle.std.specs.Prelude.{◌≡◌, length};
 ghost use Rattle.std.specs.Iterator.{at_most};
-ghost use Rattle.cp_trie.specs.Mapped.{TakesEach, IsPassingFront, MappedStep};
+ghost use Rattle.cp_trie.specs.Mapped.{TakesEach, KeepsMapping, IsPassingFront, MappedStep};
 
 use crate::ranges::CodePointMapRange;
 use cp_invlist::CodePointRange;
@@ -32,7 +32,7 @@ impl<'a, T, U, F> TrieRangesMapped<'a, T, U, F> {
 impl<T: Copy, U: Copy + Eq, F: Fn(T) -> U> Iterator for TrieRangesMapped<'_, T, U, F> {
     type Item = CodePointMapRange<U>;
 
-    ghost can_next = { λ s. TakesEach (F.pre s.map) s.runs.now };
+    ghost can_next = { λ s. KeepsMapping (F.pre s.map) (F.post s.map) s.runs.now };
 
     ghost next_gives = { λ s r t. MappedStep U.eq (F.post s.map) s.runs.now r t.runs.now × (t.map ≡ s.map) };
 

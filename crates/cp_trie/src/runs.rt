@@ -1,17 +1,63 @@
-//! Lists of runs: their first fault, and neighbours of equal value joined.
-ghost use Rattle.std.specs.Prelude.{◌≡◌, IfOk};
+//! The runs of a map.
+ghost use Rattle.std.specs.Prelude.{◌≡◌, None, IfOk};
 ghost use Rattle.cp_trie.specs.Faults.{first_fault as fault_of};
 ghost use Rattle.cp_trie.specs.Joined.{joined as join_of};
 
 use crate::error::TrieError;
 use crate::ranges::CodePointMapRange;
+use cp_invlist::LAST_CODE_POINT;
 use std::alloc::{AllocError, Global};
+use std::marker::Model;
 
-/// The last code point.
-const LAST: u32 = 0x10_FFFF;
+/// Runs that cover 0 to 10FFFF in order. A contract sees them as their list.
+#[derive(Drop)]
+pub(crate) struct Runs<T> {
+    runs: Vec<CodePointMapRange<T>>,
+}
+
+impl<T> Model for Runs<T> {
+    ghost use Rattle.std.specs.Prelude.{◌≡◌, None, List};
+    ghost use Rattle.cp_trie.specs.Faults.{first_fault};
+    ghost use Rattle.cp_trie.specs.declared.ranges.CodePointMapRange.{CodePointMapRange};
+
+    ghost Value = { List (CodePointMapRange T) };
+
+    ghost view = { λ s. s.runs.items };
+
+    ghost invariant = { λ s. first_fault s.runs.items ≡ None };
+}
+
+impl<T: Copy> Runs<T> {
+    ghost use Rattle.std.specs.Prelude.{◌≡◌, IfOk, option_map};
+    ghost use Rattle.cp_trie.specs.Runs.{run_at};
+
+    /// The runs in order.
+    pub(crate) fn as_slice(&self) -> &[CodePointMapRange<T>]
+        ensures { result.now ≡ self.now }
+    {
+        &self.runs
+    }
+
+    /// The run that holds the number, found by binary search. `None` for a number past 10FFFF.
+    pub(crate) fn run_at(&self, c: u32) -> Option<&CodePointMapRange<T>>
+        ensures { option_map (λ run. run.now) result ≡ run_at self.now c }
+    {
+        self.runs
+            .get(self.runs.partition_point(|run| run.range.end < c))
+    }
+
+    /// The same runs.
+    pub(crate) fn copy(&self, alloc: Global) -> Result<Runs<T>, AllocError>
+        ensures { IfOk result (λ runs. runs ≡ self.now) }
+    {
+        Ok(Runs {
+            runs: Vec::from_slice(alloc, &self.runs)?,
+        })
+    }
+}
 
 /// The first fault of runs that are to cover 0 to 10FFFF in order, if there is one.
-pub fn first_fault<T: Copy>(runs: &[CodePointMapRange<T>]) -> Option<TrieError>
+pub(crate) fn first_fault<T: Copy>(runs: &[CodePointMapRange<T>]) -> Option<TrieError>
     ensures { result ≡ fault_of runs.now }
 {
     let mut next = 0;
@@ -20,12 +66,12 @@ pub fn first_fault<T: Copy>(runs: &[CodePointMapRange<T>]) -> Option<TrieError>
         if range.start != next {
             return Some(TrieError::Gap { index });
         }
-        if range.end < range.start || LAST < range.end {
+        if range.end < range.start || LAST_CODE_POINT < range.end {
             return Some(TrieError::Order { index });
         }
         next = range.end + 1;
     }
-    if next == LAST + 1 {
+    if next == LAST_CODE_POINT + 1 {
         None
     } else {
         Some(TrieError::Gap { index: runs.len() })
@@ -33,7 +79,20 @@ pub fn first_fault<T: Copy>(runs: &[CodePointMapRange<T>]) -> Option<TrieError>
 }
 
 /// The runs with neighbours of equal value joined.
-pub fn joined<T: Copy + Eq>(
+pub(crate) fn joined<T: Copy + Eq>(
+    alloc: Global,
+    runs: &[CodePointMapRange<T>],
+) -> Result<Runs<T>, AllocError>
+    requires { fault_of runs.now ≡ None }
+    ensures { IfOk result (λ joined. joined ≡ join_of T.eq runs.now) }
+{
+    Ok(Runs {
+        runs: joined_list(alloc, runs)?,
+    })
+}
+
+/// The list of the runs with neighbours of equal value joined.
+fn joined_list<T: Copy + Eq>(
     alloc: Global,
     runs: &[CodePointMapRange<T>],
 ) -> Result<Vec<CodePointMapRange<T>>, AllocError>

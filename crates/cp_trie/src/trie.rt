@@ -1,16 +1,17 @@
 //! The map: its runs, and what it answers.
-ghost use Rattle.std.specs.Prelude.{◌≡◌, ℕ, ◌<◌, ◌≤◌, ◌&&◌, [], List, Some, None, MatchOption, IfErr, IfOk, OnOk};
-ghost use Rattle.std.specs.Iterator.{IsFinite, AlwaysYields};
-ghost use Rattle.cp_invlist.specs.InversionList.{contains, is_code_point};
-ghost use Rattle.cp_trie.specs.Map.{value_at};
+ghost use Rattle.std.specs.Prelude.{◌≡◌, ℕ, ◌<◌, List, None, IfOk};
+ghost use Rattle.std.specs.Iterator.{IsFinite, Drains};
+ghost use Rattle.cp_invlist.specs.InversionList.{contains};
+ghost use Rattle.cp_trie.specs.Map.{value_at, has_value};
+ghost use Rattle.cp_trie.specs.Mapped.{TakesEachValue, IsFunctionOnValues, AreMappedRuns};
 ghost use Rattle.cp_trie.specs.Runs.{value_in, AreMaximalRuns};
-ghost use Rattle.cp_trie.specs.Faults.{first_fault};
+ghost use Rattle.cp_trie.specs.Faults.{first_fault, AnswersFault};
 ghost use Rattle.cp_trie.specs.declared.ranges.CodePointMapRange.{CodePointMapRange};
 
 use crate::error::TrieError;
 use crate::mapped::TrieRangesMapped;
 use crate::ranges::{CodePointMapRange, TrieRanges};
-use crate::runs::{first_fault, joined};
+use crate::runs::{Runs, first_fault, joined};
 use crate::value::TrieValue;
 use cp_invlist::{CodePointInversionList, CodePointInversionListBuilder, NoMemory};
 use std::alloc::{AllocError, Global};
@@ -20,8 +21,8 @@ use std::marker::Model;
 /// sees it as its maximal runs and that value, and speaks of the value at each number.
 #[derive(Drop)]
 pub struct CodePointTrie<T: TrieValue> {
-    pub(crate) runs: Vec<CodePointMapRange<T>>,
-    pub(crate) error_value: T,
+    runs: Runs<T>,
+    error_value: T,
 }
 
 impl<T: TrieValue> Model for CodePointTrie<T> {
@@ -30,9 +31,9 @@ impl<T: TrieValue> Model for CodePointTrie<T> {
 
     ghost Value = { CodePointMap T };
 
-    ghost view = { λ s. record { runs = s.runs.items; error_value = s.error_value } };
+    ghost view = { λ s. record { runs = s.runs; error_value = s.error_value } };
 
-    ghost invariant = { λ s. AreMaximalRuns T.eq (value_in s.runs.items s.error_value) s.runs.items };
+    ghost invariant = { λ s. AreMaximalRuns T.eq (value_in s.runs s.error_value) s.runs };
 }
 
 impl<T: TrieValue> CodePointTrie<T> {
@@ -47,7 +48,7 @@ impl<T: TrieValue> CodePointTrie<T> {
     ) -> Result<CodePointTrie<T>, TrieError>
         ensures values { IfOk result (λ map. (c : ℕ) → value_at map c ≡ value_in runs.items error_value c) }
         ensures past_end { IfOk result (λ map. map.error_value ≡ error_value) }
-        ensures faults { MatchOption (first_fault runs.items) (IfErr result (λ e. e ≡ TrieError.NoMemory)) (λ e. result ≡ Err e) }
+        ensures faults { AnswersFault runs.items result }
     {
         if let Some(fault) = first_fault(&runs) {
             return Err(fault);
@@ -74,8 +75,7 @@ impl<T: TrieValue> CodePointTrie<T> {
         ensures value { result ≡ value_at self.now c }
         ensures past_end { 0x10_FFFF < c → result ≡ self.now.error_value }
     {
-        let index = self.runs.partition_point(|run| run.range.end < c);
-        match self.runs.get(index) {
+        match self.runs.run_at(c) {
             Some(run) => run.value,
             None => self.error_value,
         }
@@ -86,6 +86,14 @@ impl<T: TrieValue> CodePointTrie<T> {
         ensures { result ≡ value_at self.now c }
     {
         self.get32(u32::from(c))
+    }
+
+    /// The maximal runs.
+    pub(crate) fn runs(&self) -> &[CodePointMapRange<T>]
+        ensures runs { result.now ≡ self.now.runs }
+        ensures maximal { AreMaximalRuns T.eq (value_at self.now) result.now }
+    {
+        self.runs.as_slice()
     }
 
     /// The value of each number past 10FFFF.
@@ -101,7 +109,7 @@ impl<T: TrieValue> CodePointTrie<T> {
         ensures maximal { AreMaximalRuns T.eq (value_at self.now) result }
         ensures only { (rs : List (CodePointMapRange T)) → AreMaximalRuns T.eq (value_at self.now) rs → rs ≡ result }
     {
-        TrieRanges::new(&self.runs)
+        TrieRanges::new(self.runs())
     }
 
     /// The maximal runs of code points whose mapped values are equal by `==`, in order, each with the mapped value of
@@ -111,14 +119,16 @@ impl<T: TrieValue> CodePointTrie<T> {
         &self,
         map: F,
     ) -> TrieRangesMapped<'_, T, U, F>
-        requires callable { (c : ℕ) → c ≤ 0x10_FFFF → F.pre map (value_at self.now c) }
-        requires determined { (c : ℕ) (u w : U) → c ≤ 0x10_FFFF → F.post map (value_at self.now c) u → F.post map (value_at self.now c) w → u ≡ w }
+        requires callable { TakesEachValue (F.pre map) (value_at self.now) }
+        requires determined { IsFunctionOnValues (F.post map) (value_at self.now) }
         ensures can_next { ⟦<TrieRangesMapped<'static, T, U, F> as Iterator>⟧.can_next result }
         ensures ends { IsFinite (⟦<TrieRangesMapped<'static, T, U, F> as Iterator>⟧.remaining result) }
-        // the walk gives the maximal runs of the mapped values, one after another, and then nothing
-        ensures maximal { (f : T → U) → ((c : ℕ) → c ≤ 0x10_FFFF → F.post map (value_at self.now c) (f (value_at self.now c))) → (rs : List (CodePointMapRange U)) × AreMaximalRuns U.eq (λ c. f (value_at self.now c)) rs × AlwaysYields ⟦<TrieRangesMapped<'static, T, U, F> as Iterator>⟧.next_gives (λ run. run) result rs }
+        // what a walk gives before it ends are the maximal runs of the mapped values
+        ensures maximal { (rs : List (CodePointMapRange U)) →
+            Drains ⟦<TrieRangesMapped<'static, T, U, F> as Iterator>⟧.next_gives result rs →
+            AreMappedRuns U.eq (F.post map) (value_at self.now) rs }
     {
-        TrieRangesMapped::new(&self.runs, map)
+        TrieRangesMapped::new(self.runs(), map)
     }
 
     /// The code points with the value, gathered in one pass over the runs.
@@ -127,10 +137,10 @@ impl<T: TrieValue> CodePointTrie<T> {
         alloc: Global,
         value: T,
     ) -> Result<CodePointInversionList, NoMemory>
-        ensures { IfOk result (λ set. (c : ℕ) → contains set c ≡ (is_code_point c && T.eq (value_at self.now c) value)) }
+        ensures { IfOk result (λ set. (c : ℕ) → contains set c ≡ has_value T.eq self.now value c) }
     {
         let mut builder = CodePointInversionListBuilder::new(alloc);
-        for run in &self.runs {
+        for run in self.runs() {
             if run.value == value {
                 builder.add_range32(run.range)?;
             }
@@ -143,7 +153,7 @@ impl<T: TrieValue> CodePointTrie<T> {
         ensures { IfOk result (λ map. map ≡ self.now) }
     {
         Ok(CodePointTrie {
-            runs: Vec::from_slice(alloc, &self.runs)?,
+            runs: self.runs.copy(alloc)?,
             error_value: self.error_value,
         })
     }

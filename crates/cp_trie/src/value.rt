@@ -16,7 +16,9 @@ pub trait TrieValue: Copy + Eq {
 
     /// The value that the number unpacks to. A refusal carries the number.
     fn try_from_u32(i: u32) -> Result<Self, ValueError>
-        ensures { MatchResult result (λ value. unpacked i ≡ Some value) (λ error. (unpacked i ≡ None) × (error.value ≡ i)) };
+        ensures { MatchResult result
+            (λ value. unpacked i ≡ Some value)
+            (λ error. (unpacked i ≡ None) × (error.value ≡ i)) };
 
     /// The number that the value packs to.
     fn to_u32(self) -> u32

@@ -1,6 +1,6 @@
 use Rattle.std.proofs.Common.{◌≡◌, ◌++◌, drop}
 use Rattle.cp_trie.specs.Joined.{joined_from, joined}
-use Rattle.cp_trie.proofs.runs.joined.Given as goal
+use Rattle.cp_trie.proofs.runs.joined_list.Given as goal
 
 -- those that are done, and those that the pending run and the rest make, are those of all runs
 abbrev pub invariant-loop-run : goal.invariant-loop-run
