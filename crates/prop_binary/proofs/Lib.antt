@@ -1,2 +1,3 @@
 pub mod TableLemmas
+pub mod PositionLemmas
 pub mod Ecma262Lemmas

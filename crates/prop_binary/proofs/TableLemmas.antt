@@ -1,35 +1,51 @@
 -- Tables that a test finds alike are the same. On tables that are written out the test computes.
-use Rattle.std.proofs.Common.{◌≡◌, ℕ, Bool, true, false, ◌&&◌, ◌==◌, List, [], ◌∷◌, refl, ap, ap₂, ◌∙◌}
+use Rattle.std.proofs.Common.{◌≡◌, ℕ, Bool, true, false, ◌&&◌, not, List, [], ◌∷◌, refl, ap, ap₂, ◌∙◌}
 use Rattle.std.specs.Str.{bytes_eq}
 use Rattle.std.proofs.lemmas.Bool.{and_parts}
-use Rattle.std.proofs.lemmas.Bool.Decides.{Decides-eqb}
 use Rattle.std.proofs.lemmas.Slice.Eq.{bytes_eq-Decides}
-use Rattle.prop_binary.specs.Ecma262.{same_numbers}
 
-pub same_numbers-path : (xs ys : List (List ℕ × ℕ)) → same_numbers xs ys ≡ true → xs ≡ ys
-same_numbers-path [] [] same = refl
-same_numbers-path [] (y ∷ ys) same = cc
-same_numbers-path (x ∷ xs) [] same = cc
-same_numbers-path ((a, m) ∷ xs) ((b, n) ∷ ys) same =
-    let name = and_parts (bytes_eq a b) _ same in
-    let number = and_parts (m == n) (same_numbers xs ys) name.1 in
-    let row : (a, m) ≡ (b, n) = ap₂ (λ k l. (k, l)) ((bytes_eq-Decides a b).0 name.0) ((Decides-eqb m n).0 number.0) in
-    ap₂ (λ r rs. r ∷ rs) row (same_numbers-path xs ys number.1)
+-- both or neither
+abbrev same_flag : Bool → Bool → Bool
+same_flag true b = b
+same_flag false b = not b
 
--- two tables have the same numbers, and the same two names at each
-abbrev pub same_rows : List (ℕ × List ℕ × List ℕ) → List (ℕ × List ℕ × List ℕ) → Bool
-same_rows [] [] = true
-same_rows [] (y ∷ ys) = false
-same_rows (x ∷ xs) [] = false
-same_rows (x ∷ xs) (y ∷ ys) = (x.0 == y.0) && (bytes_eq x.1 y.1 && (bytes_eq x.2 y.2 && same_rows xs ys))
+same_flag-path : (a b : Bool) → same_flag a b ≡ true → a ≡ b
+same_flag-path true true same = refl
+same_flag-path true false same = cc
+same_flag-path false true same = cc
+same_flag-path false false same = refl
 
-pub same_rows-path : (xs ys : List (ℕ × List ℕ × List ℕ)) → same_rows xs ys ≡ true → xs ≡ ys
-same_rows-path [] [] same = refl
-same_rows-path [] (y ∷ ys) same = cc
-same_rows-path (x ∷ xs) [] same = cc
-same_rows-path ((m, a, b) ∷ xs) ((n, c, d) ∷ ys) same =
-    let number = and_parts (m == n) _ same in
-    let long = and_parts (bytes_eq a c) _ number.1 in
-    let short = and_parts (bytes_eq b d) (same_rows xs ys) long.1 in
-    let row : (m, a, b) ≡ (n, c, d) = ap (λ k. (k, a, b)) ((Decides-eqb m n).0 number.0) ∙ ap₂ (λ k l. (n, k, l)) ((bytes_eq-Decides a c).0 long.0) ((bytes_eq-Decides b d).0 short.0) in
-    ap₂ (λ r rs. r ∷ rs) row (same_rows-path xs ys short.1)
+-- two tables have the same two names in each row, and the same answer whether ECMA-262 has it
+abbrev pub same_properties : List (List ℕ × List ℕ × Bool) → List (List ℕ × List ℕ × Bool) → Bool
+same_properties [] [] = true
+same_properties [] (y ∷ ys) = false
+same_properties (x ∷ xs) [] = false
+same_properties (x ∷ xs) (y ∷ ys) = bytes_eq x.0 y.0 && (bytes_eq x.1 y.1 && (same_flag x.2 y.2 && same_properties xs ys))
+
+pub same_properties-path : (xs ys : List (List ℕ × List ℕ × Bool)) → same_properties xs ys ≡ true → xs ≡ ys
+same_properties-path [] [] same = refl
+same_properties-path [] (y ∷ ys) same = cc
+same_properties-path (x ∷ xs) [] same = cc
+same_properties-path ((a, b, e) ∷ xs) ((c, d, f) ∷ ys) same =
+    let long = and_parts (bytes_eq a c) _ same in
+    let short = and_parts (bytes_eq b d) _ long.1 in
+    let flag = and_parts (same_flag e f) (same_properties xs ys) short.1 in
+    let row : (a, b, e) ≡ (c, d, f) = ap₂ (λ k l. (k, l, e)) ((bytes_eq-Decides a c).0 long.0) ((bytes_eq-Decides b d).0 short.0) ∙ ap (λ g. (c, d, g)) (same_flag-path e f flag.0) in
+    ap₂ (λ r rs. r ∷ rs) row (same_properties-path xs ys flag.1)
+
+-- two tables have the same two names in each row
+abbrev pub same_names : List (List ℕ × List ℕ) → List (List ℕ × List ℕ) → Bool
+same_names [] [] = true
+same_names [] (y ∷ ys) = false
+same_names (x ∷ xs) [] = false
+same_names (x ∷ xs) (y ∷ ys) = bytes_eq x.0 y.0 && (bytes_eq x.1 y.1 && same_names xs ys)
+
+pub same_names-path : (xs ys : List (List ℕ × List ℕ)) → same_names xs ys ≡ true → xs ≡ ys
+same_names-path [] [] same = refl
+same_names-path [] (y ∷ ys) same = cc
+same_names-path (x ∷ xs) [] same = cc
+same_names-path ((a, b) ∷ xs) ((c, d) ∷ ys) same =
+    let long = and_parts (bytes_eq a c) _ same in
+    let short = and_parts (bytes_eq b d) (same_names xs ys) long.1 in
+    let row : (a, b) ≡ (c, d) = ap₂ (λ k l. (k, l)) ((bytes_eq-Decides a c).0 long.0) ((bytes_eq-Decides b d).0 short.0) in
+    ap₂ (λ r rs. r ∷ rs) row (same_names-path xs ys short.1)

@@ -1,2 +1,3 @@
 pub mod Ecma262
 pub mod Tables
+pub mod Names

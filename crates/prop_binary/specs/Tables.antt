@@ -1,9 +1,9 @@
 -- The binary properties (UAX 44, section 5.3; UTS 18, annex C; UTS 51, section 1.4): their names, and which of them ECMA-262 has.
-use Rattle.std.specs.Prelude.{ℕ, ◌+◌, Bool, true, false, List, [], ◌∷◌, codes, map}
+use Rattle.std.specs.Prelude.{ℕ, zero, suc, ◌+◌, Bool, true, false, List, [], ◌∷◌, codes, map}
 
 -- Each property, in the order of the numbers of the tables: its long name, its short name, and whether it is in ECMA-262's table
 -- "Binary Unicode property aliases and their canonical property names". White_Space has the short name WSpace.
-abbrev pub properties : List (List ℕ × List ℕ × Bool)
+unfoldable pub properties : List (List ℕ × List ℕ × Bool)
 properties =
     (codes "ASCII_Hex_Digit", codes "AHex", true)
     ∷ (codes "alnum", codes "alnum", false)
@@ -80,10 +80,19 @@ properties =
 abbrev pub set_table_names : List (List ℕ)
 set_table_names = map (λ property. property.0) properties
 
--- the number of each property's table with the long and the short name, where the first table has this number
-abbrev pub names_by_number : ℕ → List (List ℕ × List ℕ × Bool) → List (ℕ × List ℕ × List ℕ)
-names_by_number n [] = []
-names_by_number n (property ∷ more) = (n, property.0, property.1) ∷ names_by_number (n + 1) more
+-- the long name of the property of each emoji table, by the number of the table (UTS 51, section 1.4.9)
+abbrev pub emoji_table_names : List (List ℕ)
+emoji_table_names = codes "Basic_Emoji" ∷ []
 
-unfoldable pub numbered_names : List (ℕ × List ℕ × List ℕ)
-numbered_names = names_by_number 0 properties
+-- the long and the short name of each property
+abbrev pub both_names : List (List ℕ × List ℕ × Bool) → List (List ℕ × List ℕ)
+both_names [] = []
+both_names (property ∷ more) = (property.0, property.1) ∷ both_names more
+
+abbrev pub property_names : List (List ℕ × List ℕ)
+property_names = both_names properties
+
+-- so many numbers from one on
+abbrev pub numbers_from : ℕ → ℕ → List ℕ
+numbers_from n zero = []
+numbers_from n (suc count) = n ∷ numbers_from (n + 1) count

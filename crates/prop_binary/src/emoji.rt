@@ -1,8 +1,13 @@
 //! Emoji sets.
+ghost use Rattle.std.specs.Prelude.{ℕ};
+
 use crate::table::EmojiTable;
 
 /// A set of emoji characters and sequences (UTS 51, section 1.4.9).
 pub trait EmojiSet {
+    /// The number of the table.
+    ghost TABLE: { ℕ };
+
     /// The long name of the set.
     const NAME: &'static [u8];
 
@@ -18,6 +23,8 @@ pub trait EmojiSet {
 pub struct BasicEmoji;
 
 impl EmojiSet for BasicEmoji {
+    ghost TABLE = { 0 };
+
     const NAME: &'static [u8] = b"Basic_Emoji";
 
     const SHORT_NAME: &'static [u8] = b"Basic_Emoji";

@@ -3,12 +3,11 @@
 
 mod ecma262;
 mod emoji;
+pub mod laws;
+mod names;
 mod posix;
 mod property;
-pub mod rows;
 mod table;
-#[cfg(test)]
-mod tests;
 mod types;
 
 pub use ecma262::ecma262_table;

@@ -7,6 +7,8 @@ use crate::table::SetTable;
 pub struct Alnum;
 
 impl BinaryProperty for Alnum {
+    ghost TABLE = { 1 };
+
     const NAME: &'static [u8] = b"alnum";
 
     const SHORT_NAME: &'static [u8] = b"alnum";
@@ -19,6 +21,8 @@ impl BinaryProperty for Alnum {
 pub struct Blank;
 
 impl BinaryProperty for Blank {
+    ghost TABLE = { 5 };
+
     const NAME: &'static [u8] = b"blank";
 
     const SHORT_NAME: &'static [u8] = b"blank";
@@ -31,6 +35,8 @@ impl BinaryProperty for Blank {
 pub struct Graph;
 
 impl BinaryProperty for Graph {
+    ghost TABLE = { 26 };
+
     const NAME: &'static [u8] = b"graph";
 
     const SHORT_NAME: &'static [u8] = b"graph";
@@ -43,6 +49,8 @@ impl BinaryProperty for Graph {
 pub struct Print;
 
 impl BinaryProperty for Print {
+    ghost TABLE = { 53 };
+
     const NAME: &'static [u8] = b"print";
 
     const SHORT_NAME: &'static [u8] = b"print";
@@ -55,6 +63,8 @@ impl BinaryProperty for Print {
 pub struct Xdigit;
 
 impl BinaryProperty for Xdigit {
+    ghost TABLE = { 66 };
+
     const NAME: &'static [u8] = b"xdigit";
 
     const SHORT_NAME: &'static [u8] = b"xdigit";

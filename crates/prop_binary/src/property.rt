@@ -1,9 +1,13 @@
 //! Binary properties.
+ghost use Rattle.std.specs.Prelude.{ℕ};
 
 use crate::table::SetTable;
 
 /// A binary property of code points (UAX 44, section 5.3), which is a set of them.
 pub trait BinaryProperty {
+    /// The number of the table.
+    ghost TABLE: { ℕ };
+
     /// The long name of the property.
     const NAME: &'static [u8];
 

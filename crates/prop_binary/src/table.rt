@@ -1,9 +1,10 @@
 //! The tables of the sets of binary properties and of the emoji sets.
-ghost use Rattle.std.specs.Prelude.{◌≡◌, ◌<◌, ℕ, codes, Some, length, map, slice_get};
+ghost use Rattle.std.specs.Prelude.{◌≡◌, ◌<◌, ℕ, Some, IfSome, length, slice_get};
 ghost use Rattle.std.specs.List.{position};
 ghost use Rattle.std.specs.Str.{bytes_eq};
-ghost use Rattle.prop_binary.specs.Tables.{set_table_names};
+ghost use Rattle.prop_binary.specs.Tables.{set_table_names, emoji_table_names};
 
+use crate::names::{PropertyNames, property_names};
 use std::marker::Model;
 
 /// The table of the set of a binary property, as a number from 0 to 68. A contract sees it as that number.
@@ -21,78 +22,6 @@ impl Model for SetTable {
 
     ghost inverse = { λ number. record { number = number } };
 }
-
-const SET_TABLE_NAMES: [&[u8]; 69] = [
-    b"ASCII_Hex_Digit",
-    b"alnum",
-    b"Alphabetic",
-    b"Bidi_Control",
-    b"Bidi_Mirrored",
-    b"blank",
-    b"Cased",
-    b"Case_Ignorable",
-    b"Full_Composition_Exclusion",
-    b"Changes_When_Casefolded",
-    b"Changes_When_Casemapped",
-    b"Changes_When_NFKC_Casefolded",
-    b"Changes_When_Lowercased",
-    b"Changes_When_Titlecased",
-    b"Changes_When_Uppercased",
-    b"Dash",
-    b"Deprecated",
-    b"Default_Ignorable_Code_Point",
-    b"Diacritic",
-    b"Emoji_Modifier_Base",
-    b"Emoji_Component",
-    b"Emoji_Modifier",
-    b"Emoji",
-    b"Emoji_Presentation",
-    b"Extender",
-    b"Extended_Pictographic",
-    b"graph",
-    b"Grapheme_Base",
-    b"Grapheme_Extend",
-    b"Grapheme_Link",
-    b"Hex_Digit",
-    b"Hyphen",
-    b"ID_Compat_Math_Continue",
-    b"ID_Compat_Math_Start",
-    b"ID_Continue",
-    b"Ideographic",
-    b"ID_Start",
-    b"IDS_Binary_Operator",
-    b"IDS_Trinary_Operator",
-    b"IDS_Unary_Operator",
-    b"Join_Control",
-    b"Logical_Order_Exception",
-    b"Lowercase",
-    b"Math",
-    b"Modifier_Combining_Mark",
-    b"Noncharacter_Code_Point",
-    b"NFC_Inert",
-    b"NFD_Inert",
-    b"NFKC_Inert",
-    b"NFKD_Inert",
-    b"Pattern_Syntax",
-    b"Pattern_White_Space",
-    b"Prepended_Concatenation_Mark",
-    b"print",
-    b"Quotation_Mark",
-    b"Radical",
-    b"Regional_Indicator",
-    b"Soft_Dotted",
-    b"Segment_Starter",
-    b"Case_Sensitive",
-    b"Sentence_Terminal",
-    b"Terminal_Punctuation",
-    b"Unified_Ideograph",
-    b"Uppercase",
-    b"Variation_Selector",
-    b"White_Space",
-    b"xdigit",
-    b"XID_Continue",
-    b"XID_Start",
-];
 
 impl SetTable {
     pub const ASCII_HEX_DIGIT: SetTable = SetTable { number: 0 };
@@ -245,53 +174,65 @@ impl SetTable {
     pub fn name(self) -> &'static [u8]
         ensures { slice_get set_table_names self ≡ Some result.now }
     {
-        name_at(&SET_TABLE_NAMES, usize::from(self.number))
+        property_names()[usize::from(self.number)].long
     }
 
     /// The table of this name, compared byte for byte.
     pub fn from_name(name: &[u8]) -> Option<SetTable>
         ensures { result ≡ position (λ known. bytes_eq known name.now) set_table_names }
     {
-        let number = place_of(&SET_TABLE_NAMES, name)?;
-        Some(SetTable {
-            number: number as u8,
-        })
+        let number = place_of(property_names(), name)?;
+        Some(SetTable::of_number(number as u8))
+    }
+
+    pub(crate) fn of_number(number: u8) -> SetTable
+        requires { number < 69 }
+        ensures { result ≡ number }
+    {
+        SetTable { number }
     }
 }
 
-/// The table of an emoji set (UTS 51, section 1.4.9). There is one, with the number 0.
+/// The index of the first row with this long name.
+fn place_of(rows: &[PropertyNames], name: &[u8]) -> Option<usize>
+    ensures place { result ≡ position (λ row. bytes_eq row.long.now name.now) rows.now }
+    ensures within { IfSome result (λ place. place < length rows.now) }
+{
+    rows.iter().position(|row| row.long == name)
+}
+
+/// The table of an emoji set (UTS 51, section 1.4.9), as a number. There is one table, with the number 0. A contract sees
+/// it as that number.
 #[derive(Clone, Copy, Debug, PartialEq, Eq)]
-pub struct EmojiTable;
+pub struct EmojiTable {
+    number: u8,
+}
+
+impl Model for EmojiTable {
+    ghost Value = { ℕ };
+
+    ghost view = { λ table. table.number };
+
+    ghost invariant = { λ table. table.number < 1 };
+
+    ghost inverse = { λ number. record { number = number } };
+}
 
 impl EmojiTable {
-    pub const BASIC_EMOJI: EmojiTable = EmojiTable;
+    pub const BASIC_EMOJI: EmojiTable = EmojiTable { number: 0 };
 
     /// The number of the table.
     pub fn number(self) -> u8
-        ensures { result ≡ 0 }
+        ensures value { result ≡ self }
+        ensures small { result < 1 }
     {
-        0
+        self.number
     }
 
     /// The name of the table.
     pub fn name(self) -> &'static [u8]
-        ensures { result.now ≡ codes "Basic_Emoji" }
+        ensures { slice_get emoji_table_names self ≡ Some result.now }
     {
         b"Basic_Emoji"
     }
-}
-
-/// The name of this index.
-fn name_at(names: &[&'static [u8]], index: usize) -> &'static [u8]
-    requires { index < length names.now }
-    ensures { slice_get (map (λ name. name.now) names.now) index ≡ Some result.now }
-{
-    names[index]
-}
-
-/// The index of the first of the names that equals the text.
-fn place_of(names: &[&[u8]], text: &[u8]) -> Option<usize>
-    ensures { result ≡ position (λ name. bytes_eq name.now text.now) names.now }
-{
-    names.iter().position(|name| *name == text)
 }

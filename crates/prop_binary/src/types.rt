@@ -7,6 +7,8 @@ use crate::table::SetTable;
 pub struct AsciiHexDigit;
 
 impl BinaryProperty for AsciiHexDigit {
+    ghost TABLE = { 0 };
+
     const NAME: &'static [u8] = b"ASCII_Hex_Digit";
 
     const SHORT_NAME: &'static [u8] = b"AHex";
@@ -19,6 +21,8 @@ impl BinaryProperty for AsciiHexDigit {
 pub struct Alphabetic;
 
 impl BinaryProperty for Alphabetic {
+    ghost TABLE = { 2 };
+
     const NAME: &'static [u8] = b"Alphabetic";
 
     const SHORT_NAME: &'static [u8] = b"Alpha";
@@ -31,6 +35,8 @@ impl BinaryProperty for Alphabetic {
 pub struct BidiControl;
 
 impl BinaryProperty for BidiControl {
+    ghost TABLE = { 3 };
+
     const NAME: &'static [u8] = b"Bidi_Control";
 
     const SHORT_NAME: &'static [u8] = b"Bidi_C";
@@ -43,6 +49,8 @@ impl BinaryProperty for BidiControl {
 pub struct BidiMirrored;
 
 impl BinaryProperty for BidiMirrored {
+    ghost TABLE = { 4 };
+
     const NAME: &'static [u8] = b"Bidi_Mirrored";
 
     const SHORT_NAME: &'static [u8] = b"Bidi_M";
@@ -55,6 +63,8 @@ impl BinaryProperty for BidiMirrored {
 pub struct Cased;
 
 impl BinaryProperty for Cased {
+    ghost TABLE = { 6 };
+
     const NAME: &'static [u8] = b"Cased";
 
     const SHORT_NAME: &'static [u8] = b"Cased";
@@ -67,6 +77,8 @@ impl BinaryProperty for Cased {
 pub struct CaseIgnorable;
 
 impl BinaryProperty for CaseIgnorable {
+    ghost TABLE = { 7 };
+
     const NAME: &'static [u8] = b"Case_Ignorable";
 
     const SHORT_NAME: &'static [u8] = b"CI";
@@ -79,6 +91,8 @@ impl BinaryProperty for CaseIgnorable {
 pub struct FullCompositionExclusion;
 
 impl BinaryProperty for FullCompositionExclusion {
+    ghost TABLE = { 8 };
+
     const NAME: &'static [u8] = b"Full_Composition_Exclusion";
 
     const SHORT_NAME: &'static [u8] = b"Comp_Ex";
@@ -91,6 +105,8 @@ impl BinaryProperty for FullCompositionExclusion {
 pub struct ChangesWhenCasefolded;
 
 impl BinaryProperty for ChangesWhenCasefolded {
+    ghost TABLE = { 9 };
+
     const NAME: &'static [u8] = b"Changes_When_Casefolded";
 
     const SHORT_NAME: &'static [u8] = b"CWCF";
@@ -103,6 +119,8 @@ impl BinaryProperty for ChangesWhenCasefolded {
 pub struct ChangesWhenCasemapped;
 
 impl BinaryProperty for ChangesWhenCasemapped {
+    ghost TABLE = { 10 };
+
     const NAME: &'static [u8] = b"Changes_When_Casemapped";
 
     const SHORT_NAME: &'static [u8] = b"CWCM";
@@ -115,6 +133,8 @@ impl BinaryProperty for ChangesWhenCasemapped {
 pub struct ChangesWhenNfkcCasefolded;
 
 impl BinaryProperty for ChangesWhenNfkcCasefolded {
+    ghost TABLE = { 11 };
+
     const NAME: &'static [u8] = b"Changes_When_NFKC_Casefolded";
 
     const SHORT_NAME: &'static [u8] = b"CWKCF";
@@ -127,6 +147,8 @@ impl BinaryProperty for ChangesWhenNfkcCasefolded {
 pub struct ChangesWhenLowercased;
 
 impl BinaryProperty for ChangesWhenLowercased {
+    ghost TABLE = { 12 };
+
     const NAME: &'static [u8] = b"Changes_When_Lowercased";
 
     const SHORT_NAME: &'static [u8] = b"CWL";
@@ -139,6 +161,8 @@ impl BinaryProperty for ChangesWhenLowercased {
 pub struct ChangesWhenTitlecased;
 
 impl BinaryProperty for ChangesWhenTitlecased {
+    ghost TABLE = { 13 };
+
     const NAME: &'static [u8] = b"Changes_When_Titlecased";
 
     const SHORT_NAME: &'static [u8] = b"CWT";
@@ -151,6 +175,8 @@ impl BinaryProperty for ChangesWhenTitlecased {
 pub struct ChangesWhenUppercased;
 
 impl BinaryProperty for ChangesWhenUppercased {
+    ghost TABLE = { 14 };
+
     const NAME: &'static [u8] = b"Changes_When_Uppercased";
 
     const SHORT_NAME: &'static [u8] = b"CWU";
@@ -163,6 +189,8 @@ impl BinaryProperty for ChangesWhenUppercased {
 pub struct Dash;
 
 impl BinaryProperty for Dash {
+    ghost TABLE = { 15 };
+
     const NAME: &'static [u8] = b"Dash";
 
     const SHORT_NAME: &'static [u8] = b"Dash";
@@ -175,6 +203,8 @@ impl BinaryProperty for Dash {
 pub struct Deprecated;
 
 impl BinaryProperty for Deprecated {
+    ghost TABLE = { 16 };
+
     const NAME: &'static [u8] = b"Deprecated";
 
     const SHORT_NAME: &'static [u8] = b"Dep";
@@ -187,6 +217,8 @@ impl BinaryProperty for Deprecated {
 pub struct DefaultIgnorableCodePoint;
 
 impl BinaryProperty for DefaultIgnorableCodePoint {
+    ghost TABLE = { 17 };
+
     const NAME: &'static [u8] = b"Default_Ignorable_Code_Point";
 
     const SHORT_NAME: &'static [u8] = b"DI";
@@ -199,6 +231,8 @@ impl BinaryProperty for DefaultIgnorableCodePoint {
 pub struct Diacritic;
 
 impl BinaryProperty for Diacritic {
+    ghost TABLE = { 18 };
+
     const NAME: &'static [u8] = b"Diacritic";
 
     const SHORT_NAME: &'static [u8] = b"Dia";
@@ -211,6 +245,8 @@ impl BinaryProperty for Diacritic {
 pub struct EmojiModifierBase;
 
 impl BinaryProperty for EmojiModifierBase {
+    ghost TABLE = { 19 };
+
     const NAME: &'static [u8] = b"Emoji_Modifier_Base";
 
     const SHORT_NAME: &'static [u8] = b"EBase";
@@ -223,6 +259,8 @@ impl BinaryProperty for EmojiModifierBase {
 pub struct EmojiComponent;
 
 impl BinaryProperty for EmojiComponent {
+    ghost TABLE = { 20 };
+
     const NAME: &'static [u8] = b"Emoji_Component";
 
     const SHORT_NAME: &'static [u8] = b"EComp";
@@ -235,6 +273,8 @@ impl BinaryProperty for EmojiComponent {
 pub struct EmojiModifier;
 
 impl BinaryProperty for EmojiModifier {
+    ghost TABLE = { 21 };
+
     const NAME: &'static [u8] = b"Emoji_Modifier";
 
     const SHORT_NAME: &'static [u8] = b"EMod";
@@ -247,6 +287,8 @@ impl BinaryProperty for EmojiModifier {
 pub struct Emoji;
 
 impl BinaryProperty for Emoji {
+    ghost TABLE = { 22 };
+
     const NAME: &'static [u8] = b"Emoji";
 
     const SHORT_NAME: &'static [u8] = b"Emoji";
@@ -259,6 +301,8 @@ impl BinaryProperty for Emoji {
 pub struct EmojiPresentation;
 
 impl BinaryProperty for EmojiPresentation {
+    ghost TABLE = { 23 };
+
     const NAME: &'static [u8] = b"Emoji_Presentation";
 
     const SHORT_NAME: &'static [u8] = b"EPres";
@@ -271,6 +315,8 @@ impl BinaryProperty for EmojiPresentation {
 pub struct Extender;
 
 impl BinaryProperty for Extender {
+    ghost TABLE = { 24 };
+
     const NAME: &'static [u8] = b"Extender";
 
     const SHORT_NAME: &'static [u8] = b"Ext";
@@ -283,6 +329,8 @@ impl BinaryProperty for Extender {
 pub struct ExtendedPictographic;
 
 impl BinaryProperty for ExtendedPictographic {
+    ghost TABLE = { 25 };
+
     const NAME: &'static [u8] = b"Extended_Pictographic";
 
     const SHORT_NAME: &'static [u8] = b"ExtPict";
@@ -295,6 +343,8 @@ impl BinaryProperty for ExtendedPictographic {
 pub struct GraphemeBase;
 
 impl BinaryProperty for GraphemeBase {
+    ghost TABLE = { 27 };
+
     const NAME: &'static [u8] = b"Grapheme_Base";
 
     const SHORT_NAME: &'static [u8] = b"Gr_Base";
@@ -307,6 +357,8 @@ impl BinaryProperty for GraphemeBase {
 pub struct GraphemeExtend;
 
 impl BinaryProperty for GraphemeExtend {
+    ghost TABLE = { 28 };
+
     const NAME: &'static [u8] = b"Grapheme_Extend";
 
     const SHORT_NAME: &'static [u8] = b"Gr_Ext";
@@ -319,6 +371,8 @@ impl BinaryProperty for GraphemeExtend {
 pub struct GraphemeLink;
 
 impl BinaryProperty for GraphemeLink {
+    ghost TABLE = { 29 };
+
     const NAME: &'static [u8] = b"Grapheme_Link";
 
     const SHORT_NAME: &'static [u8] = b"Gr_Link";
@@ -331,6 +385,8 @@ impl BinaryProperty for GraphemeLink {
 pub struct HexDigit;
 
 impl BinaryProperty for HexDigit {
+    ghost TABLE = { 30 };
+
     const NAME: &'static [u8] = b"Hex_Digit";
 
     const SHORT_NAME: &'static [u8] = b"Hex";
@@ -343,6 +399,8 @@ impl BinaryProperty for HexDigit {
 pub struct Hyphen;
 
 impl BinaryProperty for Hyphen {
+    ghost TABLE = { 31 };
+
     const NAME: &'static [u8] = b"Hyphen";
 
     const SHORT_NAME: &'static [u8] = b"Hyphen";
@@ -355,6 +413,8 @@ impl BinaryProperty for Hyphen {
 pub struct IdCompatMathContinue;
 
 impl BinaryProperty for IdCompatMathContinue {
+    ghost TABLE = { 32 };
+
     const NAME: &'static [u8] = b"ID_Compat_Math_Continue";
 
     const SHORT_NAME: &'static [u8] = b"ID_Compat_Math_Continue";
@@ -367,6 +427,8 @@ impl BinaryProperty for IdCompatMathContinue {
 pub struct IdCompatMathStart;
 
 impl BinaryProperty for IdCompatMathStart {
+    ghost TABLE = { 33 };
+
     const NAME: &'static [u8] = b"ID_Compat_Math_Start";
 
     const SHORT_NAME: &'static [u8] = b"ID_Compat_Math_Start";
@@ -379,6 +441,8 @@ impl BinaryProperty for IdCompatMathStart {
 pub struct IdContinue;
 
 impl BinaryProperty for IdContinue {
+    ghost TABLE = { 34 };
+
     const NAME: &'static [u8] = b"ID_Continue";
 
     const SHORT_NAME: &'static [u8] = b"IDC";
@@ -391,6 +455,8 @@ impl BinaryProperty for IdContinue {
 pub struct Ideographic;
 
 impl BinaryProperty for Ideographic {
+    ghost TABLE = { 35 };
+
     const NAME: &'static [u8] = b"Ideographic";
 
     const SHORT_NAME: &'static [u8] = b"Ideo";
@@ -403,6 +469,8 @@ impl BinaryProperty for Ideographic {
 pub struct IdStart;
 
 impl BinaryProperty for IdStart {
+    ghost TABLE = { 36 };
+
     const NAME: &'static [u8] = b"ID_Start";
 
     const SHORT_NAME: &'static [u8] = b"IDS";
@@ -415,6 +483,8 @@ impl BinaryProperty for IdStart {
 pub struct IdsBinaryOperator;
 
 impl BinaryProperty for IdsBinaryOperator {
+    ghost TABLE = { 37 };
+
     const NAME: &'static [u8] = b"IDS_Binary_Operator";
 
     const SHORT_NAME: &'static [u8] = b"IDSB";
@@ -427,6 +497,8 @@ impl BinaryProperty for IdsBinaryOperator {
 pub struct IdsTrinaryOperator;
 
 impl BinaryProperty for IdsTrinaryOperator {
+    ghost TABLE = { 38 };
+
     const NAME: &'static [u8] = b"IDS_Trinary_Operator";
 
     const SHORT_NAME: &'static [u8] = b"IDST";
@@ -439,6 +511,8 @@ impl BinaryProperty for IdsTrinaryOperator {
 pub struct IdsUnaryOperator;
 
 impl BinaryProperty for IdsUnaryOperator {
+    ghost TABLE = { 39 };
+
     const NAME: &'static [u8] = b"IDS_Unary_Operator";
 
     const SHORT_NAME: &'static [u8] = b"IDSU";
@@ -451,6 +525,8 @@ impl BinaryProperty for IdsUnaryOperator {
 pub struct JoinControl;
 
 impl BinaryProperty for JoinControl {
+    ghost TABLE = { 40 };
+
     const NAME: &'static [u8] = b"Join_Control";
 
     const SHORT_NAME: &'static [u8] = b"Join_C";
@@ -463,6 +539,8 @@ impl BinaryProperty for JoinControl {
 pub struct LogicalOrderException;
 
 impl BinaryProperty for LogicalOrderException {
+    ghost TABLE = { 41 };
+
     const NAME: &'static [u8] = b"Logical_Order_Exception";
 
     const SHORT_NAME: &'static [u8] = b"LOE";
@@ -475,6 +553,8 @@ impl BinaryProperty for LogicalOrderException {
 pub struct Lowercase;
 
 impl BinaryProperty for Lowercase {
+    ghost TABLE = { 42 };
+
     const NAME: &'static [u8] = b"Lowercase";
 
     const SHORT_NAME: &'static [u8] = b"Lower";
@@ -487,6 +567,8 @@ impl BinaryProperty for Lowercase {
 pub struct Math;
 
 impl BinaryProperty for Math {
+    ghost TABLE = { 43 };
+
     const NAME: &'static [u8] = b"Math";
 
     const SHORT_NAME: &'static [u8] = b"Math";
@@ -499,6 +581,8 @@ impl BinaryProperty for Math {
 pub struct ModifierCombiningMark;
 
 impl BinaryProperty for ModifierCombiningMark {
+    ghost TABLE = { 44 };
+
     const NAME: &'static [u8] = b"Modifier_Combining_Mark";
 
     const SHORT_NAME: &'static [u8] = b"MCM";
@@ -511,6 +595,8 @@ impl BinaryProperty for ModifierCombiningMark {
 pub struct NoncharacterCodePoint;
 
 impl BinaryProperty for NoncharacterCodePoint {
+    ghost TABLE = { 45 };
+
     const NAME: &'static [u8] = b"Noncharacter_Code_Point";
 
     const SHORT_NAME: &'static [u8] = b"NChar";
@@ -523,6 +609,8 @@ impl BinaryProperty for NoncharacterCodePoint {
 pub struct NfcInert;
 
 impl BinaryProperty for NfcInert {
+    ghost TABLE = { 46 };
+
     const NAME: &'static [u8] = b"NFC_Inert";
 
     const SHORT_NAME: &'static [u8] = b"nfcinert";
@@ -535,6 +623,8 @@ impl BinaryProperty for NfcInert {
 pub struct NfdInert;
 
 impl BinaryProperty for NfdInert {
+    ghost TABLE = { 47 };
+
     const NAME: &'static [u8] = b"NFD_Inert";
 
     const SHORT_NAME: &'static [u8] = b"nfdinert";
@@ -547,6 +637,8 @@ impl BinaryProperty for NfdInert {
 pub struct NfkcInert;
 
 impl BinaryProperty for NfkcInert {
+    ghost TABLE = { 48 };
+
     const NAME: &'static [u8] = b"NFKC_Inert";
 
     const SHORT_NAME: &'static [u8] = b"nfkcinert";
@@ -559,6 +651,8 @@ impl BinaryProperty for NfkcInert {
 pub struct NfkdInert;
 
 impl BinaryProperty for NfkdInert {
+    ghost TABLE = { 49 };
+
     const NAME: &'static [u8] = b"NFKD_Inert";
 
     const SHORT_NAME: &'static [u8] = b"nfkdinert";
@@ -571,6 +665,8 @@ impl BinaryProperty for NfkdInert {
 pub struct PatternSyntax;
 
 impl BinaryProperty for PatternSyntax {
+    ghost TABLE = { 50 };
+
     const NAME: &'static [u8] = b"Pattern_Syntax";
 
     const SHORT_NAME: &'static [u8] = b"Pat_Syn";
@@ -583,6 +679,8 @@ impl BinaryProperty for PatternSyntax {
 pub struct PatternWhiteSpace;
 
 impl BinaryProperty for PatternWhiteSpace {
+    ghost TABLE = { 51 };
+
     const NAME: &'static [u8] = b"Pattern_White_Space";
 
     const SHORT_NAME: &'static [u8] = b"Pat_WS";
@@ -595,6 +693,8 @@ impl BinaryProperty for PatternWhiteSpace {
 pub struct PrependedConcatenationMark;
 
 impl BinaryProperty for PrependedConcatenationMark {
+    ghost TABLE = { 52 };
+
     const NAME: &'static [u8] = b"Prepended_Concatenation_Mark";
 
     const SHORT_NAME: &'static [u8] = b"PCM";
@@ -607,6 +707,8 @@ impl BinaryProperty for PrependedConcatenationMark {
 pub struct QuotationMark;
 
 impl BinaryProperty for QuotationMark {
+    ghost TABLE = { 54 };
+
     const NAME: &'static [u8] = b"Quotation_Mark";
 
     const SHORT_NAME: &'static [u8] = b"QMark";
@@ -619,6 +721,8 @@ impl BinaryProperty for QuotationMark {
 pub struct Radical;
 
 impl BinaryProperty for Radical {
+    ghost TABLE = { 55 };
+
     const NAME: &'static [u8] = b"Radical";
 
     const SHORT_NAME: &'static [u8] = b"Radical";
@@ -631,6 +735,8 @@ impl BinaryProperty for Radical {
 pub struct RegionalIndicator;
 
 impl BinaryProperty for RegionalIndicator {
+    ghost TABLE = { 56 };
+
     const NAME: &'static [u8] = b"Regional_Indicator";
 
     const SHORT_NAME: &'static [u8] = b"RI";
@@ -643,6 +749,8 @@ impl BinaryProperty for RegionalIndicator {
 pub struct SoftDotted;
 
 impl BinaryProperty for SoftDotted {
+    ghost TABLE = { 57 };
+
     const NAME: &'static [u8] = b"Soft_Dotted";
 
     const SHORT_NAME: &'static [u8] = b"SD";
@@ -655,6 +763,8 @@ impl BinaryProperty for SoftDotted {
 pub struct SegmentStarter;
 
 impl BinaryProperty for SegmentStarter {
+    ghost TABLE = { 58 };
+
     const NAME: &'static [u8] = b"Segment_Starter";
 
     const SHORT_NAME: &'static [u8] = b"segstart";
@@ -667,6 +777,8 @@ impl BinaryProperty for SegmentStarter {
 pub struct CaseSensitive;
 
 impl BinaryProperty for CaseSensitive {
+    ghost TABLE = { 59 };
+
     const NAME: &'static [u8] = b"Case_Sensitive";
 
     const SHORT_NAME: &'static [u8] = b"Sensitive";
@@ -679,6 +791,8 @@ impl BinaryProperty for CaseSensitive {
 pub struct SentenceTerminal;
 
 impl BinaryProperty for SentenceTerminal {
+    ghost TABLE = { 60 };
+
     const NAME: &'static [u8] = b"Sentence_Terminal";
 
     const SHORT_NAME: &'static [u8] = b"STerm";
@@ -691,6 +805,8 @@ impl BinaryProperty for SentenceTerminal {
 pub struct TerminalPunctuation;
 
 impl BinaryProperty for TerminalPunctuation {
+    ghost TABLE = { 61 };
+
     const NAME: &'static [u8] = b"Terminal_Punctuation";
 
     const SHORT_NAME: &'static [u8] = b"Term";
@@ -703,6 +819,8 @@ impl BinaryProperty for TerminalPunctuation {
 pub struct UnifiedIdeograph;
 
 impl BinaryProperty for UnifiedIdeograph {
+    ghost TABLE = { 62 };
+
     const NAME: &'static [u8] = b"Unified_Ideograph";
 
     const SHORT_NAME: &'static [u8] = b"UIdeo";
@@ -715,6 +833,8 @@ impl BinaryProperty for UnifiedIdeograph {
 pub struct Uppercase;
 
 impl BinaryProperty for Uppercase {
+    ghost TABLE = { 63 };
+
     const NAME: &'static [u8] = b"Uppercase";
 
     const SHORT_NAME: &'static [u8] = b"Upper";
@@ -727,6 +847,8 @@ impl BinaryProperty for Uppercase {
 pub struct VariationSelector;
 
 impl BinaryProperty for VariationSelector {
+    ghost TABLE = { 64 };
+
     const NAME: &'static [u8] = b"Variation_Selector";
 
     const SHORT_NAME: &'static [u8] = b"VS";
@@ -739,6 +861,8 @@ impl BinaryProperty for VariationSelector {
 pub struct WhiteSpace;
 
 impl BinaryProperty for WhiteSpace {
+    ghost TABLE = { 65 };
+
     const NAME: &'static [u8] = b"White_Space";
 
     const SHORT_NAME: &'static [u8] = b"WSpace";
@@ -751,6 +875,8 @@ impl BinaryProperty for WhiteSpace {
 pub struct XidContinue;
 
 impl BinaryProperty for XidContinue {
+    ghost TABLE = { 67 };
+
     const NAME: &'static [u8] = b"XID_Continue";
 
     const SHORT_NAME: &'static [u8] = b"XIDC";
@@ -763,6 +889,8 @@ impl BinaryProperty for XidContinue {
 pub struct XidStart;
 
 impl BinaryProperty for XidStart {
+    ghost TABLE = { 68 };
+
     const NAME: &'static [u8] = b"XID_Start";
 
     const SHORT_NAME: &'static [u8] = b"XIDS";
