@@ -1,5 +1,5 @@
 -- The general categories (UAX 44, section 5.7.1) and their numbers.
-use Rattle.std.specs.Prelude.{ℕ, Option, List, [], ◌∷◌, slice_get}
+use Rattle.std.specs.Prelude.{◌≡◌, ℕ, Option, Some, None, Result, MatchResult, List, [], ◌∷◌, slice_get}
 use Rattle.prop_values.specs.declared.category.GeneralCategory.{GeneralCategory}
 use Rattle.prop_values.specs.declared.category.GeneralCategory.TheVariants.{Unassigned, UppercaseLetter, LowercaseLetter, TitlecaseLetter, ModifierLetter, OtherLetter, NonspacingMark, EnclosingMark, SpacingMark, DecimalNumber, LetterNumber, OtherNumber, SpaceSeparator, LineSeparator, ParagraphSeparator, Control, Format, PrivateUse, Surrogate, DashPunctuation, OpenPunctuation, ClosePunctuation, ConnectorPunctuation, OtherPunctuation, MathSymbol, CurrencySymbol, ModifierSymbol, OtherSymbol, InitialPunctuation, FinalPunctuation}
 
@@ -74,3 +74,7 @@ number_of ModifierSymbol = 26
 number_of OtherSymbol = 27
 number_of InitialPunctuation = 28
 number_of FinalPunctuation = 29
+
+-- the category of the number, and an error exactly where the number is that of none
+abbrev pub AnswersCategory : {E : Type 0} → ℕ → Result GeneralCategory E → Type 0
+AnswersCategory n result = MatchResult result (λ category. category_of n ≡ Some category) (λ _. category_of n ≡ None)

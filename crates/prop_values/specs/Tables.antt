@@ -1,5 +1,5 @@
 -- The tables of values and of names: their names, the numbers that they accept, and the numbers of the defaults.
-use Rattle.std.specs.Prelude.{ℕ, ◌+◌, Bool, ◌||◌, ◌++◌, ◌==◌, nat_lt, List, [], ◌∷◌, map, take, codes, if◌then◌else◌}
+use Rattle.std.specs.Prelude.{ℕ, zero, suc, ◌+◌, Bool, ◌||◌, ◌++◌, ◌==◌, nat_lt, List, [], ◌∷◌, map, take, codes, if◌then◌else◌}
 use Rattle.prop_values.specs.MirroringGlyph.{is_glyph_number}
 
 -- the properties, in the order of the numbers of their tables: the long and the short name (UAX 44, section 5.1)
@@ -25,13 +25,10 @@ properties =
     ∷ (codes "Bidi_Mirroring_Glyph", codes "bmg")
     ∷ []
 
--- the number of each property's table with the long and the short name, where the first table has this number
-abbrev pub names_by_number : ℕ → List (List ℕ × List ℕ) → List (ℕ × List ℕ × List ℕ)
-names_by_number n [] = []
-names_by_number n (property ∷ more) = (n, property.0, property.1) ∷ names_by_number (n + 1) more
-
-abbrev pub numbered_names : List (ℕ × List ℕ × List ℕ)
-numbered_names = names_by_number 0 properties
+-- so many numbers from one on
+abbrev pub numbers_from : ℕ → ℕ → List ℕ
+numbers_from n zero = []
+numbers_from n (suc count) = n ∷ numbers_from (n + 1) count
 
 -- the long name of the property of each table of values, by the number of the table
 abbrev pub map_table_names : List (List ℕ)

@@ -1,14 +1,27 @@
 //! The bidirectional class.
-ghost use Rattle.std.specs.Prelude.{◌≡◌, refl};
-ghost use Rattle.prop_values.specs.NumberedLaws.{value_below, value_below-again, value_below-is_some, same_by_number};
+ghost use Rattle.std.specs.Prelude.{◌≡◌};
+ghost use Rattle.cp_trie.specs.Values.{below};
+ghost use Rattle.cp_trie.specs.ValueLaws.{below-again, nat_eq-same};
+ghost use Rattle.prop_values.specs.NumberedLaws.{below-is_some};
 
 use crate::property::EnumeratedProperty;
 use crate::tables::MapTable;
 use cp_trie::{TrieValue, ValueError};
+use std::marker::Model;
 
 /// The bidirectional class of a character (UAX 9; UAX 44, section 5.7.4).
 #[derive(Clone, Copy, Debug, PartialEq, Eq, PartialOrd, Ord, Hash)]
-pub struct BidiClass(pub(crate) u8);
+pub struct BidiClass(u8);
+
+impl Model for BidiClass {
+    ghost use Rattle.std.specs.Prelude.{ℕ};
+
+    ghost Value = { ℕ };
+
+    ghost view = { λ value. value.0 };
+
+    ghost inverse = { λ number. record { 0 = number } };
+}
 
 impl BidiClass {
     pub const LeftToRight: BidiClass = BidiClass(0);
@@ -59,21 +72,21 @@ impl BidiClass {
 
     /// The number of the value.
     pub fn to_icu4c_value(self) -> u8
-        ensures { result ≡ self.0 }
+        ensures { result ≡ self }
     {
         self.0
     }
 
     /// The value of the number.
     pub fn from_icu4c_value(value: u8) -> BidiClass
-        ensures { result.0 ≡ value }
+        ensures { result ≡ value }
     {
         BidiClass(value)
     }
 }
 
 impl Default for BidiClass {
-    ghost is_default = { λ value. value.0 ≡ 0 };
+    ghost is_default = { λ value. value ≡ 0 };
 
     fn default() -> BidiClass {
         BidiClass::LeftToRight
@@ -81,16 +94,16 @@ impl Default for BidiClass {
 }
 
 impl TrieValue for BidiClass {
-    ghost unpacked = { value_below 256 (λ n. record { 0 = n }) };
+    ghost unpacked = { below 256 };
 
-    ghost packed = { λ value. value.0 };
+    ghost packed = { λ value. value };
 
-    ghost unpacks_again = { value_below-again 256 (λ n. record { 0 = n }) (λ value. value.0) (λ _. refl) };
+    ghost unpacks_again = { below-again 256 };
 
-    ghost eq_is_same = { same_by_number (λ n. record { 0 = n }) (λ value. value.0) (λ _. refl) };
+    ghost eq_is_same = { nat_eq-same };
 
     fn try_from_u32(i: u32) -> Result<BidiClass, ValueError> {
-        u8::try_from_u32(i).map(BidiClass)
+        u8::try_from_u32(i).map(BidiClass::from_icu4c_value)
     }
 
     fn to_u32(self) -> u32 {
@@ -107,7 +120,7 @@ impl EnumeratedProperty for BidiClass {
 
     const TABLE: MapTable = MapTable::BIDI_CLASS;
 
-    ghost accepted = { λ n _. value_below-is_some 256 (λ m. record { 0 = m }) n };
+    ghost accepted = { λ n _. below-is_some 256 n };
 
     ghost default_packed = { λ _ is. is };
 }

@@ -1,21 +1,34 @@
 //! Blocks.
-ghost use Rattle.std.specs.Prelude.{◌≡◌, refl};
-ghost use Rattle.prop_values.specs.NumberedLaws.{value_below, value_below-again, value_below-is_some, same_by_number};
+ghost use Rattle.std.specs.Prelude.{◌≡◌};
+ghost use Rattle.cp_trie.specs.Values.{below};
+ghost use Rattle.cp_trie.specs.ValueLaws.{below-again, nat_eq-same};
+ghost use Rattle.prop_values.specs.NumberedLaws.{below-is_some};
 
 use crate::property::EnumeratedProperty;
 use crate::tables::MapTable;
 use cp_trie::{TrieValue, ValueError};
+use std::marker::Model;
 
 /// The block of a code point (UAX 44, section 5.3).
 #[derive(Clone, Copy, Debug, PartialEq, Eq, PartialOrd, Ord, Hash)]
-pub struct Block(pub(crate) u16);
+pub struct Block(u16);
+
+impl Model for Block {
+    ghost use Rattle.std.specs.Prelude.{ℕ};
+
+    ghost Value = { ℕ };
+
+    ghost view = { λ value. value.0 };
+
+    ghost inverse = { λ number. record { 0 = number } };
+}
 
 impl Block {
     pub const NoBlock: Block = Block(0);
 }
 
 impl Default for Block {
-    ghost is_default = { λ value. value.0 ≡ 0 };
+    ghost is_default = { λ value. value ≡ 0 };
 
     fn default() -> Block {
         Block::NoBlock
@@ -23,16 +36,16 @@ impl Default for Block {
 }
 
 impl TrieValue for Block {
-    ghost unpacked = { value_below 65536 (λ n. record { 0 = n }) };
+    ghost unpacked = { below 65536 };
 
-    ghost packed = { λ value. value.0 };
+    ghost packed = { λ value. value };
 
-    ghost unpacks_again = { value_below-again 65536 (λ n. record { 0 = n }) (λ value. value.0) (λ _. refl) };
+    ghost unpacks_again = { below-again 65536 };
 
-    ghost eq_is_same = { same_by_number (λ n. record { 0 = n }) (λ value. value.0) (λ _. refl) };
+    ghost eq_is_same = { nat_eq-same };
 
     fn try_from_u32(i: u32) -> Result<Block, ValueError> {
-        u16::try_from_u32(i).map(Block)
+        u16::try_from_u32(i).map(|number| Block(number))
     }
 
     fn to_u32(self) -> u32 {
@@ -49,7 +62,7 @@ impl EnumeratedProperty for Block {
 
     const TABLE: MapTable = MapTable::BLOCK;
 
-    ghost accepted = { λ n _. value_below-is_some 65536 (λ m. record { 0 = m }) n };
+    ghost accepted = { λ n _. below-is_some 65536 n };
 
     ghost default_packed = { λ _ is. is };
 }

@@ -1,35 +1,48 @@
 //! The classes of the break algorithms.
-ghost use Rattle.std.specs.Prelude.{◌≡◌, refl};
-ghost use Rattle.prop_values.specs.NumberedLaws.{value_below, value_below-again, value_below-is_some, same_by_number};
+ghost use Rattle.std.specs.Prelude.{◌≡◌};
+ghost use Rattle.cp_trie.specs.Values.{below};
+ghost use Rattle.cp_trie.specs.ValueLaws.{below-again, nat_eq-same};
+ghost use Rattle.prop_values.specs.NumberedLaws.{below-is_some};
 
 use crate::property::EnumeratedProperty;
 use crate::tables::MapTable;
 use cp_trie::{TrieValue, ValueError};
+use std::marker::Model;
 
 /// The line breaking class of a character (UAX 14).
 #[derive(Clone, Copy, Debug, PartialEq, Eq, PartialOrd, Ord, Hash)]
-pub struct LineBreak(pub(crate) u8);
+pub struct LineBreak(u8);
+
+impl Model for LineBreak {
+    ghost use Rattle.std.specs.Prelude.{ℕ};
+
+    ghost Value = { ℕ };
+
+    ghost view = { λ value. value.0 };
+
+    ghost inverse = { λ number. record { 0 = number } };
+}
 
 impl LineBreak {
     pub const Unknown: LineBreak = LineBreak(0);
 
     /// The number of the value.
     pub fn to_icu4c_value(self) -> u8
-        ensures { result ≡ self.0 }
+        ensures { result ≡ self }
     {
         self.0
     }
 
     /// The value of the number.
     pub fn from_icu4c_value(value: u8) -> LineBreak
-        ensures { result.0 ≡ value }
+        ensures { result ≡ value }
     {
         LineBreak(value)
     }
 }
 
 impl Default for LineBreak {
-    ghost is_default = { λ value. value.0 ≡ 0 };
+    ghost is_default = { λ value. value ≡ 0 };
 
     fn default() -> LineBreak {
         LineBreak::Unknown
@@ -37,16 +50,16 @@ impl Default for LineBreak {
 }
 
 impl TrieValue for LineBreak {
-    ghost unpacked = { value_below 256 (λ n. record { 0 = n }) };
+    ghost unpacked = { below 256 };
 
-    ghost packed = { λ value. value.0 };
+    ghost packed = { λ value. value };
 
-    ghost unpacks_again = { value_below-again 256 (λ n. record { 0 = n }) (λ value. value.0) (λ _. refl) };
+    ghost unpacks_again = { below-again 256 };
 
-    ghost eq_is_same = { same_by_number (λ n. record { 0 = n }) (λ value. value.0) (λ _. refl) };
+    ghost eq_is_same = { nat_eq-same };
 
     fn try_from_u32(i: u32) -> Result<LineBreak, ValueError> {
-        u8::try_from_u32(i).map(LineBreak)
+        u8::try_from_u32(i).map(LineBreak::from_icu4c_value)
     }
 
     fn to_u32(self) -> u32 {
@@ -63,35 +76,45 @@ impl EnumeratedProperty for LineBreak {
 
     const TABLE: MapTable = MapTable::LINE_BREAK;
 
-    ghost accepted = { λ n _. value_below-is_some 256 (λ m. record { 0 = m }) n };
+    ghost accepted = { λ n _. below-is_some 256 n };
 
     ghost default_packed = { λ _ is. is };
 }
 
 /// The class of a character in the breaking of grapheme clusters (UAX 29, section 3).
 #[derive(Clone, Copy, Debug, PartialEq, Eq, PartialOrd, Ord, Hash)]
-pub struct GraphemeClusterBreak(pub(crate) u8);
+pub struct GraphemeClusterBreak(u8);
+
+impl Model for GraphemeClusterBreak {
+    ghost use Rattle.std.specs.Prelude.{ℕ};
+
+    ghost Value = { ℕ };
+
+    ghost view = { λ value. value.0 };
+
+    ghost inverse = { λ number. record { 0 = number } };
+}
 
 impl GraphemeClusterBreak {
     pub const Other: GraphemeClusterBreak = GraphemeClusterBreak(0);
 
     /// The number of the value.
     pub fn to_icu4c_value(self) -> u8
-        ensures { result ≡ self.0 }
+        ensures { result ≡ self }
     {
         self.0
     }
 
     /// The value of the number.
     pub fn from_icu4c_value(value: u8) -> GraphemeClusterBreak
-        ensures { result.0 ≡ value }
+        ensures { result ≡ value }
     {
         GraphemeClusterBreak(value)
     }
 }
 
 impl Default for GraphemeClusterBreak {
-    ghost is_default = { λ value. value.0 ≡ 0 };
+    ghost is_default = { λ value. value ≡ 0 };
 
     fn default() -> GraphemeClusterBreak {
         GraphemeClusterBreak::Other
@@ -99,16 +122,16 @@ impl Default for GraphemeClusterBreak {
 }
 
 impl TrieValue for GraphemeClusterBreak {
-    ghost unpacked = { value_below 256 (λ n. record { 0 = n }) };
+    ghost unpacked = { below 256 };
 
-    ghost packed = { λ value. value.0 };
+    ghost packed = { λ value. value };
 
-    ghost unpacks_again = { value_below-again 256 (λ n. record { 0 = n }) (λ value. value.0) (λ _. refl) };
+    ghost unpacks_again = { below-again 256 };
 
-    ghost eq_is_same = { same_by_number (λ n. record { 0 = n }) (λ value. value.0) (λ _. refl) };
+    ghost eq_is_same = { nat_eq-same };
 
     fn try_from_u32(i: u32) -> Result<GraphemeClusterBreak, ValueError> {
-        u8::try_from_u32(i).map(GraphemeClusterBreak)
+        u8::try_from_u32(i).map(GraphemeClusterBreak::from_icu4c_value)
     }
 
     fn to_u32(self) -> u32 {
@@ -125,35 +148,45 @@ impl EnumeratedProperty for GraphemeClusterBreak {
 
     const TABLE: MapTable = MapTable::GRAPHEME_CLUSTER_BREAK;
 
-    ghost accepted = { λ n _. value_below-is_some 256 (λ m. record { 0 = m }) n };
+    ghost accepted = { λ n _. below-is_some 256 n };
 
     ghost default_packed = { λ _ is. is };
 }
 
 /// The class of a character in the breaking of words (UAX 29, section 4).
 #[derive(Clone, Copy, Debug, PartialEq, Eq, PartialOrd, Ord, Hash)]
-pub struct WordBreak(pub(crate) u8);
+pub struct WordBreak(u8);
+
+impl Model for WordBreak {
+    ghost use Rattle.std.specs.Prelude.{ℕ};
+
+    ghost Value = { ℕ };
+
+    ghost view = { λ value. value.0 };
+
+    ghost inverse = { λ number. record { 0 = number } };
+}
 
 impl WordBreak {
     pub const Other: WordBreak = WordBreak(0);
 
     /// The number of the value.
     pub fn to_icu4c_value(self) -> u8
-        ensures { result ≡ self.0 }
+        ensures { result ≡ self }
     {
         self.0
     }
 
     /// The value of the number.
     pub fn from_icu4c_value(value: u8) -> WordBreak
-        ensures { result.0 ≡ value }
+        ensures { result ≡ value }
     {
         WordBreak(value)
     }
 }
 
 impl Default for WordBreak {
-    ghost is_default = { λ value. value.0 ≡ 0 };
+    ghost is_default = { λ value. value ≡ 0 };
 
     fn default() -> WordBreak {
         WordBreak::Other
@@ -161,16 +194,16 @@ impl Default for WordBreak {
 }
 
 impl TrieValue for WordBreak {
-    ghost unpacked = { value_below 256 (λ n. record { 0 = n }) };
+    ghost unpacked = { below 256 };
 
-    ghost packed = { λ value. value.0 };
+    ghost packed = { λ value. value };
 
-    ghost unpacks_again = { value_below-again 256 (λ n. record { 0 = n }) (λ value. value.0) (λ _. refl) };
+    ghost unpacks_again = { below-again 256 };
 
-    ghost eq_is_same = { same_by_number (λ n. record { 0 = n }) (λ value. value.0) (λ _. refl) };
+    ghost eq_is_same = { nat_eq-same };
 
     fn try_from_u32(i: u32) -> Result<WordBreak, ValueError> {
-        u8::try_from_u32(i).map(WordBreak)
+        u8::try_from_u32(i).map(WordBreak::from_icu4c_value)
     }
 
     fn to_u32(self) -> u32 {
@@ -187,35 +220,45 @@ impl EnumeratedProperty for WordBreak {
 
     const TABLE: MapTable = MapTable::WORD_BREAK;
 
-    ghost accepted = { λ n _. value_below-is_some 256 (λ m. record { 0 = m }) n };
+    ghost accepted = { λ n _. below-is_some 256 n };
 
     ghost default_packed = { λ _ is. is };
 }
 
 /// The class of a character in the breaking of sentences (UAX 29, section 5).
 #[derive(Clone, Copy, Debug, PartialEq, Eq, PartialOrd, Ord, Hash)]
-pub struct SentenceBreak(pub(crate) u8);
+pub struct SentenceBreak(u8);
+
+impl Model for SentenceBreak {
+    ghost use Rattle.std.specs.Prelude.{ℕ};
+
+    ghost Value = { ℕ };
+
+    ghost view = { λ value. value.0 };
+
+    ghost inverse = { λ number. record { 0 = number } };
+}
 
 impl SentenceBreak {
     pub const Other: SentenceBreak = SentenceBreak(0);
 
     /// The number of the value.
     pub fn to_icu4c_value(self) -> u8
-        ensures { result ≡ self.0 }
+        ensures { result ≡ self }
     {
         self.0
     }
 
     /// The value of the number.
     pub fn from_icu4c_value(value: u8) -> SentenceBreak
-        ensures { result.0 ≡ value }
+        ensures { result ≡ value }
     {
         SentenceBreak(value)
     }
 }
 
 impl Default for SentenceBreak {
-    ghost is_default = { λ value. value.0 ≡ 0 };
+    ghost is_default = { λ value. value ≡ 0 };
 
     fn default() -> SentenceBreak {
         SentenceBreak::Other
@@ -223,16 +266,16 @@ impl Default for SentenceBreak {
 }
 
 impl TrieValue for SentenceBreak {
-    ghost unpacked = { value_below 256 (λ n. record { 0 = n }) };
+    ghost unpacked = { below 256 };
 
-    ghost packed = { λ value. value.0 };
+    ghost packed = { λ value. value };
 
-    ghost unpacks_again = { value_below-again 256 (λ n. record { 0 = n }) (λ value. value.0) (λ _. refl) };
+    ghost unpacks_again = { below-again 256 };
 
-    ghost eq_is_same = { same_by_number (λ n. record { 0 = n }) (λ value. value.0) (λ _. refl) };
+    ghost eq_is_same = { nat_eq-same };
 
     fn try_from_u32(i: u32) -> Result<SentenceBreak, ValueError> {
-        u8::try_from_u32(i).map(SentenceBreak)
+        u8::try_from_u32(i).map(SentenceBreak::from_icu4c_value)
     }
 
     fn to_u32(self) -> u32 {
@@ -249,7 +292,7 @@ impl EnumeratedProperty for SentenceBreak {
 
     const TABLE: MapTable = MapTable::SENTENCE_BREAK;
 
-    ghost accepted = { λ n _. value_below-is_some 256 (λ m. record { 0 = m }) n };
+    ghost accepted = { λ n _. below-is_some 256 n };
 
     ghost default_packed = { λ _ is. is };
 }

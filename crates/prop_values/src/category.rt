@@ -1,7 +1,7 @@
 //! The general category.
-ghost use Rattle.std.specs.Prelude.{◌≡◌, ◌<◌, ◌↔◌, Some, None, MatchResult};
+ghost use Rattle.std.specs.Prelude.{◌≡◌};
 ghost use Rattle.prop_values.specs.declared.category.GeneralCategory.TheVariants.{Unassigned};
-ghost use Rattle.prop_values.specs.Category.{category_of, number_of};
+ghost use Rattle.prop_values.specs.Category.{category_of, number_of, AnswersCategory};
 ghost use Rattle.prop_values.specs.CategoryLaws.{category_of-again, same_category, category_of-accepted, default_number_of};
 
 use crate::property::EnumeratedProperty;
@@ -123,10 +123,10 @@ fn category_at(number: usize) -> Option<GeneralCategory>
 impl TryFrom<u8> for GeneralCategory {
     type Error = GeneralCategoryOutOfBoundsError;
 
+    ghost try_from_gives = { AnswersCategory };
+
     /// The category of the number, which is at most 29.
-    fn try_from(value: u8) -> Result<GeneralCategory, GeneralCategoryOutOfBoundsError>
-        ensures { MatchResult result (λ category. category_of value ≡ Some category) (λ _. category_of value ≡ None) }
-    {
+    fn try_from(value: u8) -> Result<GeneralCategory, GeneralCategoryOutOfBoundsError> {
         category_at(usize::from(value)).ok_or(GeneralCategoryOutOfBoundsError)
     }
 }

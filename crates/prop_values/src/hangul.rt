@@ -1,14 +1,27 @@
 //! The type of Hangul syllables.
-ghost use Rattle.std.specs.Prelude.{◌≡◌, refl};
-ghost use Rattle.prop_values.specs.NumberedLaws.{value_below, value_below-again, value_below-is_some, same_by_number};
+ghost use Rattle.std.specs.Prelude.{◌≡◌};
+ghost use Rattle.cp_trie.specs.Values.{below};
+ghost use Rattle.cp_trie.specs.ValueLaws.{below-again, nat_eq-same};
+ghost use Rattle.prop_values.specs.NumberedLaws.{below-is_some};
 
 use crate::property::EnumeratedProperty;
 use crate::tables::MapTable;
 use cp_trie::{TrieValue, ValueError};
+use std::marker::Model;
 
 /// The type of a Hangul syllable or jamo (UAX 44, section 5.3).
 #[derive(Clone, Copy, Debug, PartialEq, Eq, PartialOrd, Ord, Hash)]
-pub struct HangulSyllableType(pub(crate) u8);
+pub struct HangulSyllableType(u8);
+
+impl Model for HangulSyllableType {
+    ghost use Rattle.std.specs.Prelude.{ℕ};
+
+    ghost Value = { ℕ };
+
+    ghost view = { λ value. value.0 };
+
+    ghost inverse = { λ number. record { 0 = number } };
+}
 
 impl HangulSyllableType {
     pub const NotApplicable: HangulSyllableType = HangulSyllableType(0);
@@ -29,21 +42,21 @@ impl HangulSyllableType {
 
     /// The number of the value.
     pub fn to_icu4c_value(self) -> u8
-        ensures { result ≡ self.0 }
+        ensures { result ≡ self }
     {
         self.0
     }
 
     /// The value of the number.
     pub fn from_icu4c_value(value: u8) -> HangulSyllableType
-        ensures { result.0 ≡ value }
+        ensures { result ≡ value }
     {
         HangulSyllableType(value)
     }
 }
 
 impl Default for HangulSyllableType {
-    ghost is_default = { λ value. value.0 ≡ 0 };
+    ghost is_default = { λ value. value ≡ 0 };
 
     fn default() -> HangulSyllableType {
         HangulSyllableType::NotApplicable
@@ -51,16 +64,16 @@ impl Default for HangulSyllableType {
 }
 
 impl TrieValue for HangulSyllableType {
-    ghost unpacked = { value_below 256 (λ n. record { 0 = n }) };
+    ghost unpacked = { below 256 };
 
-    ghost packed = { λ value. value.0 };
+    ghost packed = { λ value. value };
 
-    ghost unpacks_again = { value_below-again 256 (λ n. record { 0 = n }) (λ value. value.0) (λ _. refl) };
+    ghost unpacks_again = { below-again 256 };
 
-    ghost eq_is_same = { same_by_number (λ n. record { 0 = n }) (λ value. value.0) (λ _. refl) };
+    ghost eq_is_same = { nat_eq-same };
 
     fn try_from_u32(i: u32) -> Result<HangulSyllableType, ValueError> {
-        u8::try_from_u32(i).map(HangulSyllableType)
+        u8::try_from_u32(i).map(HangulSyllableType::from_icu4c_value)
     }
 
     fn to_u32(self) -> u32 {
@@ -77,7 +90,7 @@ impl EnumeratedProperty for HangulSyllableType {
 
     const TABLE: MapTable = MapTable::HANGUL_SYLLABLE_TYPE;
 
-    ghost accepted = { λ n _. value_below-is_some 256 (λ m. record { 0 = m }) n };
+    ghost accepted = { λ n _. below-is_some 256 n };
 
     ghost default_packed = { λ _ is. is };
 }

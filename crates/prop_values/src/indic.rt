@@ -1,35 +1,48 @@
 //! The classes of Indic scripts.
-ghost use Rattle.std.specs.Prelude.{◌≡◌, refl};
-ghost use Rattle.prop_values.specs.NumberedLaws.{value_below, value_below-again, value_below-is_some, same_by_number};
+ghost use Rattle.std.specs.Prelude.{◌≡◌};
+ghost use Rattle.cp_trie.specs.Values.{below};
+ghost use Rattle.cp_trie.specs.ValueLaws.{below-again, nat_eq-same};
+ghost use Rattle.prop_values.specs.NumberedLaws.{below-is_some};
 
 use crate::property::EnumeratedProperty;
 use crate::tables::MapTable;
 use cp_trie::{TrieValue, ValueError};
+use std::marker::Model;
 
 /// The part that a character has in an Indic conjunct (UAX 44, section 5.3).
 #[derive(Clone, Copy, Debug, PartialEq, Eq, PartialOrd, Ord, Hash)]
-pub struct IndicConjunctBreak(pub(crate) u8);
+pub struct IndicConjunctBreak(u8);
+
+impl Model for IndicConjunctBreak {
+    ghost use Rattle.std.specs.Prelude.{ℕ};
+
+    ghost Value = { ℕ };
+
+    ghost view = { λ value. value.0 };
+
+    ghost inverse = { λ number. record { 0 = number } };
+}
 
 impl IndicConjunctBreak {
     pub const None: IndicConjunctBreak = IndicConjunctBreak(0);
 
     /// The number of the value.
     pub fn to_icu4c_value(self) -> u8
-        ensures { result ≡ self.0 }
+        ensures { result ≡ self }
     {
         self.0
     }
 
     /// The value of the number.
     pub fn from_icu4c_value(value: u8) -> IndicConjunctBreak
-        ensures { result.0 ≡ value }
+        ensures { result ≡ value }
     {
         IndicConjunctBreak(value)
     }
 }
 
 impl Default for IndicConjunctBreak {
-    ghost is_default = { λ value. value.0 ≡ 0 };
+    ghost is_default = { λ value. value ≡ 0 };
 
     fn default() -> IndicConjunctBreak {
         IndicConjunctBreak::None
@@ -37,16 +50,16 @@ impl Default for IndicConjunctBreak {
 }
 
 impl TrieValue for IndicConjunctBreak {
-    ghost unpacked = { value_below 256 (λ n. record { 0 = n }) };
+    ghost unpacked = { below 256 };
 
-    ghost packed = { λ value. value.0 };
+    ghost packed = { λ value. value };
 
-    ghost unpacks_again = { value_below-again 256 (λ n. record { 0 = n }) (λ value. value.0) (λ _. refl) };
+    ghost unpacks_again = { below-again 256 };
 
-    ghost eq_is_same = { same_by_number (λ n. record { 0 = n }) (λ value. value.0) (λ _. refl) };
+    ghost eq_is_same = { nat_eq-same };
 
     fn try_from_u32(i: u32) -> Result<IndicConjunctBreak, ValueError> {
-        u8::try_from_u32(i).map(IndicConjunctBreak)
+        u8::try_from_u32(i).map(IndicConjunctBreak::from_icu4c_value)
     }
 
     fn to_u32(self) -> u32 {
@@ -63,35 +76,45 @@ impl EnumeratedProperty for IndicConjunctBreak {
 
     const TABLE: MapTable = MapTable::INDIC_CONJUNCT_BREAK;
 
-    ghost accepted = { λ n _. value_below-is_some 256 (λ m. record { 0 = m }) n };
+    ghost accepted = { λ n _. below-is_some 256 n };
 
     ghost default_packed = { λ _ is. is };
 }
 
 /// The structural category of a syllabic component in Indic scripts (UAX 44, section 5.3).
 #[derive(Clone, Copy, Debug, PartialEq, Eq, PartialOrd, Ord, Hash)]
-pub struct IndicSyllabicCategory(pub(crate) u8);
+pub struct IndicSyllabicCategory(u8);
+
+impl Model for IndicSyllabicCategory {
+    ghost use Rattle.std.specs.Prelude.{ℕ};
+
+    ghost Value = { ℕ };
+
+    ghost view = { λ value. value.0 };
+
+    ghost inverse = { λ number. record { 0 = number } };
+}
 
 impl IndicSyllabicCategory {
     pub const Other: IndicSyllabicCategory = IndicSyllabicCategory(0);
 
     /// The number of the value.
     pub fn to_icu4c_value(self) -> u8
-        ensures { result ≡ self.0 }
+        ensures { result ≡ self }
     {
         self.0
     }
 
     /// The value of the number.
     pub fn from_icu4c_value(value: u8) -> IndicSyllabicCategory
-        ensures { result.0 ≡ value }
+        ensures { result ≡ value }
     {
         IndicSyllabicCategory(value)
     }
 }
 
 impl Default for IndicSyllabicCategory {
-    ghost is_default = { λ value. value.0 ≡ 0 };
+    ghost is_default = { λ value. value ≡ 0 };
 
     fn default() -> IndicSyllabicCategory {
         IndicSyllabicCategory::Other
@@ -99,16 +122,16 @@ impl Default for IndicSyllabicCategory {
 }
 
 impl TrieValue for IndicSyllabicCategory {
-    ghost unpacked = { value_below 256 (λ n. record { 0 = n }) };
+    ghost unpacked = { below 256 };
 
-    ghost packed = { λ value. value.0 };
+    ghost packed = { λ value. value };
 
-    ghost unpacks_again = { value_below-again 256 (λ n. record { 0 = n }) (λ value. value.0) (λ _. refl) };
+    ghost unpacks_again = { below-again 256 };
 
-    ghost eq_is_same = { same_by_number (λ n. record { 0 = n }) (λ value. value.0) (λ _. refl) };
+    ghost eq_is_same = { nat_eq-same };
 
     fn try_from_u32(i: u32) -> Result<IndicSyllabicCategory, ValueError> {
-        u8::try_from_u32(i).map(IndicSyllabicCategory)
+        u8::try_from_u32(i).map(IndicSyllabicCategory::from_icu4c_value)
     }
 
     fn to_u32(self) -> u32 {
@@ -125,7 +148,7 @@ impl EnumeratedProperty for IndicSyllabicCategory {
 
     const TABLE: MapTable = MapTable::INDIC_SYLLABIC_CATEGORY;
 
-    ghost accepted = { λ n _. value_below-is_some 256 (λ m. record { 0 = m }) n };
+    ghost accepted = { λ n _. below-is_some 256 n };
 
     ghost default_packed = { λ _ is. is };
 }

@@ -1,35 +1,48 @@
 //! The classes of cursive joining.
-ghost use Rattle.std.specs.Prelude.{◌≡◌, refl};
-ghost use Rattle.prop_values.specs.NumberedLaws.{value_below, value_below-again, value_below-is_some, same_by_number};
+ghost use Rattle.std.specs.Prelude.{◌≡◌};
+ghost use Rattle.cp_trie.specs.Values.{below};
+ghost use Rattle.cp_trie.specs.ValueLaws.{below-again, nat_eq-same};
+ghost use Rattle.prop_values.specs.NumberedLaws.{below-is_some};
 
 use crate::property::EnumeratedProperty;
 use crate::tables::MapTable;
 use cp_trie::{TrieValue, ValueError};
+use std::marker::Model;
 
 /// The joining group of a character in Arabic and Syriac (UAX 44, section 5.3).
 #[derive(Clone, Copy, Debug, PartialEq, Eq, PartialOrd, Ord, Hash)]
-pub struct JoiningGroup(pub(crate) u8);
+pub struct JoiningGroup(u8);
+
+impl Model for JoiningGroup {
+    ghost use Rattle.std.specs.Prelude.{ℕ};
+
+    ghost Value = { ℕ };
+
+    ghost view = { λ value. value.0 };
+
+    ghost inverse = { λ number. record { 0 = number } };
+}
 
 impl JoiningGroup {
     pub const NoJoiningGroup: JoiningGroup = JoiningGroup(0);
 
     /// The number of the value.
     pub fn to_icu4c_value(self) -> u8
-        ensures { result ≡ self.0 }
+        ensures { result ≡ self }
     {
         self.0
     }
 
     /// The value of the number.
     pub fn from_icu4c_value(value: u8) -> JoiningGroup
-        ensures { result.0 ≡ value }
+        ensures { result ≡ value }
     {
         JoiningGroup(value)
     }
 }
 
 impl Default for JoiningGroup {
-    ghost is_default = { λ value. value.0 ≡ 0 };
+    ghost is_default = { λ value. value ≡ 0 };
 
     fn default() -> JoiningGroup {
         JoiningGroup::NoJoiningGroup
@@ -37,16 +50,16 @@ impl Default for JoiningGroup {
 }
 
 impl TrieValue for JoiningGroup {
-    ghost unpacked = { value_below 256 (λ n. record { 0 = n }) };
+    ghost unpacked = { below 256 };
 
-    ghost packed = { λ value. value.0 };
+    ghost packed = { λ value. value };
 
-    ghost unpacks_again = { value_below-again 256 (λ n. record { 0 = n }) (λ value. value.0) (λ _. refl) };
+    ghost unpacks_again = { below-again 256 };
 
-    ghost eq_is_same = { same_by_number (λ n. record { 0 = n }) (λ value. value.0) (λ _. refl) };
+    ghost eq_is_same = { nat_eq-same };
 
     fn try_from_u32(i: u32) -> Result<JoiningGroup, ValueError> {
-        u8::try_from_u32(i).map(JoiningGroup)
+        u8::try_from_u32(i).map(JoiningGroup::from_icu4c_value)
     }
 
     fn to_u32(self) -> u32 {
@@ -63,35 +76,45 @@ impl EnumeratedProperty for JoiningGroup {
 
     const TABLE: MapTable = MapTable::JOINING_GROUP;
 
-    ghost accepted = { λ n _. value_below-is_some 256 (λ m. record { 0 = m }) n };
+    ghost accepted = { λ n _. below-is_some 256 n };
 
     ghost default_packed = { λ _ is. is };
 }
 
 /// The joining type of a character (UAX 44, section 5.3).
 #[derive(Clone, Copy, Debug, PartialEq, Eq, PartialOrd, Ord, Hash)]
-pub struct JoiningType(pub(crate) u8);
+pub struct JoiningType(u8);
+
+impl Model for JoiningType {
+    ghost use Rattle.std.specs.Prelude.{ℕ};
+
+    ghost Value = { ℕ };
+
+    ghost view = { λ value. value.0 };
+
+    ghost inverse = { λ number. record { 0 = number } };
+}
 
 impl JoiningType {
     pub const NonJoining: JoiningType = JoiningType(0);
 
     /// The number of the value.
     pub fn to_icu4c_value(self) -> u8
-        ensures { result ≡ self.0 }
+        ensures { result ≡ self }
     {
         self.0
     }
 
     /// The value of the number.
     pub fn from_icu4c_value(value: u8) -> JoiningType
-        ensures { result.0 ≡ value }
+        ensures { result ≡ value }
     {
         JoiningType(value)
     }
 }
 
 impl Default for JoiningType {
-    ghost is_default = { λ value. value.0 ≡ 0 };
+    ghost is_default = { λ value. value ≡ 0 };
 
     fn default() -> JoiningType {
         JoiningType::NonJoining
@@ -99,16 +122,16 @@ impl Default for JoiningType {
 }
 
 impl TrieValue for JoiningType {
-    ghost unpacked = { value_below 256 (λ n. record { 0 = n }) };
+    ghost unpacked = { below 256 };
 
-    ghost packed = { λ value. value.0 };
+    ghost packed = { λ value. value };
 
-    ghost unpacks_again = { value_below-again 256 (λ n. record { 0 = n }) (λ value. value.0) (λ _. refl) };
+    ghost unpacks_again = { below-again 256 };
 
-    ghost eq_is_same = { same_by_number (λ n. record { 0 = n }) (λ value. value.0) (λ _. refl) };
+    ghost eq_is_same = { nat_eq-same };
 
     fn try_from_u32(i: u32) -> Result<JoiningType, ValueError> {
-        u8::try_from_u32(i).map(JoiningType)
+        u8::try_from_u32(i).map(JoiningType::from_icu4c_value)
     }
 
     fn to_u32(self) -> u32 {
@@ -125,7 +148,7 @@ impl EnumeratedProperty for JoiningType {
 
     const TABLE: MapTable = MapTable::JOINING_TYPE;
 
-    ghost accepted = { λ n _. value_below-is_some 256 (λ m. record { 0 = m }) n };
+    ghost accepted = { λ n _. below-is_some 256 n };
 
     ghost default_packed = { λ _ is. is };
 }

@@ -1,35 +1,48 @@
 //! Width and orientation.
-ghost use Rattle.std.specs.Prelude.{◌≡◌, refl};
-ghost use Rattle.prop_values.specs.NumberedLaws.{value_below, value_below-again, value_below-is_some, same_by_number};
+ghost use Rattle.std.specs.Prelude.{◌≡◌};
+ghost use Rattle.cp_trie.specs.Values.{below};
+ghost use Rattle.cp_trie.specs.ValueLaws.{below-again, nat_eq-same};
+ghost use Rattle.prop_values.specs.NumberedLaws.{below-is_some};
 
 use crate::property::EnumeratedProperty;
 use crate::tables::MapTable;
 use cp_trie::{TrieValue, ValueError};
+use std::marker::Model;
 
 /// The width of a character in East Asian text (UAX 11).
 #[derive(Clone, Copy, Debug, PartialEq, Eq, PartialOrd, Ord, Hash)]
-pub struct EastAsianWidth(pub(crate) u8);
+pub struct EastAsianWidth(u8);
+
+impl Model for EastAsianWidth {
+    ghost use Rattle.std.specs.Prelude.{ℕ};
+
+    ghost Value = { ℕ };
+
+    ghost view = { λ value. value.0 };
+
+    ghost inverse = { λ number. record { 0 = number } };
+}
 
 impl EastAsianWidth {
     pub const Neutral: EastAsianWidth = EastAsianWidth(0);
 
     /// The number of the value.
     pub fn to_icu4c_value(self) -> u8
-        ensures { result ≡ self.0 }
+        ensures { result ≡ self }
     {
         self.0
     }
 
     /// The value of the number.
     pub fn from_icu4c_value(value: u8) -> EastAsianWidth
-        ensures { result.0 ≡ value }
+        ensures { result ≡ value }
     {
         EastAsianWidth(value)
     }
 }
 
 impl Default for EastAsianWidth {
-    ghost is_default = { λ value. value.0 ≡ 0 };
+    ghost is_default = { λ value. value ≡ 0 };
 
     fn default() -> EastAsianWidth {
         EastAsianWidth::Neutral
@@ -37,16 +50,16 @@ impl Default for EastAsianWidth {
 }
 
 impl TrieValue for EastAsianWidth {
-    ghost unpacked = { value_below 256 (λ n. record { 0 = n }) };
+    ghost unpacked = { below 256 };
 
-    ghost packed = { λ value. value.0 };
+    ghost packed = { λ value. value };
 
-    ghost unpacks_again = { value_below-again 256 (λ n. record { 0 = n }) (λ value. value.0) (λ _. refl) };
+    ghost unpacks_again = { below-again 256 };
 
-    ghost eq_is_same = { same_by_number (λ n. record { 0 = n }) (λ value. value.0) (λ _. refl) };
+    ghost eq_is_same = { nat_eq-same };
 
     fn try_from_u32(i: u32) -> Result<EastAsianWidth, ValueError> {
-        u8::try_from_u32(i).map(EastAsianWidth)
+        u8::try_from_u32(i).map(EastAsianWidth::from_icu4c_value)
     }
 
     fn to_u32(self) -> u32 {
@@ -63,35 +76,45 @@ impl EnumeratedProperty for EastAsianWidth {
 
     const TABLE: MapTable = MapTable::EAST_ASIAN_WIDTH;
 
-    ghost accepted = { λ n _. value_below-is_some 256 (λ m. record { 0 = m }) n };
+    ghost accepted = { λ n _. below-is_some 256 n };
 
     ghost default_packed = { λ _ is. is };
 }
 
 /// The orientation of a character in vertical text (UAX 50).
 #[derive(Clone, Copy, Debug, PartialEq, Eq, PartialOrd, Ord, Hash)]
-pub struct VerticalOrientation(pub(crate) u8);
+pub struct VerticalOrientation(u8);
+
+impl Model for VerticalOrientation {
+    ghost use Rattle.std.specs.Prelude.{ℕ};
+
+    ghost Value = { ℕ };
+
+    ghost view = { λ value. value.0 };
+
+    ghost inverse = { λ number. record { 0 = number } };
+}
 
 impl VerticalOrientation {
     pub const Rotated: VerticalOrientation = VerticalOrientation(0);
 
     /// The number of the value.
     pub fn to_icu4c_value(self) -> u8
-        ensures { result ≡ self.0 }
+        ensures { result ≡ self }
     {
         self.0
     }
 
     /// The value of the number.
     pub fn from_icu4c_value(value: u8) -> VerticalOrientation
-        ensures { result.0 ≡ value }
+        ensures { result ≡ value }
     {
         VerticalOrientation(value)
     }
 }
 
 impl Default for VerticalOrientation {
-    ghost is_default = { λ value. value.0 ≡ 0 };
+    ghost is_default = { λ value. value ≡ 0 };
 
     fn default() -> VerticalOrientation {
         VerticalOrientation::Rotated
@@ -99,16 +122,16 @@ impl Default for VerticalOrientation {
 }
 
 impl TrieValue for VerticalOrientation {
-    ghost unpacked = { value_below 256 (λ n. record { 0 = n }) };
+    ghost unpacked = { below 256 };
 
-    ghost packed = { λ value. value.0 };
+    ghost packed = { λ value. value };
 
-    ghost unpacks_again = { value_below-again 256 (λ n. record { 0 = n }) (λ value. value.0) (λ _. refl) };
+    ghost unpacks_again = { below-again 256 };
 
-    ghost eq_is_same = { same_by_number (λ n. record { 0 = n }) (λ value. value.0) (λ _. refl) };
+    ghost eq_is_same = { nat_eq-same };
 
     fn try_from_u32(i: u32) -> Result<VerticalOrientation, ValueError> {
-        u8::try_from_u32(i).map(VerticalOrientation)
+        u8::try_from_u32(i).map(VerticalOrientation::from_icu4c_value)
     }
 
     fn to_u32(self) -> u32 {
@@ -125,7 +148,7 @@ impl EnumeratedProperty for VerticalOrientation {
 
     const TABLE: MapTable = MapTable::VERTICAL_ORIENTATION;
 
-    ghost accepted = { λ n _. value_below-is_some 256 (λ m. record { 0 = m }) n };
+    ghost accepted = { λ n _. below-is_some 256 n };
 
     ghost default_packed = { λ _ is. is };
 }

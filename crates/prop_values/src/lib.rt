@@ -19,8 +19,6 @@ pub mod rows;
 mod script;
 mod subtag;
 mod tables;
-#[cfg(test)]
-mod tests;
 
 pub use bidi::BidiClass;
 pub use block::Block;

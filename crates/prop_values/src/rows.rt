@@ -1,7 +1,8 @@
-//! The constants of the tables, of the property types and of the groups, as lists that contracts speak of.
-ghost use Rattle.std.specs.Prelude.{◌≡◌, map};
+//! The constants of the tables of names, of the property types, of values and of groups, as lists that contracts
+//! speak of.
+ghost use Rattle.std.specs.Prelude.{◌≡◌, ◌∷◌, [], map};
 ghost use Rattle.prop_values.specs.Groups.{packings};
-ghost use Rattle.prop_values.specs.Tables.{numbered_names};
+ghost use Rattle.prop_values.specs.Tables.{numbers_from, properties};
 
 use crate::bidi::BidiClass;
 use crate::block::Block;
@@ -16,40 +17,8 @@ use crate::layout::{EastAsianWidth, VerticalOrientation};
 use crate::marks::CanonicalCombiningClass;
 use crate::numeric::NumericType;
 use crate::property::EnumeratedProperty;
-use crate::script::Script;
-use crate::tables::{MapTable, NamesTable};
-
-// The row of a type: its table, its long name and its short name.
-macro_rules! row {
-    ($property:ty) => {
-        (
-            <$property>::TABLE,
-            <$property>::NAME,
-            <$property>::SHORT_NAME,
-        )
-    };
-}
-
-const MAP_TABLES: [MapTable; 18] = [
-    MapTable::BIDI_CLASS,
-    MapTable::BLOCK,
-    MapTable::NUMERIC_TYPE,
-    MapTable::GENERAL_CATEGORY,
-    MapTable::SCRIPT,
-    MapTable::HANGUL_SYLLABLE_TYPE,
-    MapTable::EAST_ASIAN_WIDTH,
-    MapTable::LINE_BREAK,
-    MapTable::GRAPHEME_CLUSTER_BREAK,
-    MapTable::WORD_BREAK,
-    MapTable::SENTENCE_BREAK,
-    MapTable::CANONICAL_COMBINING_CLASS,
-    MapTable::INDIC_CONJUNCT_BREAK,
-    MapTable::INDIC_SYLLABIC_CATEGORY,
-    MapTable::JOINING_GROUP,
-    MapTable::JOINING_TYPE,
-    MapTable::VERTICAL_ORIENTATION,
-    MapTable::BIDI_MIRRORING_GLYPH,
-];
+use crate::script::{Script, ScriptWithExt};
+use crate::tables::NamesTable;
 
 const NAMES_TABLES: [NamesTable; 18] = [
     NamesTable::BIDI_CLASS,
@@ -171,42 +140,41 @@ const GROUPS: [(GeneralCategoryGroup, GeneralCategoryGroup); 38] = [
     (GeneralCategoryGroup::Symbol, GeneralCategoryGroup::S),
 ];
 
-/// The table, the long name and the short name of each enumerated property, in the order of the tables' numbers.
-pub fn properties() -> [(MapTable, &'static [u8], &'static [u8]); 18]
-    ensures { map (λ row. (row.0, row.1.now, row.2.now)) result ≡ numbered_names }
+/// The long and the short name of each enumerated property, in the order of the tables' numbers.
+pub fn names_of_properties() -> [(&'static [u8], &'static [u8]); 18]
+    ensures { map (λ row. (row.0.now, row.1.now)) result ≡ properties }
 {
     [
-        row!(BidiClass),
-        row!(Block),
-        row!(NumericType),
-        row!(GeneralCategory),
-        row!(Script),
-        row!(HangulSyllableType),
-        row!(EastAsianWidth),
-        row!(LineBreak),
-        row!(GraphemeClusterBreak),
-        row!(WordBreak),
-        row!(SentenceBreak),
-        row!(CanonicalCombiningClass),
-        row!(IndicConjunctBreak),
-        row!(IndicSyllabicCategory),
-        row!(JoiningGroup),
-        row!(JoiningType),
-        row!(VerticalOrientation),
-        row!(BidiMirroringGlyph),
+        (BidiClass::NAME, BidiClass::SHORT_NAME),
+        (Block::NAME, Block::SHORT_NAME),
+        (NumericType::NAME, NumericType::SHORT_NAME),
+        (GeneralCategory::NAME, GeneralCategory::SHORT_NAME),
+        (Script::NAME, Script::SHORT_NAME),
+        (HangulSyllableType::NAME, HangulSyllableType::SHORT_NAME),
+        (EastAsianWidth::NAME, EastAsianWidth::SHORT_NAME),
+        (LineBreak::NAME, LineBreak::SHORT_NAME),
+        (GraphemeClusterBreak::NAME, GraphemeClusterBreak::SHORT_NAME),
+        (WordBreak::NAME, WordBreak::SHORT_NAME),
+        (SentenceBreak::NAME, SentenceBreak::SHORT_NAME),
+        (
+            CanonicalCombiningClass::NAME,
+            CanonicalCombiningClass::SHORT_NAME,
+        ),
+        (IndicConjunctBreak::NAME, IndicConjunctBreak::SHORT_NAME),
+        (
+            IndicSyllabicCategory::NAME,
+            IndicSyllabicCategory::SHORT_NAME,
+        ),
+        (JoiningGroup::NAME, JoiningGroup::SHORT_NAME),
+        (JoiningType::NAME, JoiningType::SHORT_NAME),
+        (VerticalOrientation::NAME, VerticalOrientation::SHORT_NAME),
+        (BidiMirroringGlyph::NAME, BidiMirroringGlyph::SHORT_NAME),
     ]
-}
-
-/// The tables of values: the constants of the type, in the order of their numbers.
-pub fn map_tables() -> [MapTable; 18]
-    ensures { result ≡ map (λ row. row.0) numbered_names }
-{
-    MAP_TABLES
 }
 
 /// The tables of names: the constants of the type, in the order of their numbers.
 pub fn names_tables() -> [NamesTable; 18]
-    ensures { result ≡ map (λ row. row.0) numbered_names }
+    ensures { result ≡ numbers_from 0 18 }
 {
     NAMES_TABLES
 }
@@ -218,4 +186,79 @@ pub fn groups() -> [(GeneralCategoryGroup, GeneralCategoryGroup); 38]
     ensures short { map (λ row. row.1) result ≡ map (λ row. row.1) packings }
 {
     GROUPS
+}
+
+/// The constants for bidirectional classes, in the order of their numbers.
+pub fn bidi_classes() -> [BidiClass; 23]
+    ensures { result ≡ numbers_from 0 23 }
+{
+    [
+        BidiClass::LeftToRight,
+        BidiClass::RightToLeft,
+        BidiClass::EuropeanNumber,
+        BidiClass::EuropeanSeparator,
+        BidiClass::EuropeanTerminator,
+        BidiClass::ArabicNumber,
+        BidiClass::CommonSeparator,
+        BidiClass::ParagraphSeparator,
+        BidiClass::SegmentSeparator,
+        BidiClass::WhiteSpace,
+        BidiClass::OtherNeutral,
+        BidiClass::LeftToRightEmbedding,
+        BidiClass::LeftToRightOverride,
+        BidiClass::ArabicLetter,
+        BidiClass::RightToLeftEmbedding,
+        BidiClass::RightToLeftOverride,
+        BidiClass::PopDirectionalFormat,
+        BidiClass::NonspacingMark,
+        BidiClass::BoundaryNeutral,
+        BidiClass::FirstStrongIsolate,
+        BidiClass::LeftToRightIsolate,
+        BidiClass::RightToLeftIsolate,
+        BidiClass::PopDirectionalIsolate,
+    ]
+}
+
+/// The constants for scripts.
+pub fn scripts() -> [Script; 13]
+    ensures { result ≡ 0 ∷ 1 ∷ 4 ∷ 8 ∷ 10 ∷ 11 ∷ 11 ∷ 17 ∷ 25 ∷ 38 ∷ 103 ∷ 131 ∷ 60000 ∷ [] }
+{
+    [
+        Script::Common,
+        Script::Inherited,
+        Script::Bengali,
+        Script::Cyrillic,
+        Script::Devanagari,
+        Script::Ethiopic,
+        Script::Ethiopian,
+        Script::Han,
+        Script::Latin,
+        Script::Thai,
+        Script::Unknown,
+        Script::Lisu,
+        Script::Chisoi,
+    ]
+}
+
+/// The script Unknown without extensions.
+pub fn unknown_script() -> ScriptWithExt
+    ensures { result ≡ 103 }
+{
+    ScriptWithExt::Unknown
+}
+
+/// The constants for types of Hangul syllables: those of the numbers 0 to 5, and the other names of the last two.
+pub fn hangul_syllable_types() -> [HangulSyllableType; 8]
+    ensures { result ≡ 0 ∷ 1 ∷ 2 ∷ 3 ∷ 4 ∷ 5 ∷ 4 ∷ 5 ∷ [] }
+{
+    [
+        HangulSyllableType::NotApplicable,
+        HangulSyllableType::LeadingJamo,
+        HangulSyllableType::VowelJamo,
+        HangulSyllableType::TrailingJamo,
+        HangulSyllableType::LVSyllable,
+        HangulSyllableType::LVTSyllable,
+        HangulSyllableType::LeadingVowelSyllable,
+        HangulSyllableType::LeadingVowelTrailingSyllable,
+    ]
 }

@@ -1,15 +1,28 @@
 //! Scripts.
-ghost use Rattle.std.specs.Prelude.{◌≡◌, ◌%◌, ◌==◌, nat_lt, refl};
-ghost use Rattle.prop_values.specs.NumberedLaws.{value_below, value_below-again, value_below-is_some, same_by_number};
+ghost use Rattle.std.specs.Prelude.{◌≡◌, ◌%◌, ◌==◌, nat_lt};
+ghost use Rattle.cp_trie.specs.Values.{below};
+ghost use Rattle.cp_trie.specs.ValueLaws.{below-again, nat_eq-same};
+ghost use Rattle.prop_values.specs.NumberedLaws.{below-is_some};
 ghost use Rattle.prop_values.specs.ScriptWithExt.{kind_of, with_extensions};
 
 use crate::property::EnumeratedProperty;
 use crate::tables::MapTable;
 use cp_trie::{TrieValue, ValueError};
+use std::marker::Model;
 
 /// The script of a character (UAX 24).
 #[derive(Clone, Copy, Debug, PartialEq, Eq, PartialOrd, Ord, Hash)]
-pub struct Script(pub(crate) u16);
+pub struct Script(u16);
+
+impl Model for Script {
+    ghost use Rattle.std.specs.Prelude.{ℕ};
+
+    ghost Value = { ℕ };
+
+    ghost view = { λ value. value.0 };
+
+    ghost inverse = { λ number. record { 0 = number } };
+}
 
 impl Script {
     pub const Common: Script = Script(0);
@@ -40,21 +53,21 @@ impl Script {
 
     /// The number of the value.
     pub fn to_icu4c_value(self) -> u16
-        ensures { result ≡ self.0 }
+        ensures { result ≡ self }
     {
         self.0
     }
 
     /// The value of the number.
     pub fn from_icu4c_value(value: u16) -> Script
-        ensures { result.0 ≡ value }
+        ensures { result ≡ value }
     {
         Script(value)
     }
 }
 
 impl Default for Script {
-    ghost is_default = { λ value. value.0 ≡ 103 };
+    ghost is_default = { λ value. value ≡ 103 };
 
     fn default() -> Script {
         Script::Unknown
@@ -62,16 +75,16 @@ impl Default for Script {
 }
 
 impl TrieValue for Script {
-    ghost unpacked = { value_below 65536 (λ n. record { 0 = n }) };
+    ghost unpacked = { below 65536 };
 
-    ghost packed = { λ value. value.0 };
+    ghost packed = { λ value. value };
 
-    ghost unpacks_again = { value_below-again 65536 (λ n. record { 0 = n }) (λ value. value.0) (λ _. refl) };
+    ghost unpacks_again = { below-again 65536 };
 
-    ghost eq_is_same = { same_by_number (λ n. record { 0 = n }) (λ value. value.0) (λ _. refl) };
+    ghost eq_is_same = { nat_eq-same };
 
     fn try_from_u32(i: u32) -> Result<Script, ValueError> {
-        u16::try_from_u32(i).map(Script)
+        u16::try_from_u32(i).map(Script::from_icu4c_value)
     }
 
     fn to_u32(self) -> u32 {
@@ -88,7 +101,7 @@ impl EnumeratedProperty for Script {
 
     const TABLE: MapTable = MapTable::SCRIPT;
 
-    ghost accepted = { λ n _. value_below-is_some 65536 (λ m. record { 0 = m }) n };
+    ghost accepted = { λ n _. below-is_some 65536 n };
 
     ghost default_packed = { λ _ is. is };
 }
@@ -99,6 +112,16 @@ impl EnumeratedProperty for Script {
 #[derive(Clone, Copy, Debug, PartialEq, Eq)]
 pub struct ScriptWithExt(pub u16);
 
+impl Model for ScriptWithExt {
+    ghost use Rattle.std.specs.Prelude.{ℕ};
+
+    ghost Value = { ℕ };
+
+    ghost view = { λ value. value.0 };
+
+    ghost inverse = { λ number. record { 0 = number } };
+}
+
 /// The low ten bits are below this number, which the kind counts.
 const KIND_UNIT: u16 = 1024;
 
@@ -108,14 +131,14 @@ impl ScriptWithExt {
 
     /// The low ten bits of the script's number, which are a script alone.
     pub fn single(script: Script) -> ScriptWithExt
-        ensures { result.0 ≡ script.0 % 1024 }
+        ensures { result ≡ script % 1024 }
     {
         ScriptWithExt(script.0 % KIND_UNIT)
     }
 
     /// Extensions of a script, whose list has the low ten bits of the number as its index.
     pub fn new(script: Script, extensions: u16) -> ScriptWithExt
-        ensures { result.0 ≡ with_extensions script.0 extensions }
+        ensures { result ≡ with_extensions script extensions }
     {
         let kind = if script == Script::Common {
             1
@@ -129,35 +152,35 @@ impl ScriptWithExt {
 
     /// Whether the script is Common with a list of extensions.
     pub fn is_common(&self) -> bool
-        ensures { result ≡ (kind_of self.now.0 == 1) }
+        ensures { result ≡ (kind_of self.now == 1) }
     {
         self.0 / KIND_UNIT == 1
     }
 
     /// Whether the script is Inherited with a list of extensions.
     pub fn is_inherited(&self) -> bool
-        ensures { result ≡ (kind_of self.now.0 == 2) }
+        ensures { result ≡ (kind_of self.now == 2) }
     {
         self.0 / KIND_UNIT == 2
     }
 
     /// Whether the script is another one, which is the first of the list.
     pub fn is_other(&self) -> bool
-        ensures { result ≡ (kind_of self.now.0 == 3) }
+        ensures { result ≡ (kind_of self.now == 3) }
     {
         self.0 / KIND_UNIT == 3
     }
 
     /// Whether the kind is above 0.
     pub fn has_extensions(&self) -> bool
-        ensures { result ≡ nat_lt 0 (kind_of self.now.0) }
+        ensures { result ≡ nat_lt 0 (kind_of self.now) }
     {
         self.0 / KIND_UNIT > 0
     }
 }
 
 impl From<ScriptWithExt> for u32 {
-    ghost from_gives = { λ value number. number ≡ value.0 };
+    ghost from_gives = { λ value number. number ≡ value };
 
     fn from(value: ScriptWithExt) -> u32 {
         u32::from(value.0)
@@ -165,7 +188,7 @@ impl From<ScriptWithExt> for u32 {
 }
 
 impl From<ScriptWithExt> for Script {
-    ghost from_gives = { λ value script. script.0 ≡ value.0 };
+    ghost from_gives = { λ value script. script ≡ value };
 
     fn from(value: ScriptWithExt) -> Script {
         Script(value.0)
@@ -173,16 +196,16 @@ impl From<ScriptWithExt> for Script {
 }
 
 impl TrieValue for ScriptWithExt {
-    ghost unpacked = { value_below 65536 (λ n. record { 0 = n }) };
+    ghost unpacked = { below 65536 };
 
-    ghost packed = { λ value. value.0 };
+    ghost packed = { λ value. value };
 
-    ghost unpacks_again = { value_below-again 65536 (λ n. record { 0 = n }) (λ value. value.0) (λ _. refl) };
+    ghost unpacks_again = { below-again 65536 };
 
-    ghost eq_is_same = { same_by_number (λ n. record { 0 = n }) (λ value. value.0) (λ _. refl) };
+    ghost eq_is_same = { nat_eq-same };
 
     fn try_from_u32(i: u32) -> Result<ScriptWithExt, ValueError> {
-        u16::try_from_u32(i).map(ScriptWithExt)
+        u16::try_from_u32(i).map(|number| ScriptWithExt(number))
     }
 
     fn to_u32(self) -> u32 {

@@ -1,23 +1,36 @@
 //! Subtags of scripts.
-ghost use Rattle.std.specs.Prelude.{◌≡◌, true, false, MatchOption};
-ghost use Rattle.prop_values.specs.Subtag.{is_four_letters, in_subtag_case};
+ghost use Rattle.std.specs.Prelude.{◌≡◌, ◌↔◌, true, IsSome, IfSome};
+ghost use Rattle.prop_values.specs.Subtag.{is_four_letters, in_subtag_case, IsSubtag};
 
+use std::marker::Model;
 use std::str;
 
 /// The subtag of a script in a language tag (RFC 5646, section 2.2.3): four ASCII letters, the first upper-case and the
-/// others lower-case, as ISO 15924 writes them.
+/// others lower-case, as ISO 15924 writes them. A contract sees it as those letters.
 #[derive(Clone, Copy, Debug, PartialEq, Eq)]
 pub struct Subtag {
     letters: [u8; 4],
-    ghost four_letters: { is_four_letters letters ≡ true },
-    ghost cased: { in_subtag_case letters ≡ letters },
+}
+
+impl Model for Subtag {
+    ghost use Rattle.std.specs.Prelude.{ℕ, List};
+    ghost use Rattle.prop_values.specs.Subtag.{IsSubtag};
+
+    ghost Value = { List ℕ };
+
+    ghost view = { λ subtag. subtag.letters };
+
+    ghost invariant = { λ subtag. IsSubtag subtag.letters };
+
+    ghost inverse = { λ letters. record { letters = letters } };
 }
 
 impl Subtag {
     /// The subtag of these letters, which are brought to its case. It is none exactly where the text is not four
     /// ASCII letters.
     pub fn try_from_str(s: &str) -> Option<Subtag>
-        ensures { MatchOption result (is_four_letters s.now ≡ false) (λ tag. (is_four_letters s.now ≡ true) × (tag.letters ≡ in_subtag_case s.now)) }
+        ensures some { IsSome result ↔ (is_four_letters s.now ≡ true) }
+        ensures letters { IfSome result (λ tag. tag ≡ in_subtag_case s.now) }
     {
         let [a, b, c, d] = s.as_bytes() else {
             return None;
@@ -38,9 +51,8 @@ impl Subtag {
 
     /// The letters.
     pub fn as_str(&self) -> &str
-        ensures text { result.now ≡ self.now.letters }
-        ensures letters { is_four_letters result.now ≡ true }
-        ensures cased { in_subtag_case result.now ≡ result.now }
+        ensures text { result.now ≡ self.now }
+        ensures subtag { IsSubtag result.now }
     {
         str::from_utf8(&self.letters).unwrap()
     }
