@@ -1,8 +1,11 @@
 -- A set as a pattern of UTS 35 in escapes alone.
-use Rattle.std.specs.Prelude.{ℕ, ◌==◌, false, if◌then◌else◌, List, ◌++◌, codes}
+use Rattle.std.specs.Prelude.{◌≡◌, ℕ, ◌==◌, false, if◌then◌else◌, List, ◌++◌, codes}
 use Rattle.std.specs.Fmt.{digits}
 use Rattle.std.specs.List.{flat_map}
 use Rattle.std.specs.Str.{chars}
+use Rattle.cp_invlist.specs.InversionList.{contains}
+use Rattle.cp_invlist.specs.Ranges.{AreMaximalRanges}
+use Rattle.cp_strset.specs.StringSet.{StringSet}
 use Rattle.cp_invlist.specs.declared.ranges.CodePointRange.{CodePointRange}
 
 -- a code point in lower-case hexadecimal with no leading zero, between its braces
@@ -20,3 +23,8 @@ string_text bs = codes "{" ++ (flat_map escaped (chars bs) ++ codes "}")
 -- the ranges, and then the strings
 abbrev pub pattern_text : List CodePointRange → List (List ℕ) → List ℕ
 pattern_text rs ss = codes "[" ++ (flat_map range_text rs ++ (flat_map string_text ss ++ codes "]"))
+
+-- the text is that of the maximal ranges and of the strings of the set
+abbrev pub IsPatternOf : StringSet → List ℕ → Type 0
+IsPatternOf set text =
+    (rs : List CodePointRange) → AreMaximalRanges (contains set.code_points) rs → text ≡ pattern_text rs set.strings

@@ -48,3 +48,11 @@ holds ss bs = list_any (λ s. bytes_eq s bs) ss
 pub record AreCanonical (ss : List (List ℕ)) : Type 0 where
   pub ascending : AllPairs (λ s t. slice_cmp nat_cmp s t ≡ Less) ss
   pub none_of_one : All (λ s. length (chars s) ≢ 1) ss
+
+-- the first fault of a list of strings, if there is one
+abbrev pub first_fault : List (List ℕ) → Option StringListError
+first_fault ss = fault_from None 0 ss
+
+-- two lists hold the same strings
+abbrev pub HoldSame : List (List ℕ) → List (List ℕ) → Type 0
+HoldSame a b = (bytes : List ℕ) → holds a bytes ≡ holds b bytes

@@ -1,5 +1,6 @@
 -- What a set with strings is seen as.
-use Rattle.std.specs.Prelude.{ℕ, Bool, Option, Some, None, List}
+use Rattle.std.specs.Prelude.{ℕ, Bool, ◌&&◌, nat_eq, Option, Some, None, List}
+use Rattle.std.specs.Cmp.Lexicographic.{pointwise}
 use Rattle.std.specs.Str.{chars}
 use Rattle.cp_invlist.specs.InversionList.{contains}
 use Rattle.cp_strset.specs.StringList.{sole_of, holds}
@@ -17,3 +18,7 @@ contains_sole set bs None = holds set.strings bs
 -- whether a text is in the set: one character as a code point, any other as a string
 abbrev pub contains_text : StringSet → List ℕ → Bool
 contains_text set bs = contains_sole set bs (sole_of (chars bs))
+
+-- two sets have the same code points and the same strings
+abbrev pub same_members : StringSet → StringSet → Bool
+same_members a b = pointwise nat_eq a.code_points b.code_points && pointwise (pointwise nat_eq) a.strings b.strings

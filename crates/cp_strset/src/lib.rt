@@ -10,9 +10,9 @@ ghost use Rattle.cp_invlist.specs.InversionList.{contains};
 ghost use Rattle.cp_invlist.specs.Ranges.{AreMaximalRanges};
 ghost use Rattle.cp_invlist.specs.Size.{count_members};
 ghost use Rattle.cp_invlist.specs.declared.ranges.CodePointRange.{CodePointRange};
-ghost use Rattle.cp_strset.specs.PatternText.{pattern_text};
-ghost use Rattle.cp_strset.specs.StringList.{AreCanonical, sole_of, holds, fault_at, fault_from};
-ghost use Rattle.cp_strset.specs.StringSet.{contains_text};
+ghost use Rattle.cp_strset.specs.PatternText.{IsPatternOf};
+ghost use Rattle.cp_strset.specs.StringList.{AreCanonical, sole_of, holds, fault_at, first_fault};
+ghost use Rattle.cp_strset.specs.StringSet.{contains_text, same_members};
 
 pub mod laws;
 mod pattern_text;
@@ -61,13 +61,13 @@ impl Model for CodePointInversionListAndStringList {
     ghost use Rattle.std.specs.Prelude.{◌≡◌, map, None};
     ghost use Rattle.std.specs.String.{string_bytes};
     ghost use Rattle.cp_strset.specs.StringSet.{StringSet};
-    ghost use Rattle.cp_strset.specs.StringList.{fault_from};
+    ghost use Rattle.cp_strset.specs.StringList.{first_fault};
 
     ghost Value = { StringSet };
 
     ghost view = { λ s. record { code_points = s.code_points; strings = map string_bytes s.strings.items } };
 
-    ghost invariant = { λ s. fault_from None 0 (map string_bytes s.strings.items) ≡ None };
+    ghost invariant = { λ s. first_fault (map string_bytes s.strings.items) ≡ None };
 }
 
 impl CodePointInversionListAndStringList {
@@ -77,9 +77,11 @@ impl CodePointInversionListAndStringList {
         list: CodePointInversionList,
         strings: Vec<String>,
     ) -> Result<CodePointInversionListAndStringList, StringListError>
-        ensures accepted { IfOk result (λ s. s ≡ record { code_points = list; strings = map string_bytes strings.items }) }
-        ensures faultless { OnOk result (fault_from None 0 (map string_bytes strings.items) ≡ None) }
-        ensures refused { (e : StringListError) → (result ≡ Err e) ↔ (fault_from None 0 (map string_bytes strings.items) ≡ Some e) }
+        ensures accepted { IfOk result (λ s.
+            s ≡ record { code_points = list; strings = map string_bytes strings.items }) }
+        ensures faultless { OnOk result (first_fault (map string_bytes strings.items) ≡ None) }
+        ensures refused { (e : StringListError) →
+            (result ≡ Err e) ↔ (first_fault (map string_bytes strings.items) ≡ Some e) }
     {
         if let Some(fault) = find_fault(&strings) {
             return Err(fault);
@@ -163,7 +165,7 @@ impl CodePointInversionListAndStringList {
     /// member, else as `\u{h}-\u{h}`, then each string as `{`, `\u{h}` for each character and `}`, then `]`, where `h` is
     /// lower-case hexadecimal with no leading zero.
     pub fn to_pattern(&self, alloc: Global) -> Result<String, NoMemory>
-        ensures { (rs : List CodePointRange) → AreMaximalRanges (contains self.now.code_points) rs → IfOk result (λ t. string_bytes t ≡ pattern_text rs self.now.strings) }
+        ensures { IfOk result (λ text. IsPatternOf self.now (string_bytes text)) }
     {
         let mut text = String::new(alloc);
         text.push('[')?;
@@ -175,16 +177,18 @@ impl CodePointInversionListAndStringList {
 }
 
 impl PartialEq for CodePointInversionListAndStringList {
-    ghost use Rattle.std.specs.Prelude.{◌&&◌, nat_eq};
+    ghost use Rattle.cp_strset.specs.StringSet.{same_members};
     ghost use Rattle.std.specs.Cmp.{partial_equiv_from_equiv, and_equiv, on_equiv};
-    ghost use Rattle.std.specs.Cmp.Lexicographic.{pointwise, lists_equiv, nat_list_eq_equiv};
+    ghost use Rattle.std.specs.Cmp.Lexicographic.{lists_equiv, nat_list_eq_equiv};
 
-    ghost eq = { λ a b. pointwise nat_eq a.code_points b.code_points && pointwise (pointwise nat_eq) a.strings b.strings };
+    ghost eq = { same_members };
 
-    ghost laws = { partial_equiv_from_equiv (and_equiv (on_equiv (λ s. s.code_points) nat_list_eq_equiv) (on_equiv (λ s. s.strings) (lists_equiv nat_list_eq_equiv))) };
+    ghost laws = { partial_equiv_from_equiv (and_equiv
+        (on_equiv (λ s. s.code_points) nat_list_eq_equiv)
+        (on_equiv (λ s. s.strings) (lists_equiv nat_list_eq_equiv))) };
 
     fn eq(&self, other: &CodePointInversionListAndStringList) -> bool
-        ensures value { result ≡ (pointwise nat_eq self.now.code_points other.now.code_points && pointwise (pointwise nat_eq) self.now.strings other.now.strings) }
+        ensures value { result ≡ same_members self.now other.now }
         ensures same { IsTrue result ↔ (self.now ≡ other.now) }
     {
         self.code_points == other.code_points && self.strings == other.strings
@@ -195,12 +199,14 @@ impl Eq for CodePointInversionListAndStringList {
     ghost use Rattle.std.specs.Cmp.{and_equiv, on_equiv};
     ghost use Rattle.std.specs.Cmp.Lexicographic.{lists_equiv, nat_list_eq_equiv};
 
-    ghost laws = { and_equiv (on_equiv (λ s. s.code_points) nat_list_eq_equiv) (on_equiv (λ s. s.strings) (lists_equiv nat_list_eq_equiv)) };
+    ghost laws = { and_equiv
+        (on_equiv (λ s. s.code_points) nat_list_eq_equiv)
+        (on_equiv (λ s. s.strings) (lists_equiv nat_list_eq_equiv)) };
 }
 
 /// Whether the text is one of the strings, by binary search.
 fn contains_string(strings: &[String], text: &str) -> bool
-    requires { fault_from None 0 (map string_bytes strings.now) ≡ None }
+    requires { first_fault (map string_bytes strings.now) ≡ None }
     ensures { result ≡ holds (map string_bytes strings.now) text.now }
 {
     strings
@@ -208,8 +214,8 @@ fn contains_string(strings: &[String], text: &str) -> bool
         .is_ok()
 }
 
-/// The character of a text that has exactly one.
-fn sole_char(text: &str) -> Option<char>
+/// The character of a text that has exactly one. Characters are counted, not bytes.
+pub fn sole_char(text: &str) -> Option<char>
     ensures { result ≡ sole_of (chars text.now) }
 {
     let mut chars = text.chars();
@@ -237,7 +243,7 @@ fn fault_at(before: Option<&str>, string: &str, index: usize) -> Option<StringLi
 
 /// The first fault of a list of strings.
 fn find_fault(strings: &[String]) -> Option<StringListError>
-    ensures { result ≡ fault_from None 0 (map string_bytes strings.now) }
+    ensures { result ≡ first_fault (map string_bytes strings.now) }
 {
     let mut before: Option<&str> = None;
     for (index, string) in strings.iter().enumerate() {

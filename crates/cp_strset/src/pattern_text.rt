@@ -12,7 +12,8 @@ use std::fmt::Write;
 
 /// Writes each maximal range of the set.
 pub(crate) fn push_ranges(text: &mut String, set: &CodePointInversionList) -> Result<(), NoMemory>
-    ensures { (rs : List CodePointRange) → AreMaximalRanges (contains set.now) rs → OnOk result (string_bytes text.new ≡ string_bytes text.old ++ flat_map range_text rs) }
+    ensures { (rs : List CodePointRange) → AreMaximalRanges (contains set.now) rs →
+        OnOk result (string_bytes text.new ≡ string_bytes text.old ++ flat_map range_text rs) }
 {
     for range in set.iter_ranges() {
         push_range(text, range)?;
@@ -22,7 +23,8 @@ pub(crate) fn push_ranges(text: &mut String, set: &CodePointInversionList) -> Re
 
 /// Writes each of the strings.
 pub(crate) fn push_strings(text: &mut String, strings: &[String]) -> Result<(), NoMemory>
-    ensures { OnOk result (string_bytes text.new ≡ string_bytes text.old ++ flat_map string_text (map string_bytes strings.now)) }
+    ensures { OnOk result
+        (string_bytes text.new ≡ string_bytes text.old ++ flat_map string_text (map string_bytes strings.now)) }
 {
     for string in strings {
         push_string(text, string.as_str())?;

@@ -1,0 +1,8 @@
+//! Tests of the property types, over the crates that declare them: they stand here so that a change of a test proves
+//! no type anew.
+#![tactic(auto)]
+
+#[cfg(test)]
+mod binary;
+#[cfg(test)]
+mod values;
