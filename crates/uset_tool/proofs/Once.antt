@@ -15,46 +15,19 @@ use Rattle.uset_tool.specs.Device.{Appends, IsProperFront}
 use Rattle.uset_tool.specs.Script.{ScriptLine, silent, pattern, bad, script_line}
 use Rattle.uset_tool.specs.Answer.{PatternAnswer, read, fault, read_text, fault_text, LineAnswer, ScriptAnswer, ends, answers}
 
--- the laws of the grammar and of lists of strings
+-- the laws of the grammar, of maximal ranges and of lists of strings
 pub record Laws : Type 0 where
   pub one_reading : OneReading
   pub no_fault : NoFaultOfReading
   pub one_fault : OneFault
+  pub one_list_of_ranges : (m : ℕ → Bool) (rs qs : List CodePointRange) → AreMaximalRanges m rs → AreMaximalRanges m qs → rs ≡ qs
   pub one_list : (a b : List (List ℕ)) → AreCanonical a → AreCanonical b → ((bytes : List ℕ) → holds a bytes ≡ holds b bytes) → a ≡ b
-
-same_start : (m : ℕ → Bool) (n a b c d : ℕ) → n ≤ a → a ≤ b → n ≤ c → c ≤ d →
-    ((x : ℕ) → n ≤ x → x < a → m x ≡ false) → ((x : ℕ) → a ≤ x → x ≤ b → m x ≡ true) →
-    ((x : ℕ) → n ≤ x → x < c → m x ≡ false) → ((x : ℕ) → c ≤ x → x ≤ d → m x ≡ true) → a ≡ c
-same_start m n a b c d na ab nc cd gap all gap_too all_too = elim (cases_order a c) [
-  | inl e ↦ e
-  | inr (inl lt) ↦ absurd (true≢false (sym (all a (omega arith) ab) ∙ gap_too a na lt))
-  | inr (inr lt) ↦ absurd (true≢false (sym (all_too c (omega arith) cd) ∙ gap c nc lt))
-]
-
-same_end : (m : ℕ → Bool) (a b d : ℕ) → a ≤ b → a ≤ d → ((x : ℕ) → a ≤ x → x ≤ b → m x ≡ true) → m (b + 1) ≡ false → ((x : ℕ) → a ≤ x → x ≤ d → m x ≡ true) → m (d + 1) ≡ false → b ≡ d
-same_end m a b d ab ad all past all_too past_too = elim (cases_order b d) [
-  | inl e ↦ e
-  | inr (inl lt) ↦ absurd (true≢false (sym (all_too (b + 1) (omega arith) (omega arith)) ∙ past))
-  | inr (inr lt) ↦ absurd (true≢false (sym (all (d + 1) (omega arith) (omega arith)) ∙ past_too))
-]
-
--- the maximal ranges of a set are one list
-ranges_once : (m : ℕ → Bool) (n : ℕ) (rs qs : List CodePointRange) → AreRangesFrom m n rs → AreRangesFrom m n qs → rs ≡ qs
-ranges_once m n [] [] h k = refl
-ranges_once m n [] (q ∷ qs) h k = absurd (true≢false (sym (k.3 q.start (omega arith) k.1) ∙ h q.start k.0))
-ranges_once m n (r ∷ rs) [] h k = absurd (true≢false (sym (h.3 r.start (omega arith) h.1) ∙ k r.start h.0))
-ranges_once m n (r ∷ rs) (q ∷ qs) h k =
-    let start : r.start ≡ q.start = same_start m n r.start r.end q.start q.end h.0 h.1 k.0 k.1 h.2 h.3 k.2 k.3 in
-    let all : (x : ℕ) → r.start ≤ x → x ≤ q.end → m x ≡ true = λ x le. k.3 x (omega arith) in
-    let last : r.end ≡ q.end = same_end m r.start r.end q.end h.1 (omega arith) h.3 h.4 all k.4 in
-    let more : rs ≡ qs = ranges_once m (r.end + 1) rs qs h.5 (subst (λ e. AreRangesFrom m (e + 1) qs) (sym last) k.5) in
-    λ i. record { start = start i; end = last i } ∷ more i
 
 pattern_once : Laws → (tables : Tables) (source a b : List ℕ) (e f : Bool) → PatternAnswer tables source a e → PatternAnswer tables source b f → (a ≡ b) × (e ≡ f)
 pattern_once laws tables source _ _ _ _ (read {tree} {rest} n rs ss h place maximal strings) (read {tree = other} {rest = left} k qs ts h_too place_too maximal_too strings_too) =
     let one = laws.one_reading tables (chars source) tree other rest left h h_too in
     let same_n : n ≡ k = omega (arith, ap (λ r. length (encode_utf8_all r)) one.1) in
-    let same_ranges : rs ≡ qs = ranges_once (λ c. has tree (point c)) 0 rs qs maximal (subst (λ t. AreMaximalRanges (λ c. has t (point c)) qs) (sym one.0) maximal_too) in
+    let same_ranges : rs ≡ qs = laws.one_list_of_ranges (λ c. has tree (point c)) rs qs maximal (subst (λ t. AreMaximalRanges (λ c. has t (point c)) qs) (sym one.0) maximal_too) in
     let same_strings : ss ≡ ts =
     laws.one_list ss ts strings.canonical strings_too.canonical
     (λ bytes. strings.holds_them bytes ∙ (ap (λ t. has t (string bytes)) one.0 ∙ sym (strings_too.holds_them bytes))) in

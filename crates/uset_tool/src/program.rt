@@ -13,6 +13,7 @@ use crate::sink::{Sink, WriteError, write_all};
 use crate::source::Source;
 use crate::status::Status;
 use crate::words::{is_known, table_fault_text};
+use cp_invlist::laws::one_list_of_ranges;
 use cp_strset::laws::one_list;
 use prop_data::{LoadError, PropertyDatabase, TableError};
 use std::alloc::Global;
@@ -146,6 +147,7 @@ pub fn run<S: Source, K: Sink>(
     one_reading();
     no_fault_of_a_reading();
     one_fault();
+    one_list_of_ranges();
     one_list();
     answer_words(alloc, words, source, sink)
 }

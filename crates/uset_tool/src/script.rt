@@ -7,6 +7,7 @@ ghost use Rattle.uset_tool.specs.Device.{Rose};
 
 use crate::answer::answer_line;
 use crate::sink::{Sink, WriteError, write_all};
+use cp_invlist::laws::one_list_of_ranges;
 use cp_strset::laws::one_list;
 use prop_data::PropertyDatabase;
 use std::alloc::Global;
@@ -29,6 +30,7 @@ pub(crate) fn answer_script<K: Sink>(
     one_reading();
     no_fault_of_a_reading();
     one_fault();
+    one_list_of_ranges();
     one_list();
     let mut rest = script;
     let mut has_err = false;

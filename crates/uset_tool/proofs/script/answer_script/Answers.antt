@@ -7,7 +7,7 @@ use Rattle.uset_tool.proofs.script.answer_script.Goals as goal
 
 pub returns-in_err-write_all-clause-written : goal.returns-in_err-write_all-clause-written
 returns-in_err-write_all-clause-written g c =
-    let laws : Laws = record { one_reading = c.one_reading.ensures; no_fault = c.no_fault_of_a_reading.ensures; one_fault = c.one_fault.ensures; one_list = c.one_list.ensures } in
+    let laws : Laws = record { one_reading = c.one_reading.ensures; no_fault = c.no_fault_of_a_reading.ensures; one_fault = c.one_fault.ensures; one_list_of_ranges = c.one_list_of_ranges.ensures; one_list = c.one_list.ensures } in
     let tables = tables_of c.args.database.now in
     let answer = rw (← c.as_bytes.ensures.value) at c.in_ok-answer.ensures in
     let (so_far, at, appended) = c.loop-line.invariant.2 in
@@ -16,7 +16,7 @@ returns-in_err-write_all-clause-written g c =
 
 pub loop-line-preserved : goal.loop-line-preserved
 loop-line-preserved g c =
-    let laws : Laws = record { one_reading = c.one_reading.ensures; no_fault = c.no_fault_of_a_reading.ensures; one_fault = c.one_fault.ensures; one_list = c.one_list.ensures } in
+    let laws : Laws = record { one_reading = c.one_reading.ensures; no_fault = c.no_fault_of_a_reading.ensures; one_fault = c.one_fault.ensures; one_list_of_ranges = c.one_list_of_ranges.ensures; one_list = c.one_list.ensures } in
     let tables = tables_of c.args.database.now in
     let answer = rw (← c.as_bytes.ensures.value) at c.in_ok-answer.ensures in
     let (so_far, at, appended) = c.loop-line.invariant.2 in (
