@@ -1,0 +1,36 @@
+-- Sets of code points in the making: what was painted, and the layers that are made of it.
+use Rattle.std.specs.Prelude.{ℕ, Bool, false, not, ◌&&◌, ◌||◌, if◌then◌else◌, List, [], ◌∷◌}
+use Rattle.std.specs.List.{list_any}
+use Rattle.cp_invlist.specs.InversionList.{contains, is_code_point}
+use Rattle.cp_invlist.specs.Ranges.{in_code_points}
+use Rattle.cp_invlist.specs.declared.ranges.CodePointRange.{CodePointRange}
+use Rattle.uset_parse.specs.declared.set.painting.PaintedRange.{PaintedRange}
+use Rattle.uset_parse.specs.declared.set.painting.Painting.{Painting}
+use Rattle.uset_parse.specs.declared.set.layers.Layer.{Layer}
+
+-- a range of the list holds the code point
+abbrev pub in_some : List CodePointRange → ℕ → Bool
+in_some rs c = list_any (λ r. in_code_points r c) rs
+
+-- Whether a code point is a member once these ranges were painted, the first of them first, where the Bool says whether it was one
+-- before: the last range that covers it decides.
+abbrev pub painted : List PaintedRange → ℕ → Bool → Bool
+painted [] c b = b
+painted (p ∷ ps) c b = painted ps c (if in_code_points p.range c then p.member else b)
+
+-- the same, where all ranges are painted alike
+abbrev pub painted_alike : List CodePointRange → Bool → ℕ → Bool → Bool
+painted_alike rs member c b = if in_some rs c then member else b
+
+-- whether the code point is in the set that was painted
+unfoldable pub in_painting : Painting → ℕ → Bool
+in_painting s c = if s.complemented then is_code_point c && not (painted s.ranges.items c false) else painted s.ranges.items c false
+
+-- whether a code point is a member behind the layer, where the Bool says whether it was one below
+abbrev pub behind : Layer → ℕ → Bool → Bool
+behind l c b = contains l.added c || (b && not (contains l.removed c))
+
+-- the same for several layers, the lowest first
+abbrev pub behind_all : List Layer → ℕ → Bool → Bool
+behind_all [] c b = b
+behind_all (l ∷ ls) c b = behind_all ls c (behind l c b)
