@@ -1,11 +1,14 @@
 -- Sets of code points in the making, code point by code point.
-use Rattle.std.proofs.Common.{◌≡◌, ℕ, Bool, true, false, not, ◌||◌, ◌&&◌, if◌then◌else◌, List, [], ◌∷◌, ◌++◌, refl, sym, ap, ◌∙◌}
-use Rattle.cp_invlist.specs.InversionList.{is_code_point}
-use Rattle.cp_invlist.specs.Ranges.{in_range, in_code_points}
+use Rattle.std.proofs.Common.{◌≡◌, ℕ, Bool, true, false, not, length, take, eqb, arith, inl, inr, ◌||◌, ◌&&◌, if◌then◌else◌, List, [], ◌∷◌, ◌++◌, refl, sym, ap, ◌∙◌}
+use Rattle.std.specs.Bool.{OnTrue}
+use Rattle.std.proofs.lemmas.Bool.{cases_Bool, eqb-true}
+use Rattle.std.proofs.lemmas.List.{take_all}
+use Rattle.cp_invlist.specs.InversionList.{contains, is_code_point}
+use Rattle.cp_invlist.specs.Ranges.{in_range, in_code_points, is_outside}
 use Rattle.cp_invlist.specs.declared.ranges.CodePointRange.{CodePointRange}
 use Rattle.uset_parse.specs.declared.set.painting.PaintedRange.{PaintedRange}
 use Rattle.uset_parse.specs.declared.set.painting.Painting.{Painting}
-use Rattle.uset_parse.specs.Painting.{painted, in_painting}
+use Rattle.uset_parse.specs.Painting.{covered, painted, in_painting}
 
 -- one more range
 pub painted_more : (ps : List PaintedRange) (p : PaintedRange) (c : ℕ) (b : Bool) →
@@ -116,3 +119,27 @@ pub painting_kept : (old other others new : Painting) (c : ℕ) → in_painting 
 painting_kept old other others new c first second =
     second
     ∙ (ap (λ b. in_painting old c && not b) first ∙ kept_step (is_code_point c) (in_painting old c) (in_painting other c) (painting_within old c))
+
+on_equal : (m n : ℕ) {P : Type 0} → (m ≡ n → P) → OnTrue (eqb m n) P
+on_equal m n f = elim (cases_Bool (eqb m n)) [
+  | inl is ↦ rw is (f (eqb-true m n is))
+  | inr is ↦ rw is tt
+]
+
+-- all ranges were painted as members
+pub plain : (s : Painting) (n len : ℕ) → len ≡ length s.ranges.items → s.complemented ≡ false → ((c : ℕ) (b : Bool) → painted (take n s.ranges.items) c b ≡ (b || covered (take n s.ranges.items) c)) →
+    OnTrue (eqb n len) ((c : ℕ) → in_painting s c ≡ covered s.ranges.items c)
+unfolding in_painting seen
+plain s n len all_of straight members = on_equal n len (λ e c.
+    let all = take_all n s.ranges.items (omega (arith, e, all_of)) in
+    (λ i. seen (straight i) (is_code_point c) (painted (sym all i) c false)) ∙ (members c false ∙ ap (λ ps. covered ps c) all))
+
+-- a complemented set has what the set of its ranges lacks
+pub painting_outside : (s : Painting) (set : List ℕ) (c : ℕ) → s.complemented ≡ true → contains set c ≡ painted s.ranges.items c false → is_outside set c ≡ in_painting s c
+unfolding in_painting seen
+painting_outside s set c turned flat = ap (λ b. is_code_point c && not b) flat ∙ ap (λ f. seen f (is_code_point c) (painted s.ranges.items c false)) (sym turned)
+
+-- any other has what the set of its ranges has
+pub painting_inside : (s : Painting) (set : List ℕ) (c : ℕ) → s.complemented ≡ false → contains set c ≡ painted s.ranges.items c false → contains set c ≡ in_painting s c
+unfolding in_painting seen
+painting_inside s set c straight flat = flat ∙ ap (λ f. seen f (is_code_point c) (painted s.ranges.items c false)) (sym straight)

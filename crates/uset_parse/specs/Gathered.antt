@@ -1,5 +1,5 @@
 -- What a bracket has gathered: code points and strings.
-use Rattle.std.specs.Prelude.{ℕ, Bool}
+use Rattle.std.specs.Prelude.{Bool}
 use Rattle.std.specs.BTreeSet.{contains_text}
 use Rattle.uset_parse.specs.declared.set.gathered.Gathered.{Gathered}
 use Rattle.uset_parse.specs.Painting.{in_painting}

@@ -6,6 +6,7 @@ use Rattle.cp_invlist.specs.Ranges.{in_code_points}
 use Rattle.cp_invlist.specs.declared.ranges.CodePointRange.{CodePointRange}
 use Rattle.uset_parse.specs.declared.set.painting.PaintedRange.{PaintedRange}
 use Rattle.uset_parse.specs.declared.set.painting.Painting.{Painting}
+use Rattle.uset_parse.specs.declared.set.run.Run.{Run}
 use Rattle.uset_parse.specs.declared.set.layers.Layer.{Layer}
 
 -- a range of the list holds the code point
@@ -18,9 +19,17 @@ abbrev pub painted : List PaintedRange → ℕ → Bool → Bool
 painted [] c b = b
 painted (p ∷ ps) c b = painted ps c (if in_code_points p.range c then p.member else b)
 
--- the same, where all ranges are painted alike
-abbrev pub painted_alike : List CodePointRange → Bool → ℕ → Bool → Bool
-painted_alike rs member c b = if in_some rs c then member else b
+-- one of the ranges covers the code point
+abbrev pub covered : List PaintedRange → ℕ → Bool
+covered ps c = list_any (λ p. in_code_points p.range c) ps
+
+-- the code point is in the builder or was put aside
+unfoldable pub in_run : Run → ℕ → Bool
+in_run r c = contains r.builder c || in_some r.aside.items c
+
+-- the same as `painted`, where all ranges are painted alike
+abbrev pub painted_alike : Run → Bool → ℕ → Bool → Bool
+painted_alike r member c b = if in_run r c then member else b
 
 -- whether the code point is in the set that was painted
 unfoldable pub in_painting : Painting → ℕ → Bool

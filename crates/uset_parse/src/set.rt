@@ -2,6 +2,7 @@
 mod gathered;
 mod layers;
 mod painting;
+mod run;
 mod strings;
 
 pub(crate) use gathered::{Gathered, Members};

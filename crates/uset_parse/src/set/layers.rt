@@ -1,11 +1,13 @@
-//! Layers: what painted ranges make of a set, and how many of them become one set.
-ghost use Rattle.std.specs.Prelude.{◌≡◌, ℕ, Bool, ◌++◌, ◌∷◌, [], false, IfOk, OnOk};
+//! Layers: what painted ranges make of a set, and how many of them become one.
+ghost use Rattle.std.specs.Prelude.{◌≡◌, ◌≤◌, ℕ, Bool, ◌||◌, ◌&&◌, not, false, IfOk, OnOk, length, take};
 ghost use Rattle.cp_invlist.specs.InversionList.{contains};
-ghost use Rattle.uset_parse.specs.Painting.{in_some, painted, painted_alike, behind_all, behind};
+ghost use Rattle.uset_parse.specs.Painting.{covered, painted, painted_alike, behind, behind_all};
 
 use crate::set::painting::PaintedRange;
-use cp_invlist::{CodePointInversionList, CodePointInversionListBuilder, CodePointRange, NoMemory};
+use crate::set::run::Run;
+use cp_invlist::{CodePointInversionList, CodePointInversionListBuilder, NoMemory};
 use std::alloc::Global;
+use std::mem::replace;
 
 /// What some ranges make of a set below: they take `removed` away, and then join `added`.
 #[derive(Drop)]
@@ -16,6 +18,24 @@ pub(crate) struct Layer {
     size: usize,
 }
 
+/// The set without one set, and with another.
+fn without_and_with(
+    mut set: CodePointInversionListBuilder,
+    removed: &CodePointInversionList,
+    added: CodePointInversionListBuilder,
+) -> Result<CodePointInversionListBuilder, NoMemory>
+    ensures { IfOk result (λ changed. (c : ℕ) → contains changed c ≡ ((contains set c && not (contains removed.now c)) || contains added c)) }
+{
+    let added = added.build();
+    if !removed.is_empty() {
+        set.remove_set(removed)?;
+    }
+    if !added.is_empty() {
+        set.add_set(&added)?;
+    }
+    Ok(set)
+}
+
 /// The layer of both, the upper one over the lower.
 fn over(lower: Layer, upper: Layer) -> Result<Layer, NoMemory>
     ensures { IfOk result (λ both. (c : ℕ) (b : Bool) → behind both c b ≡ behind upper c (behind lower c b)) }
@@ -23,12 +43,9 @@ fn over(lower: Layer, upper: Layer) -> Result<Layer, NoMemory>
     let covered = upper.removed.build();
     let mut removed = lower.removed;
     removed.add_set(&covered)?;
-    let mut added = lower.added;
-    added.remove_set(&covered)?;
-    added.add_set(&upper.added.build())?;
     Ok(Layer {
         removed,
-        added,
+        added: without_and_with(lower.added, &covered, upper.added)?,
         size: lower.size.saturating_add(upper.size),
     })
 }
@@ -50,43 +67,24 @@ fn push(layers: &mut Vec<Layer>, layer: Layer) -> Result<(), NoMemory>
     Ok(())
 }
 
-/// The set of all layers, where nothing is below them.
-fn merged(alloc: Global, mut layers: Vec<Layer>) -> Result<CodePointInversionListBuilder, NoMemory>
-    ensures { IfOk result (λ set. (c : ℕ) → contains set c ≡ behind_all layers.items c false) }
+/// The layer of all, the last of them over the others.
+fn merged(mut layers: Vec<Layer>, last: Layer) -> Result<Layer, NoMemory>
+    ensures { IfOk result (λ all. (c : ℕ) (b : Bool) → behind all c b ≡ behind last c (behind_all layers.items c b)) }
 {
-    let Some(mut top) = layers.pop() else {
-        return Ok(CodePointInversionListBuilder::new(alloc));
-    };
+    let mut top = last;
     while let Some(below) = layers.pop() {
         top = over(below, top)?;
     }
-    Ok(top.added)
+    Ok(top)
 }
 
-/// The set of the ranges, which are in the order of their first code points.
-#[tactic(auto, using(std::proofs::lemmas::List::Folds::list_any_more))]
-fn union(alloc: Global, ranges: &[CodePointRange]) -> Result<CodePointInversionListBuilder, NoMemory>
-    ensures { IfOk result (λ set. (c : ℕ) → contains set c ≡ in_some ranges.now c) }
+/// The layer of ranges that were painted alike.
+fn layer_of(alloc: Global, run: Run, member: bool) -> Result<Layer, NoMemory>
+    ensures { IfOk result (λ layer. (c : ℕ) (b : Bool) → behind layer c b ≡ painted_alike run member c b) }
 {
-    let mut builder = CodePointInversionListBuilder::new(alloc);
-    for range in ranges {
-        builder.add_range32(*range)?;
-    }
-    Ok(builder)
-}
-
-/// The layer of ranges that were painted alike, in any order: a sort costs less than a merge of each.
-fn layer_of(
-    alloc: Global,
-    ranges: &mut Vec<CodePointRange>,
-    member: bool,
-) -> Result<Layer, NoMemory>
-    ensures { IfOk result (λ layer. (c : ℕ) (b : Bool) → behind layer c b ≡ painted_alike ranges.old.items member c b) }
-{
-    ranges.sort_unstable_by_key(|range| range.start);
-    let set = union(alloc, ranges)?;
     let none = CodePointInversionListBuilder::new(alloc);
-    let size = ranges.len();
+    let size = run.len();
+    let set = run.into_builder()?;
     Ok(if member {
         Layer {
             removed: none,
@@ -102,38 +100,57 @@ fn layer_of(
     })
 }
 
-/// Puts the layer of ranges that were painted alike onto the others.
-fn push_run(
-    alloc: Global,
-    layers: &mut Vec<Layer>,
-    run: &mut Vec<CodePointRange>,
-    member: bool,
-) -> Result<(), NoMemory>
-    ensures layers { OnOk result ((c : ℕ) (b : Bool) → behind_all layers.new.items c b ≡ painted_alike run.old.items member c (behind_all layers.old.items c b)) }
-    ensures run { OnOk result (run.new.items ≡ []) }
+/// The layer of ranges in the order in which they were painted.
+fn layered(alloc: Global, ranges: &[PaintedRange]) -> Result<Layer, NoMemory>
+    ensures { IfOk result (λ layer. (c : ℕ) (b : Bool) → behind layer c b ≡ painted ranges.now c b) }
 {
-    let layer = layer_of(alloc, run, member)?;
-    run.clear();
-    push(layers, layer)
+    let mut layers = Vec::new(alloc);
+    let mut run = Run::new(alloc);
+    let mut member = false;
+    for painted in ranges {
+        if painted.member != member {
+            let before = replace(&mut run, Run::new(alloc));
+            push(&mut layers, layer_of(alloc, before, member)?)?;
+            member = painted.member;
+        }
+        run.add_range(painted.range)?;
+    }
+    merged(layers, layer_of(alloc, run, member)?)
 }
 
-/// The set of all ranges, which stand in the order in which they were painted.
+/// The set of the code points that the ranges cover.
+fn united(alloc: Global, ranges: &[PaintedRange]) -> Result<CodePointInversionListBuilder, NoMemory>
+    ensures { IfOk result (λ set. (c : ℕ) → contains set c ≡ covered ranges.now c) }
+{
+    let mut run = Run::new(alloc);
+    for painted in ranges {
+        run.add_range(painted.range)?;
+    }
+    run.into_builder()
+}
+
+/// How many ranges at the front are painted as members: all before the first that isn't.
+pub(crate) fn members_in_front(ranges: &[PaintedRange]) -> usize
+    ensures bound { result ≤ length ranges.now }
+    ensures members { (c : ℕ) (b : Bool) → painted (take result ranges.now) c b ≡ (b || covered (take result ranges.now) c) }
+{
+    for (index, painted) in ranges.iter().enumerate() {
+        if !painted.member {
+            return index;
+        }
+    }
+    ranges.len()
+}
+
+/// The set of ranges in the order in which they were painted. What is painted first needs no layer.
 pub(crate) fn flattened(
     alloc: Global,
     ranges: &[PaintedRange],
 ) -> Result<CodePointInversionListBuilder, NoMemory>
     ensures { IfOk result (λ set. (c : ℕ) → contains set c ≡ painted ranges.now c false) }
 {
-    let mut layers = Vec::new(alloc);
-    let mut run = Vec::new(alloc);
-    let mut member = true;
-    for painted in ranges {
-        if painted.member != member {
-            push_run(alloc, &mut layers, &mut run, member)?;
-            member = painted.member;
-        }
-        run.push(painted.range)?;
-    }
-    push_run(alloc, &mut layers, &mut run, member)?;
-    merged(alloc, layers)
+    let (front, rest) = ranges.split_at(members_in_front(ranges));
+    let set = united(alloc, front)?;
+    let layer = layered(alloc, rest)?;
+    without_and_with(set, &layer.removed.build(), layer.added)
 }

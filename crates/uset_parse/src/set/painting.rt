@@ -1,5 +1,5 @@
 //! The code points of a set in the making.
-use crate::set::layers::flattened;
+use crate::set::layers::{flattened, members_in_front};
 use cp_invlist::laws::members_are_code_points;
 use cp_invlist::{CodePointInversionList, CodePointRange, NoMemory};
 use std::alloc::Global;
@@ -25,8 +25,9 @@ pub(crate) struct Painting {
 impl Painting {
     ghost use Rattle.std.specs.Prelude.{◌≡◌, ℕ, ◌||◌, ◌&&◌, not, false, IfOk, OnOk};
     ghost use Rattle.cp_invlist.specs.InversionList.{contains, is_code_point};
-    ghost use Rattle.cp_invlist.specs.Ranges.{in_code_points};
-    ghost use Rattle.uset_parse.specs.Painting.{in_painting};
+    ghost use Rattle.cp_invlist.specs.Ranges.{in_code_points, is_outside};
+    ghost use Rattle.uset_parse.specs.Painting.{in_painting, covered};
+    ghost use Rattle.std.specs.Bool.{OnTrue};
 
     /// Nothing yet.
     #[tactic(auto, unfolding(crate::specs::Painting::in_painting))]
@@ -63,6 +64,16 @@ impl Painting {
         Ok(())
     }
 
+    /// Adds the code points that aren't in the set.
+    fn add_outside(&mut self, set: &CodePointInversionList) -> Result<(), NoMemory>
+        ensures { OnOk result ((c : ℕ) → in_painting self.new c ≡ (in_painting self.old c || is_outside set.now c)) }
+    {
+        for range in set.iter_ranges_complemented() {
+            self.add_range(range)?;
+        }
+        Ok(())
+    }
+
     /// Exchanges the members and the other code points.
     pub(crate) fn complement(&mut self)
         ensures { (c : ℕ) → in_painting self.new c ≡ (is_code_point c && not (in_painting self.old c)) }
@@ -77,7 +88,40 @@ impl Painting {
         if self.ranges.len() < other.ranges.len() {
             swap(self, &mut other);
         }
-        self.add_set(&other.into_set()?)
+        self.paint(&other)
+    }
+
+    /// Paints the members of the other set onto this one.
+    fn paint(&mut self, other: &Painting) -> Result<(), NoMemory>
+        ensures { OnOk result ((c : ℕ) → in_painting self.new c ≡ (in_painting self.old c || in_painting other.now c)) }
+    {
+        if other.is_plain() {
+            return self.add_ranges(&other.ranges);
+        }
+        let set = flattened(other.alloc, &other.ranges)?.build();
+        if other.complemented {
+            self.add_outside(&set)
+        } else {
+            self.add_set(&set)
+        }
+    }
+
+    /// Whether the set is that of all its ranges.
+    fn is_plain(&self) -> bool
+        ensures { OnTrue result ((c : ℕ) → in_painting self.now c ≡ covered self.now.ranges.items c) }
+    {
+        !self.complemented && members_in_front(&self.ranges) == self.ranges.len()
+    }
+
+    /// Adds the code points of all the ranges.
+    fn add_ranges(&mut self, ranges: &[PaintedRange]) -> Result<(), NoMemory>
+        ensures { OnOk result ((c : ℕ) → in_painting self.new c ≡ (in_painting self.old c || covered ranges.now c)) }
+    {
+        self.ranges.reserve(ranges.len())?;
+        for painted in ranges {
+            self.add_range(painted.range)?;
+        }
+        Ok(())
     }
 
     /// Takes the members of the other set away: what stays is what neither the other set has nor the complement.

@@ -27,4 +27,4 @@ returns c =
     let all = subst (AreMaximalRanges (contains c.args.set.now)) (ap (λ rs. given ++ rs) c.in-None.ensures.steps.0 ∙ append-nil given) c.loop-range.invariant.0 in
     λ d. c.loop-range.invariant.1 d
     ∙ ap (λ b. in_painting c.args.self.now d || b)
-      (set_spelled c.args.set.now given (λ n. c.members_are_code_points.ensures c.args.set.now n c.get_inversion_list.ensures.canonical) all d)
+    (set_spelled c.args.set.now given (λ n. c.members_are_code_points.ensures c.args.set.now n c.get_inversion_list.ensures.canonical) all d)

@@ -1,4 +1,4 @@
-use Rattle.std.proofs.Common.{rules, ◌≡◌, List, ℕ, false, not, ◌&&◌, ◌∷◌, [], ◌++◌, refl, sym, ap, ◌∙◌, append_assoc, append-nil}
+use Rattle.std.proofs.Common.{rules, false, not, ◌&&◌, ◌∷◌, [], ◌++◌, sym, ap, ◌∙◌, append_assoc}
 use Rattle.std.proofs.lemmas.Map.Text.{btree_set_updates_text}
 use Rattle.std.specs.BTreeSet.{contains_text}
 use Rattle.std.specs.String.{string_bytes}
@@ -20,7 +20,7 @@ pub loop-text-preserved : goal.loop-text-preserved
 loop-text-preserved c = (
   append_assoc c.loop-text.yielded (c.in-Some.text ∷ []) c.next.new.self ∙ (sym (ap (λ ks. c.loop-text.yielded ++ ks) c.in-Some.ensures.steps) ∙ c.loop-text.invariant.0),
   λ bytes. removed_more _ _ _ c.loop-text.yielded c.in-Some.text bytes (c.loop-text.invariant.1 bytes)
-    (btree_set_updates_text (string_bytes c.in-Some.text) c.loop-text.self-inside.texts c.remove.new.self false (rw c.as_str.ensures.value at c.remove.ensures.updates) bytes),
+      (btree_set_updates_text (string_bytes c.in-Some.text) c.loop-text.self-inside.texts c.remove.new.self false (rw c.as_str.ensures.value at c.remove.ensures.updates) bytes),
 )
 
 pub returns : goal.returns
