@@ -1,5 +1,5 @@
 -- Sets of code points in the making: what was painted, and the layers that are made of it.
-use Rattle.std.specs.Prelude.{ℕ, Bool, false, not, ◌&&◌, ◌||◌, if◌then◌else◌, List, [], ◌∷◌}
+use Rattle.std.specs.Prelude.{◌≡◌, ℕ, Bool, false, not, ◌&&◌, ◌||◌, if◌then◌else◌, List, [], ◌∷◌}
 use Rattle.std.specs.List.{list_any}
 use Rattle.cp_invlist.specs.InversionList.{contains, is_code_point}
 use Rattle.cp_invlist.specs.Ranges.{in_code_points}
@@ -23,6 +23,10 @@ painted (p ∷ ps) c b = painted ps c (if in_code_points p.range c then p.member
 abbrev pub covered : List PaintedRange → ℕ → Bool
 covered ps c = list_any (λ p. in_code_points p.range c) ps
 
+-- all of the ranges are painted as members
+abbrev pub AreMembers : List PaintedRange → Type 0
+AreMembers ps = (c : ℕ) (b : Bool) → painted ps c b ≡ (b || covered ps c)
+
 -- the code point is in the builder or was put aside
 unfoldable pub in_run : Run → ℕ → Bool
 in_run r c = contains r.builder c || in_some r.aside.items c
@@ -43,3 +47,11 @@ behind l c b = contains l.added c || (b && not (contains l.removed c))
 abbrev pub behind_all : List Layer → ℕ → Bool → Bool
 behind_all [] c b = b
 behind_all (l ∷ ls) c b = behind_all ls c (behind l c b)
+
+-- the layer was put onto the others
+abbrev pub IsPutOnto : List Layer → Layer → List Layer → Type 0
+IsPutOnto old l new = (c : ℕ) (b : Bool) → behind_all new c b ≡ behind l c (behind_all old c b)
+
+-- a member of the first set that the second lacks, or of the third
+abbrev pub in_changed : List ℕ → List ℕ → List ℕ → ℕ → Bool
+in_changed set removed added c = (contains set c && not (contains removed c)) || contains added c

@@ -1,7 +1,7 @@
 //! Layers: what painted ranges make of a set, and how many of them become one.
-ghost use Rattle.std.specs.Prelude.{◌≡◌, ◌≤◌, ℕ, Bool, ◌||◌, ◌&&◌, not, false, IfOk, OnOk, length, take};
+ghost use Rattle.std.specs.Prelude.{◌≡◌, ◌≤◌, ℕ, Bool, false, IfOk, OnOk, length, take};
 ghost use Rattle.cp_invlist.specs.InversionList.{contains};
-ghost use Rattle.uset_parse.specs.Painting.{covered, painted, painted_alike, behind, behind_all};
+ghost use Rattle.uset_parse.specs.Painting.{in_changed, AreMembers, IsPutOnto, covered, painted, painted_alike, behind, behind_all};
 
 use crate::set::painting::PaintedRange;
 use crate::set::run::Run;
@@ -24,7 +24,7 @@ fn without_and_with(
     removed: &CodePointInversionList,
     added: CodePointInversionListBuilder,
 ) -> Result<CodePointInversionListBuilder, NoMemory>
-    ensures { IfOk result (λ changed. (c : ℕ) → contains changed c ≡ ((contains set c && not (contains removed.now c)) || contains added c)) }
+    ensures { IfOk result (λ changed. (c : ℕ) → contains changed c ≡ in_changed set removed.now added c) }
 {
     let added = added.build();
     if !removed.is_empty() {
@@ -53,7 +53,7 @@ fn over(lower: Layer, upper: Layer) -> Result<Layer, NoMemory>
 /// Puts the layer onto the others. It is merged with the one below as long as that one isn't at least twice
 /// as large: so there are few layers, and each range is merged a logarithm of times.
 fn push(layers: &mut Vec<Layer>, layer: Layer) -> Result<(), NoMemory>
-    ensures { OnOk result ((c : ℕ) (b : Bool) → behind_all layers.new.items c b ≡ behind layer c (behind_all layers.old.items c b)) }
+    ensures { OnOk result (IsPutOnto layers.old.items layer layers.new.items) }
 {
     let mut top = layer;
     while let Some(lower) = layers.pop() {
@@ -132,7 +132,7 @@ fn united(alloc: Global, ranges: &[PaintedRange]) -> Result<CodePointInversionLi
 /// How many ranges at the front are painted as members: all before the first that isn't.
 pub(crate) fn members_in_front(ranges: &[PaintedRange]) -> usize
     ensures bound { result ≤ length ranges.now }
-    ensures members { (c : ℕ) (b : Bool) → painted (take result ranges.now) c b ≡ (b || covered (take result ranges.now) c) }
+    ensures members { AreMembers (take result ranges.now) }
 {
     for (index, painted) in ranges.iter().enumerate() {
         if !painted.member {

@@ -124,12 +124,12 @@ impl Painting {
         Ok(())
     }
 
-    /// Takes the members of the other set away: what stays is what neither the other set has nor the complement.
-    pub(crate) fn remove(&mut self, other: Painting) -> Result<(), NoMemory>
-        ensures { OnOk result ((c : ℕ) → in_painting self.new c ≡ (in_painting self.old c && not (in_painting other c))) }
+    /// Takes the members of the set away: what stays is what neither that set has nor the complement.
+    pub(crate) fn remove(&mut self, set: Painting) -> Result<(), NoMemory>
+        ensures { OnOk result ((c : ℕ) → in_painting self.new c ≡ (in_painting self.old c && not (in_painting set c))) }
     {
         self.complement();
-        self.join(other)?;
+        self.join(set)?;
         self.complement();
         Ok(())
     }
