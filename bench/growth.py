@@ -1,25 +1,26 @@
 #!/usr/bin/env python3
-"""Times `uset eval` on inputs of growing size, and prints the time a byte, so that growth shows; and the
-memory that brackets inside one another take.
+"""Times `uset eval` on inputs of growing size, and prints the time a byte, so that growth shows: first for
+patterns and tables of each kind, then for sets that take many steps; and the memory that brackets inside one
+another take.
 
 Usage: bench/growth.py [PROGRAM]. PROGRAM is crates/uset/out/uset, which `rt run` in crates/uset builds.
-Each input is timed REPEATS times, and the least time stands in the table. The time of an input of two
-lines, which is that of starting the program, is taken off.
+Each input is timed REPEATS times, and the least processor time stands in the table: others may use the
+machine too. The time of an input of two lines, which is that of starting the program, is taken off.
 """
 
 import os
 import random
+import resource
 import subprocess
 import sys
-import time
 from pathlib import Path
 
 REPEATS = 5
 TOP = Path(__file__).resolve().parent.parent
 TABLES = (TOP / "examples" / "syntax.txt").read_text(encoding="utf-8")
 # Code points of four bytes each, none of which touches another.
-ELEMENTS = [chr(0x10000 + 2 * index) for index in range(0x80000)]
-# The most bytes that a source may have.
+ELEMENTS = [chr(0x10000 + 2 * index) for index in range(100_000)]
+# The bytes of the largest inputs: the program takes 2^23.
 MOST_BYTES = 8_000_000
 
 
@@ -73,7 +74,7 @@ def operations(count):
 
 def element(index):
     """A code point of four bytes, by its number; past the last they begin anew."""
-    return ELEMENTS[index % len(ELEMENTS)]
+    return chr(0x10000 + 2 * (index % 0x80000))
 
 
 def base(count):
@@ -154,14 +155,20 @@ STEPS = [
 ]
 
 
+def processor_time():
+    """The time that processors spent on the programs that have ended, for them and for the system."""
+    usage = resource.getrusage(resource.RUSAGE_CHILDREN)
+    return usage.ru_utime + usage.ru_stime
+
+
 def seconds(program, text):
-    """The least time that the program takes for the input."""
+    """The least processor time that the program takes for the input."""
     data = text.encode("utf-8")
     least = None
     for _ in range(REPEATS):
-        begun = time.perf_counter()
+        begun = processor_time()
         run = subprocess.run([program, "eval"], input=data, stdout=subprocess.PIPE, check=False)
-        taken = time.perf_counter() - begun
+        taken = processor_time() - begun
         if run.returncode != 0:
             sys.exit(f"status {run.returncode}: {run.stdout[:80]!r}")
         least = taken if least is None else min(least, taken)
@@ -185,7 +192,7 @@ def most_steps(make):
 
 
 def gathering(program, start):
-    """Prints the time of sets that take many steps, at ever more steps, and at as many as a source may have."""
+    """Prints the time of sets that take many steps, at ever more steps, and at as many as the largest inputs have."""
     print()
     print("| input | steps | bytes | ms | ns a byte |")
     print("|---|---|---|---|---|")
