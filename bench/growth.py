@@ -1,17 +1,18 @@
 #!/usr/bin/env python3
-"""Times `uset eval` on inputs of growing size, and prints the time a byte, so that growth shows; and the
-memory that brackets inside one another take.
+"""Times `uset eval` on inputs of growing size, and prints the time a byte, so that growth shows: first for
+patterns and tables of each kind, then for sets that take many steps; and the memory that brackets inside one
+another take.
 
 Usage: bench/growth.py [PROGRAM]. PROGRAM is crates/uset/out/uset, which `rt run` in crates/uset builds.
-Each input is timed REPEATS times, and the least time stands in the table. The time of an input of two
-lines, which is that of starting the program, is taken off.
+Each input is timed REPEATS times, and the least processor time stands in the table: others may use the
+machine too. The time of an input of two lines, which is that of starting the program, is taken off.
 """
 
 import os
 import random
+import resource
 import subprocess
 import sys
-import time
 from pathlib import Path
 
 REPEATS = 5
@@ -19,6 +20,8 @@ TOP = Path(__file__).resolve().parent.parent
 TABLES = (TOP / "examples" / "syntax.txt").read_text(encoding="utf-8")
 # Code points of four bytes each, none of which touches another.
 ELEMENTS = [chr(0x10000 + 2 * index) for index in range(100_000)]
+# The bytes of the largest inputs: the program takes 2^23.
+MOST_BYTES = 8_000_000
 
 
 def lines(count):
@@ -69,6 +72,69 @@ def operations(count):
     return TABLES + "pat [" + "[[a-z{ab}]-[b-d{bc}]&[c-x{ab}]]" * count + "]\n"
 
 
+def element(index):
+    """A code point of four bytes, by its number; past the last they begin anew."""
+    return chr(0x10000 + 2 * (index % 0x80000))
+
+
+def base(count):
+    """A set of this many elements: every second one of those that there are."""
+    return "[" + "".join(element(2 * index) for index in range(count)) + "]"
+
+
+def removals(count):
+    """A script of one pattern of this many elements, each of which is then taken away alone."""
+    return TABLES + "pat [" + base(count) + "".join(f"-[{element(2 * index)}]" for index in range(count)) + "]\n"
+
+
+def keeps(count):
+    """The same, where the complement of each is kept."""
+    return TABLES + "pat [" + base(count) + "".join(f"&[^{element(2 * index)}]" for index in range(count)) + "]\n"
+
+
+def turns(count):
+    """A script of one pattern of this many elements, of which each is taken away and another joined, by turns."""
+    steps = "".join(f"[{element(2 * index + 1)}]-[{element(2 * index)}]" for index in range(count))
+    return TABLES + "pat [" + base(count) + steps + "]\n"
+
+
+def outwards(count):
+    """A script of one pattern of this many elements, and as many brackets around it with an element behind each."""
+    behind = "".join(f"{element(2 * index + 1)}]" for index in range(count))
+    return TABLES + "pat " + "[" * count + base(count) + behind + "\n"
+
+
+def complements(count):
+    """A script of one pattern of this many elements, and as many complements around it."""
+    return TABLES + "pat " + "[^" * count + base(count) + "]" * count + "\n"
+
+
+def string(index):
+    """A string by its number."""
+    return f"{{s{index:06d}}}"
+
+
+def string_base(count):
+    """A set of this many strings."""
+    return "[" + "".join(string(index) for index in range(count)) + "]"
+
+
+def string_removals(count):
+    """A script of one pattern of this many strings, each of which is then taken away alone."""
+    return TABLES + "pat [" + string_base(count) + "".join(f"-[{string(index)}]" for index in range(count)) + "]\n"
+
+
+def string_keeps(count):
+    """A script of one pattern of this many strings, of which two are kept as often."""
+    return TABLES + "pat [" + string_base(count) + f"&[{string(0)}{string(1)}]" * count + "]\n"
+
+
+def strings_outwards(count):
+    """A script of one pattern of this many strings, and as many brackets around it with a string behind each."""
+    behind = "".join(f"{string(count + index)}]" for index in range(count))
+    return TABLES + "pat " + "[" * count + string_base(count) + behind + "\n"
+
+
 def rows(count):
     """A table text whose first table has this many rows more, and no script."""
     head, first = TABLES.split("set XID_Start\n", 1)
@@ -77,14 +143,32 @@ def rows(count):
     return head + "set XID_Start\n" + before + more + "set " + after
 
 
+STEPS = [
+    ("elements taken away", removals),
+    ("complements kept", keeps),
+    ("joins and removals by turns", turns),
+    ("brackets around elements", outwards),
+    ("complements around elements", complements),
+    ("strings taken away", string_removals),
+    ("strings kept under few", string_keeps),
+    ("brackets around strings", strings_outwards),
+]
+
+
+def processor_time():
+    """The time that processors spent on the programs that have ended, for them and for the system."""
+    usage = resource.getrusage(resource.RUSAGE_CHILDREN)
+    return usage.ru_utime + usage.ru_stime
+
+
 def seconds(program, text):
-    """The least time that the program takes for the input."""
+    """The least processor time that the program takes for the input."""
     data = text.encode("utf-8")
     least = None
     for _ in range(REPEATS):
-        begun = time.perf_counter()
+        begun = processor_time()
         run = subprocess.run([program, "eval"], input=data, stdout=subprocess.PIPE, check=False)
-        taken = time.perf_counter() - begun
+        taken = processor_time() - begun
         if run.returncode != 0:
             sys.exit(f"status {run.returncode}: {run.stdout[:80]!r}")
         least = taken if least is None else min(least, taken)
@@ -99,6 +183,24 @@ def peak(program, text):
         _, _, usage = os.wait4(run.pid, 0)
         run.returncode = 0
     return usage.ru_maxrss * 1024
+
+
+def most_steps(make):
+    """The most steps that a source of at most MOST_BYTES takes."""
+    each = (len(make(2_000).encode("utf-8")) - len(make(1_000).encode("utf-8"))) / 1_000
+    return int(MOST_BYTES / each)
+
+
+def gathering(program, start):
+    """Prints the time of sets that take many steps, at ever more steps, and at as many as the largest inputs have."""
+    print()
+    print("| input | steps | bytes | ms | ns a byte |")
+    print("|---|---|---|---|---|")
+    for name, make in STEPS:
+        for count in (1_000, 4_000, 16_000, 64_000, most_steps(make)):
+            taken, size = seconds(program, make(count))
+            net = max(taken - start, 0.0)
+            print(f"| {name} | {count:,} | {size:,} | {net * 1000:.1f} | {net * 1e9 / size:.0f} |")
 
 
 def memory(program):
@@ -134,6 +236,7 @@ def main():
             taken, size = seconds(program, make(count))
             net = max(taken - start, 0.0)
             print(f"| {name} | {count:,} | {size:,} | {net * 1000:.1f} | {net * 1e9 / size:.0f} |")
+    gathering(program, start)
     memory(program)
 
 

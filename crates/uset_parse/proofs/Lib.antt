@@ -7,6 +7,8 @@ pub mod Turning
 pub mod OpenBrackets
 pub mod OneReading
 pub mod RangesLemmas
+pub mod PaintingLemmas
+pub mod LayersLemmas
 pub mod GatheredLemmas
 pub mod StringLemmas
 pub mod StringsLemmas

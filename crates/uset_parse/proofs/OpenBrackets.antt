@@ -8,11 +8,14 @@ use Rattle.uset_parse.specs.declared.error.ParseErrorKind.TheVariants.{Internal,
 use Rattle.uset_parse.specs.declared.token.Token.{Token as CodeToken}
 use Rattle.uset_parse.specs.declared.token.Token.TheVariants.{Open, Close, Item as OneItem}
 use Rattle.uset_parse.specs.declared.stack.Progress.TheVariants.{GoesOn, Done}
-use Rattle.uset_parse.specs.declared.gathered.Members.{Members}
 use Rattle.uset_parse.specs.Text.{Text}
+use Rattle.uset_parse.specs.Tree.{Member}
 use Rattle.uset_parse.specs.Grammar.{Syntax, close, token}
 use Rattle.uset_parse.specs.Fault.{ReadsNothing}
 use Rattle.uset_parse.specs.Reading.{Unread, IsFront, in_members}
+use Rattle.uset_parse.specs.Gathered.{gathered_in}
+use Rattle.uset_parse.specs.declared.set.gathered.Gathered.{Gathered}
+use Rattle.uset_parse.specs.declared.set.gathered.Members.{Members}
 use Rattle.uset_parse.specs.Turn.{token_seen, Turns, Unfit, Misplaced, no_end, no_place, Refuses}
 use Rattle.uset_parse.proofs.Standing.{Denotes, Innermost}
 use Rattle.uset_parse.proofs.Turning.{opened, grew, closed_inside, closed_outside, unfit_item, unfit_end, unfit_set}
@@ -69,8 +72,8 @@ turned syntax source t next outer new b (OneItem i) at found h = record {
 }
 
 -- the outermost bracket was closed
-pub done : (syntax : Syntax) (source t next : Text) (outer new : List OpenBracket) (b : OpenBracket) (k : CodeToken) (set : Members) → Innermost syntax source outer b t →
-    token syntax t ≡ Some (token_seen k, next) → Turns outer b k new (Ok (Done set)) → Denotes syntax source (in_members set) next
+pub done : (syntax : Syntax) (source t next : Text) (outer new : List OpenBracket) (b : OpenBracket) (k : CodeToken) (set : Gathered) → Innermost syntax source outer b t →
+    token syntax t ≡ Some (token_seen k, next) → Turns outer b k new (Ok (Done set)) → Denotes syntax source (gathered_in set) next
 done syntax source t next outer new b (Open o) set at found h = absurd h
 done syntax source t next outer new b Close set at found h =
     closed_outside syntax source t next b set (subst (λ bs. Innermost syntax source bs b t) h.0 at) found h.1
@@ -97,12 +100,13 @@ refusal syntax source t next outer b k NoMemory at found h = tt
 refusal syntax source t next outer b k Internal at found h = h
 
 -- a reading up to here, with its place
-pub front : (syntax : Syntax) (source : Text) (size : ℕ) (behind : List ℕ) (set : Members) → Denotes syntax source (in_members set) (characters behind) → IsUtf8 behind → length behind ≤ size →
+pub front : (syntax : Syntax) (source : Text) (size : ℕ) (behind : List ℕ) (gathered : Gathered) (set : Members) → Denotes syntax source (gathered_in gathered) (characters behind) →
+    ((m : Member) → in_members set m ≡ gathered_in gathered m) → IsUtf8 behind → length behind ≤ size →
     IsFront syntax source size set (size - length behind)
-front syntax source size behind set h text within = record {
+front syntax source size behind gathered set h same text within = record {
   tree = h.tree;
   rest = characters behind;
   read = h.read;
-  members = h.same;
+  members = λ m. same m ∙ h.same m;
   place = omega (arith, ap length (encodes-chars behind text));
 }

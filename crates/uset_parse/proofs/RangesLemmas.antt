@@ -1,35 +1,18 @@
--- What is put aside, and how it comes into the builder.
-use Rattle.std.proofs.Common.{◌≡◌, ℕ, ◌+◌, ◌<◌, ◌≤◌, arith, Bool, true, false, ◌||◌, ◌&&◌, nat_le, List, [], ◌∷◌, ◌++◌, inl, inr, IsPermutation, Result, Ok, Err, OnOk, refl, sym, ap, ◌∙◌}
+-- The ranges that a set is told by.
+use Rattle.std.proofs.Common.{◌≡◌, ℕ, ◌+◌, ◌<◌, ◌≤◌, arith, Bool, true, false, ◌||◌, ◌&&◌, not, nat_le, List, [], ◌∷◌, ◌++◌, IsPermutation, inl, inr, refl, sym, ap, ◌∙◌}
 use Rattle.std.proofs.Math.Bool.{or_assoc}
 use Rattle.std.proofs.lemmas.Bool.{cases_lt, le-leb, lt-leb}
 use Rattle.std.proofs.lemmas.List.Folds.{list_any-append}
 use Rattle.std.proofs.lemmas.List.Sorted.{list_any-IsPermutation}
 use Rattle.cp_invlist.specs.InversionList.{contains, is_code_point}
-use Rattle.cp_invlist.specs.Ranges.{in_code_points, AreRangesFrom, AreMaximalRanges}
+use Rattle.cp_invlist.specs.Ranges.{in_code_points, is_outside, AreRangesFrom, AreMaximalRanges}
 use Rattle.cp_invlist.specs.declared.ranges.CodePointRange.{CodePointRange}
-use Rattle.uset_parse.specs.declared.ranges.Ranges.{Ranges}
-use Rattle.uset_parse.specs.Gathered.{in_some, in_ranges}
+use Rattle.uset_parse.specs.declared.set.run.Run.{Run}
+use Rattle.uset_parse.specs.Painting.{in_some, in_run}
 
-or_none : (b : Bool) → (b || false) ≡ b
+pub or_none : (b : Bool) → (b || false) ≡ b
 or_none true = refl
 or_none false = refl
-
--- the set of all that was put aside was joined to the builder
-settled_members : (old new : Ranges) (sorted : List CodePointRange) (set : List ℕ) → IsPermutation old.aside.items sorted →
-    ((c : ℕ) → contains set c ≡ in_some sorted c) → ((c : ℕ) → contains new.builder c ≡ (contains old.builder c || contains set c)) → new.aside.items ≡ [] →
-    (c : ℕ) → in_ranges new c ≡ in_ranges old c
-unfolding in_ranges
-settled_members old new sorted set permuted union_is joined none c =
-    ap (λ rs. contains new.builder c || in_some rs c) none
-    ∙ (or_none (contains new.builder c)
-    ∙ (joined c
-    ∙ ap (λ b. contains old.builder c || b) (union_is c ∙ sym (list_any-IsPermutation (λ r. in_code_points r c) old.aside.items sorted permuted))))
-
-pub settled_result : {A E : Type 0} (result : Result A E) (old new : Ranges) (sorted : List CodePointRange) (set : List ℕ) → IsPermutation old.aside.items sorted →
-    ((c : ℕ) → contains set c ≡ in_some sorted c) → OnOk result ((c : ℕ) → contains new.builder c ≡ (contains old.builder c || contains set c)) → new.aside.items ≡ [] →
-    OnOk result ((c : ℕ) → in_ranges new c ≡ in_ranges old c)
-settled_result (Ok x) old new sorted set permuted union_is joined none = settled_members old new sorted set permuted union_is joined none
-settled_result (Err e) old new sorted set permuted union_is joined none = tt
 
 before : (r : CodePointRange) (c : ℕ) → c < r.start → in_code_points r c ≡ false
 before r c lt = ap (λ b. (b && nat_le c r.end) && is_code_point c) (lt-leb r.start c lt)
@@ -69,21 +52,35 @@ pub set_spelled : (set : List ℕ) (rs : List CodePointRange) → ((c : ℕ) →
     (c : ℕ) → in_some rs c ≡ contains set c
 set_spelled set rs within maximal c = spelled_from (contains set) 0 rs maximal c (omega arith) ∙ within c
 
-spelled_more : (given : List CodePointRange) (r : CodePointRange) (c : ℕ) → in_some (given ++ r ∷ []) c ≡ (in_some given c || in_code_points r c)
+within_code : (code b : Bool) → ((code && b) && code) ≡ (code && b)
+within_code true true = refl
+within_code true false = refl
+within_code false b = refl
+
+-- the ranges between those of a set hold the other code points
+pub outside_spelled : (set : List ℕ) (rs : List CodePointRange) → AreMaximalRanges (is_outside set) rs → (c : ℕ) → in_some rs c ≡ is_outside set c
+outside_spelled set rs maximal c = spelled_from (is_outside set) 0 rs maximal c (omega arith) ∙ within_code (is_code_point c) (not (contains set c))
+
+-- the ranges with one more
+pub spelled_more : (given : List CodePointRange) (r : CodePointRange) (c : ℕ) → in_some (given ++ r ∷ []) c ≡ (in_some given c || in_code_points r c)
 spelled_more given r c = list_any-append (λ s. in_code_points s c) given (r ∷ []) ∙ ap (λ b. in_some given c || b) (or_none (in_code_points r c))
 
--- no range was put aside yet
-pub none_put : (start new : Ranges) → new.builder ≡ start.builder → new.aside.items ≡ start.aside.items → (c : ℕ) → in_ranges new c ≡ (in_ranges start c || in_some [] c)
-unfolding in_ranges
-none_put start new same kept c = (λ i. contains (same i) c || in_some (kept i) c) ∙ sym (or_none (in_ranges start c))
+-- one more range was joined to what a set had before
+pub joined_more : (start old new : Bool) (given : List CodePointRange) (r : CodePointRange) (c : ℕ) → old ≡ (start || in_some given c) →
+    new ≡ (old || in_code_points r c) → new ≡ (start || in_some (given ++ r ∷ []) c)
+joined_more start old new given r c before_it it =
+    it
+    ∙ (ap (λ b. b || in_code_points r c) before_it
+    ∙ (or_assoc start (in_some given c) (in_code_points r c) ∙ ap (λ b. start || b) (sym (spelled_more given r c))))
 
--- one more range was put aside
-pub one_put : (start old new : Ranges) (given : List CodePointRange) (r : CodePointRange) (c : ℕ) → new.builder ≡ old.builder → new.aside.items ≡ old.aside.items ++ r ∷ [] →
-    in_ranges old c ≡ (in_ranges start c || in_some given c) → in_ranges new c ≡ (in_ranges start c || in_some (given ++ r ∷ []) c)
-unfolding in_ranges
-one_put start old new given r c same more h =
-    (λ i. contains (same i) c || in_some (more i) c)
-    ∙ (ap (λ b. contains old.builder c || b) (spelled_more old.aside.items r c)
-    ∙ (sym (or_assoc (contains old.builder c) (in_some old.aside.items c) (in_code_points r c))
-    ∙ (ap (λ b. b || in_code_points r c) h
-    ∙ (or_assoc (in_ranges start c) (in_some given c) (in_code_points r c) ∙ ap (λ b. in_ranges start c || b) (sym (spelled_more given r c))))))
+-- the set of what was put aside was joined to the builder
+pub settled : (run : Run) (sorted : List CodePointRange) (union joined : List ℕ) → IsPermutation run.aside.items sorted → ((c : ℕ) → contains union c ≡ in_some sorted c) →
+    ((c : ℕ) → contains joined c ≡ (contains run.builder c || contains union c)) → (c : ℕ) → contains joined c ≡ in_run run c
+unfolding in_run
+settled run sorted union joined permuted union_is joined_is c =
+    joined_is c ∙ ap (λ b. contains run.builder c || b) (union_is c ∙ sym (list_any-IsPermutation (λ r. in_code_points r c) run.aside.items sorted permuted))
+
+-- nothing was put aside
+pub none_aside : (run : Run) → run.aside.items ≡ [] → (c : ℕ) → contains run.builder c ≡ in_run run c
+unfolding in_run
+none_aside run none c = sym (or_none (contains run.builder c)) ∙ ap (λ rs. contains run.builder c || in_some rs c) (sym none)

@@ -1,5 +1,5 @@
 -- Sets of strings, by their bytes.
-use Rattle.std.proofs.Common.{◌≡◌, ◌≢◌, ℕ, Bool, true, false, cond, ◌||◌, ◌&&◌, List, [], ◌∷◌, ◌++◌, zero, suc, map, length, filter, None, refl, sym, ap, ◌∙◌, inl, inr, arith, append-nil}
+use Rattle.std.proofs.Common.{◌≡◌, ◌≢◌, ℕ, Bool, true, false, cond, ◌||◌, ◌&&◌, not, List, [], ◌∷◌, ◌++◌, zero, suc, map, length, filter, None, refl, sym, ap, ◌∙◌, inl, inr, arith, append-nil}
 use mathlib.Core.Logic.{◌⊎◌}
 use Rattle.std.proofs.lemmas.Bool.{cases_Bool}
 use Rattle.std.proofs.lemmas.List.Elements.{All-from_recursion, All-map}
@@ -17,6 +17,7 @@ use Rattle.std.specs.Set.{IsUnion}
 use Rattle.std.specs.Str.{bytes_eq, chars}
 use Rattle.std.specs.String.{string_bytes, string_cmp}
 use Rattle.cp_strset.specs.StringList.{sole_of, holds, AreCanonical}
+use Rattle.uset_parse.proofs.RangesLemmas.{or_none}
 
 -- the string has these bytes
 abbrev pub spells : List ℕ → String Global → Bool
@@ -169,3 +170,28 @@ bytes_spelled (k ∷ ks) bytes =
 -- all strings were given out
 pub all_given : (given left ks : List (String Global)) → given ++ left ≡ ks → left ≡ [] → given ≡ ks
 all_given given left ks parts none = sym (append-nil given) ∙ (ap (λ l. given ++ l) (sym none) ∙ parts)
+
+removed_step : (is was given : Bool) → cond is false (was && not given) ≡ (was && not (given || is))
+removed_step true true true = refl
+removed_step true true false = refl
+removed_step true false given = refl
+removed_step false true true = refl
+removed_step false true false = refl
+removed_step false false given = refl
+
+or_last : (xs : List (String Global)) (k : String Global) (bytes : List ℕ) → spelled_in (xs ++ k ∷ []) bytes ≡ (spelled_in xs bytes || bytes_eq (string_bytes k) bytes)
+or_last xs k bytes =
+    list_any-append (spells bytes) xs (k ∷ [])
+    ∙ ap (λ b. spelled_in xs bytes || b) (or_none (spells bytes k) ∙ (is_eq-slice_cmp bytes (string_bytes k) ∙ sym (nat_list_eq_equiv.symm (string_bytes k) bytes)))
+
+-- one more string was taken away
+pub removed_more : (start old new : Bool) (given : List (String Global)) (k : String Global) (bytes : List ℕ) → old ≡ (start && not (spelled_in given bytes)) →
+    new ≡ cond (bytes_eq (string_bytes k) bytes) false old → new ≡ (start && not (spelled_in (given ++ k ∷ []) bytes))
+removed_more start old new given k bytes before it =
+    it
+    ∙ (ap (cond (bytes_eq (string_bytes k) bytes) false) before
+    ∙ (removed_step (bytes_eq (string_bytes k) bytes) start (spelled_in given bytes) ∙ ap (λ b. start && not b) (sym (or_last given k bytes))))
+
+pub and_true : (b : Bool) → (b && true) ≡ b
+and_true true = refl
+and_true false = refl

@@ -10,10 +10,8 @@ use Rattle.uset_parse.specs.declared.bracket.Awaits.TheVariants.{Element, AfterS
 use Rattle.uset_parse.specs.declared.error.ParseErrorKind.{ParseErrorKind}
 use Rattle.uset_parse.specs.declared.error.ParseErrorKind.TheVariants.{Internal, Unimplemented, NoMemory}
 use Rattle.uset_parse.specs.Turn.{Effect, Turned, SetEffect, both, number_of, adds, adds_single, adds_each, turn_members, set_turn, ending, Becomes, Took, TookSet, Ended, Refuses, Misplaced, no_place}
-use Rattle.uset_parse.specs.declared.gathered.Gathered.{Gathered}
-use Rattle.uset_parse.specs.declared.gathered.Members.{Members}
+use Rattle.uset_parse.specs.declared.set.gathered.Gathered.{Gathered}
 use Rattle.uset_parse.specs.Gathered.{gathered_in}
-use Rattle.uset_parse.specs.Reading.{in_members}
 use Rattle.uset_parse.specs.Tree.{Member}
 
 -- a bracket that awaited this turned so
@@ -38,8 +36,8 @@ abbrev pub after_set : OpenBracket → OpenBracket
 after_set b = record { gathered = b.gathered; negated = b.negated; awaits = AfterSet }
 
 -- a bracket that awaited this took a set
-pub took_set : (old built new : OpenBracket) (awaited : Awaits) (set : Members) (effect : SetEffect) → new ≡ built → old.awaits ≡ awaited → set_turn awaited ≡ Some effect →
-    ((m : Member) → gathered_in built.gathered m ≡ effect m (gathered_in old.gathered m) (in_members set m)) → built.negated ≡ old.negated → TookSet old set (after_set new)
+pub took_set : (old built new : OpenBracket) (awaited : Awaits) (set : Gathered) (effect : SetEffect) → new ≡ built → old.awaits ≡ awaited → set_turn awaited ≡ Some effect →
+    ((m : Member) → gathered_in built.gathered m ≡ effect m (gathered_in old.gathered m) (gathered_in set m)) → built.negated ≡ old.negated → TookSet old set (after_set new)
 took_set old built new awaited set effect same is turned becomes negated = subst (λ (b : OpenBracket). TookSet old set (after_set b)) (sym same) (record {
   effect = effect;
   turned = ap (λ (a : Awaits). set_turn a) is ∙ turned;
@@ -49,8 +47,8 @@ took_set old built new awaited set effect same is turned becomes negated = subst
 })
 
 -- a bracket that awaited one of these took a set
-pub took_set_either : (old built new : OpenBracket) (awaited other : Awaits) (set : Members) (effect : SetEffect) → new ≡ built → (old.awaits ≡ awaited) ⊎ (old.awaits ≡ other) →
-    set_turn awaited ≡ Some effect → set_turn other ≡ Some effect → ((m : Member) → gathered_in built.gathered m ≡ effect m (gathered_in old.gathered m) (in_members set m)) →
+pub took_set_either : (old built new : OpenBracket) (awaited other : Awaits) (set : Gathered) (effect : SetEffect) → new ≡ built → (old.awaits ≡ awaited) ⊎ (old.awaits ≡ other) →
+    set_turn awaited ≡ Some effect → set_turn other ≡ Some effect → ((m : Member) → gathered_in built.gathered m ≡ effect m (gathered_in old.gathered m) (gathered_in set m)) →
     built.negated ≡ old.negated → TookSet old set (after_set new)
 took_set_either old built new awaited other set effect same (inl is) turned turned_too becomes negated = took_set old built new awaited set effect same is turned becomes negated
 took_set_either old built new awaited other set effect same (inr is) turned turned_too becomes negated = took_set old built new other set effect same is turned_too becomes negated

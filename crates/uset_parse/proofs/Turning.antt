@@ -8,14 +8,13 @@ use Rattle.uset_parse.specs.declared.token.Opening.{Opening as CodeOpening}
 use Rattle.uset_parse.specs.Text.{Text}
 use Rattle.uset_parse.specs.Tree.{Tree, Steps, Member, in_range, bracket, has, gathers}
 use Rattle.uset_parse.specs.Grammar.{Syntax, Opening, Item, nested, opens, close, item, header, token, ReadsItems, ends, reads, nests, ReadsSet, reads_bracket, Body}
-use Rattle.uset_parse.specs.declared.gathered.Members.{Members}
 use Rattle.uset_parse.specs.Fault.{ReadsNothing}
-use Rattle.uset_parse.specs.Reading.{in_members}
 use Rattle.uset_parse.specs.Turn.{Effect, SetEffect, turn, set_turn, ending, finished, item_seen, opening_seen, IsFresh, Took, TookSet, WasClosed}
 use Rattle.uset_parse.proofs.Arranging.{Residual, Leaves, leaves, Follows, follows, LeavesSet, leaves_set, FollowsSet, follows_set, EndsBy, ends_by}
 use Rattle.uset_parse.proofs.Fronts.{same_parts, behind_item, behind_close, behind_opening, no_front}
 use Rattle.uset_parse.proofs.Standing.{Outcome, Completes, SetTaken, Around, Denotes, Innermost, Leads, nothing_read, stands_on, inwards, outwards, gathered_same}
 use Rattle.uset_parse.specs.Gathered.{gathered_in}
+use Rattle.uset_parse.specs.declared.set.gathered.Gathered.{Gathered}
 
 -- the rest completes a bracket of which only its opening was read
 abbrev pub Begun : Syntax → Opening → Text → Outcome
@@ -165,8 +164,8 @@ closes_there syntax b effect t next found ended members end h =
       same = λ m. h.same m ∙ ap (finished b.negated m) (by.1 h.steps (subst (λ is. Residual b.awaits is h.steps) last.0 h.residual) m (gathered_in b.gathered m));
     }
 
-closes_back : (syntax : Syntax) (b : OpenBracket) (set : Members) (t next : Text) → token syntax t ≡ Some (close, next) → WasClosed b set →
-    Completes syntax (gathered_in b.gathered) b.negated b.awaits t (in_members set) next
+closes_back : (syntax : Syntax) (b : OpenBracket) (set : Gathered) (t next : Text) → token syntax t ≡ Some (close, next) → WasClosed b set →
+    Completes syntax (gathered_in b.gathered) b.negated b.awaits t (gathered_in set) next
 closes_back syntax b set t next found was =
     let by = subst (EndsBy b.awaits) was.ended (ends_by b.awaits) in
     record {
@@ -178,11 +177,11 @@ closes_back syntax b set t next found was =
     }
 
 -- the outermost bracket was closed: the source is read up to here
-pub closed_outside : (syntax : Syntax) (source t next : Text) (b : OpenBracket) (set : Members) → Innermost syntax source [] b t → token syntax t ≡ Some (close, next) → WasClosed b set →
-    Denotes syntax source (in_members set) next
-closed_outside syntax source t next b set at found was = at.sound (in_members set) next (closes_back syntax b set t next found was)
+pub closed_outside : (syntax : Syntax) (source t next : Text) (b : OpenBracket) (set : Gathered) → Innermost syntax source [] b t → token syntax t ≡ Some (close, next) → WasClosed b set →
+    Denotes syntax source (gathered_in set) next
+closed_outside syntax source t next b set at found was = at.sound (gathered_in set) next (closes_back syntax b set t next found was)
 
-around_there : (syntax : Syntax) (b around next : OpenBracket) (set : Members) (t behind : Text) → token syntax t ≡ Some (close, behind) → WasClosed b set → TookSet around set next →
+around_there : (syntax : Syntax) (b around next : OpenBracket) (set : Gathered) (t behind : Text) → token syntax t ≡ Some (close, behind) → WasClosed b set → TookSet around set next →
     Leads (Around syntax around (Completes syntax (gathered_in b.gathered) b.negated b.awaits t)) (Completes syntax (gathered_in next.gathered) next.negated next.awaits behind)
 around_there syntax b around next set t behind found was took members end w =
     let over = closes_there syntax b was.effect t behind found was.ended w.0 w.1 w.2 in
@@ -193,20 +192,20 @@ around_there syntax b around next set t behind found was took members end w =
     (subst (λ (a : Awaits). Completes syntax (gathered_in next.gathered) next.negated a w.1 members end) (sym took.awaits)
     (subst (λ n. Completes syntax (gathered_in next.gathered) n AfterSet w.1 members end) (sym took.negated) gathered))
 
-around_back : (syntax : Syntax) (b around next : OpenBracket) (set : Members) (t behind : Text) → token syntax t ≡ Some (close, behind) → WasClosed b set → TookSet around set next →
+around_back : (syntax : Syntax) (b around next : OpenBracket) (set : Gathered) (t behind : Text) → token syntax t ≡ Some (close, behind) → WasClosed b set → TookSet around set next →
     Leads (Completes syntax (gathered_in next.gathered) next.negated next.awaits behind) (Around syntax around (Completes syntax (gathered_in b.gathered) b.negated b.awaits t))
 around_back syntax b around next set t behind found was took members end h =
     let awaits = subst (λ (a : Awaits). Completes syntax (gathered_in next.gathered) next.negated a behind members end) took.awaits h in
     let negated = subst (λ n. Completes syntax (gathered_in next.gathered) n AfterSet behind members end) took.negated awaits in
     let gathered = gathered_same syntax (gathered_in next.gathered) _ around.negated AfterSet behind took.becomes members end negated in (
-      in_members set,
+      gathered_in set,
       behind,
       closes_back syntax b set t behind found was,
-      subst (λ turned. SetTaken syntax around turned (in_members set) behind members end) (sym took.turned) gathered,
+      subst (λ turned. SetTaken syntax around turned (gathered_in set) behind members end) (sym took.turned) gathered,
     )
 
 -- the innermost bracket was closed, and the one around it took its set
-pub closed_inside : (syntax : Syntax) (source t behind : Text) (further : List OpenBracket) (b around next : OpenBracket) (set : Members) →
+pub closed_inside : (syntax : Syntax) (source t behind : Text) (further : List OpenBracket) (b around next : OpenBracket) (set : Gathered) →
     Innermost syntax source (further ++ around ∷ []) b t → token syntax t ≡ Some (close, behind) → WasClosed b set → TookSet around set next →
     Innermost syntax source further next behind
 closed_inside syntax source t behind further b around next set at found was took =

@@ -7,4 +7,5 @@ pub mod Fault
 pub mod Reading
 pub mod Turn
 pub mod Laws
+pub mod Painting
 pub mod Gathered

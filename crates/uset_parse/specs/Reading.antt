@@ -10,7 +10,7 @@ use Rattle.uset_parse.specs.declared.error.ParseErrorKind.{ParseErrorKind}
 use Rattle.uset_parse.specs.declared.error.ParseErrorKind.TheVariants.{Internal, Unimplemented, NoMemory}
 use Rattle.uset_parse.specs.Fault.{ReadsNothing}
 use Rattle.uset_parse.specs.Text.{Text}
-use Rattle.uset_parse.specs.declared.gathered.Members.{Members}
+use Rattle.uset_parse.specs.declared.set.gathered.Members.{Members}
 use Rattle.uset_parse.specs.Tree.{Tree, Member, point, string, has}
 use Rattle.uset_parse.specs.Grammar.{Syntax, ReadsSet, Reads}
 

@@ -20,13 +20,11 @@ use Rattle.uset_parse.specs.declared.bracket.Awaits.{Awaits}
 use Rattle.uset_parse.specs.declared.bracket.Awaits.TheVariants.{Element, AfterSingle, RangeEnd, End, AnchorEnd, AfterSet, RemoveOrEnd, Keep}
 use Rattle.uset_parse.specs.declared.stack.Progress.{Progress}
 use Rattle.uset_parse.specs.declared.stack.Progress.TheVariants.{GoesOn, Done}
-use Rattle.uset_parse.specs.declared.gathered.Gathered.{Gathered}
-use Rattle.uset_parse.specs.declared.gathered.Members.{Members}
+use Rattle.uset_parse.specs.declared.set.gathered.Gathered.{Gathered}
 use Rattle.uset_parse.specs.Text.{Text}
 use Rattle.uset_parse.specs.Tree.{Member, in_range, is_text, negation}
 use Rattle.uset_parse.specs.Grammar.{Opening, Token, opens, close, item, Item, chars, text_item, minus, ampersand, dollar}
 use Rattle.uset_parse.specs.Gathered.{gathered_in}
-use Rattle.uset_parse.specs.Reading.{in_members}
 
 -- the number of a code point
 abbrev pub number_of : CodePoint → ℕ
@@ -216,10 +214,10 @@ pub record Took (old : OpenBracket) (turned : Turned) (new : OpenBracket) : Type
   pub negated : new.negated ≡ old.negated
 
 -- the bracket took the set
-pub record TookSet (old : OpenBracket) (set : Members) (new : OpenBracket) : Type 0 where
+pub record TookSet (old : OpenBracket) (set : Gathered) (new : OpenBracket) : Type 0 where
   pub effect : SetEffect
   pub turned : set_turn old.awaits ≡ Some effect
-  pub becomes : (m : Member) → gathered_in new.gathered m ≡ effect m (gathered_in old.gathered m) (in_members set m)
+  pub becomes : (m : Member) → gathered_in new.gathered m ≡ effect m (gathered_in old.gathered m) (gathered_in set m)
   pub awaits : new.awaits ≡ AfterSet
   pub negated : new.negated ≡ old.negated
 
@@ -231,16 +229,16 @@ pub record Ended (old new : OpenBracket) : Type 0 where
   pub negated : new.negated ≡ old.negated
 
 -- the bracket was closed, with this set
-pub record WasClosed (old : OpenBracket) (set : Members) : Type 0 where
+pub record WasClosed (old : OpenBracket) (set : Gathered) : Type 0 where
   pub effect : Effect
   pub ended : ending old.awaits ≡ Some effect
-  pub members : (m : Member) → in_members set m ≡ finished old.negated m (effect m (gathered_in old.gathered m))
+  pub members : (m : Member) → gathered_in set m ≡ finished old.negated m (effect m (gathered_in old.gathered m))
 
 abbrev pub Takes : OpenBracket → Turned → Result OpenBracket ParseError → Type 0
 Takes old turned (Ok new) = Took old turned new
 Takes old turned (Err error) = Refuses (turned ≡ None) (kind_of error)
 
-abbrev pub TakesSet : OpenBracket → Members → Result OpenBracket ParseError → Type 0
+abbrev pub TakesSet : OpenBracket → Gathered → Result OpenBracket ParseError → Type 0
 TakesSet old set (Ok new) = TookSet old set new
 TakesSet old set (Err error) = Refuses (set_turn old.awaits ≡ None) (kind_of error)
 
@@ -248,7 +246,7 @@ abbrev pub Ends : OpenBracket → Result OpenBracket ParseError → Type 0
 Ends old (Ok new) = Ended old new
 Ends old (Err error) = Refuses (ending old.awaits ≡ None) (kind_of error)
 
-abbrev pub Closes : OpenBracket → Result Members ParseError → Type 0
+abbrev pub Closes : OpenBracket → Result Gathered ParseError → Type 0
 Closes old (Ok set) = WasClosed old set
 Closes old (Err error) = Refuses (ending old.awaits ≡ None) (kind_of error)
 
@@ -266,7 +264,7 @@ pub record Grew (outer : List OpenBracket) (b : OpenBracket) (i : CodeItem) (new
 
 -- the innermost bracket was closed, and the one around it took its set
 pub record Nested (outer : List OpenBracket) (b : OpenBracket) (new : List OpenBracket) : Type 0 where
-  pub set : Members
+  pub set : Gathered
   pub closed : WasClosed b set
   pub further : List OpenBracket
   pub around : OpenBracket

@@ -2,7 +2,7 @@
 use crate::code_point::CodePoint;
 use crate::error::{ParseError, ParseErrorKind};
 use crate::escape::Codes;
-use crate::gathered::{Gathered, Members};
+use crate::set::Gathered;
 use crate::string::sole_char;
 use crate::token::{Item, Opening};
 use cp_invlist::CodePointRange;
@@ -52,7 +52,6 @@ impl OpenBracket {
     ghost use Rattle.uset_parse.specs.Tree.{Member};
     ghost use Rattle.uset_parse.specs.Fault.{kind_of};
     ghost use Rattle.uset_parse.specs.Gathered.{gathered_in};
-    ghost use Rattle.uset_parse.specs.Reading.{in_members};
     ghost use Rattle.uset_parse.specs.Turn.{nothing, adds, adds_single, adds_each, adds_text, codes_of, finished, turn, turn_minus, turn_ampersand, turn_dollar, turn_single, turn_members, turn_codes, turn_text, Becomes, IsFresh, Takes, TakesSet, Ends, Closes};
 
     /// A bracket behind its opening.
@@ -243,7 +242,7 @@ impl OpenBracket {
     }
 
     /// Takes the set of a bracket inside.
-    pub(crate) fn take_set(mut self, set: Members) -> Result<OpenBracket, ParseError>
+    pub(crate) fn take_set(mut self, set: Gathered) -> Result<OpenBracket, ParseError>
         ensures { TakesSet self set result }
     {
         match self.awaits {
@@ -252,8 +251,8 @@ impl OpenBracket {
                 self.add_single(first)?;
                 self.gathered.add_set(set)?;
             }
-            Awaits::RemoveOrEnd => self.gathered.remove_set(&set)?,
-            Awaits::Keep => self.gathered.retain_set(&set)?,
+            Awaits::RemoveOrEnd => self.gathered.remove_set(set)?,
+            Awaits::Keep => self.gathered.retain_set(set)?,
             Awaits::RangeEnd(_) | Awaits::End | Awaits::AnchorEnd => {
                 return Err(ParseErrorKind::Unimplemented.into());
             }
@@ -263,10 +262,10 @@ impl OpenBracket {
     }
 
     /// Takes `]`. The answer is the bracket's set.
-    pub(crate) fn close(self, alloc: Global) -> Result<Members, ParseError>
+    pub(crate) fn close(self, alloc: Global) -> Result<Gathered, ParseError>
         ensures { Closes self result }
     {
-        self.end()?.finish(alloc)
+        Ok(self.end()?.finish(alloc))
     }
 
     /// Gathers what the end leaves standing for itself.
@@ -297,11 +296,13 @@ impl OpenBracket {
     }
 
     /// The set of what was gathered, or of the other code points where the bracket is negated.
-    fn finish(self, alloc: Global) -> Result<Members, ParseError>
-        ensures members { IfOk result (λ set. (m : Member) → in_members set m ≡ finished self.negated m (gathered_in self.gathered m)) }
-        ensures err { IfErr result (λ e. kind_of e ≡ OutOfMemory) }
+    fn finish(mut self, alloc: Global) -> Gathered
+        ensures { (m : Member) → gathered_in result m ≡ finished self.negated m (gathered_in self.gathered m) }
     {
-        Ok(self.gathered.finish(alloc, self.negated)?)
+        if self.negated {
+            self.gathered.negate(alloc);
+        }
+        self.gathered
     }
 
     fn add_single(&mut self, single: CodePoint) -> Result<(), ParseError>

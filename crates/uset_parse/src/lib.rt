@@ -6,14 +6,12 @@ mod code_point;
 mod cursor;
 mod error;
 mod escape;
-mod gathered;
 pub mod laws;
 mod parse;
-mod ranges;
 mod reader;
+mod set;
 mod stack;
 mod string;
-mod strings;
 mod syntax;
 #[cfg(test)]
 mod tests;

@@ -6,7 +6,7 @@ ghost use Rattle.uset_parse.specs.Reading.{syntax_seen, IsFront, Unread};
 
 use crate::bracket::OpenBracket;
 use crate::error::{ParseError, ParseErrorKind};
-use crate::gathered::Members;
+use crate::set::Members;
 use crate::stack::{Progress, turn};
 use crate::syntax::Syntax;
 use crate::token::{read_header, read_token};
@@ -33,7 +33,7 @@ pub(crate) fn read_set(
         };
         rest = behind;
         if let Progress::Done(set) = turn(alloc, &mut open, bracket, token)? {
-            return Ok((set, source.len() - rest.len()));
+            return Ok((set.into_members()?, source.len() - rest.len()));
         }
     }
     unreachable!()

@@ -4,7 +4,7 @@ ghost use Rattle.uset_parse.specs.Turn.{Turns};
 
 use crate::bracket::OpenBracket;
 use crate::error::ParseError;
-use crate::gathered::Members;
+use crate::set::Gathered;
 use crate::token::{Item, Opening, Token};
 use std::alloc::Global;
 
@@ -14,7 +14,7 @@ pub(crate) enum Progress {
     /// A bracket is still open.
     GoesOn,
     /// The outermost bracket was closed, with this set.
-    Done(Members),
+    Done(Gathered),
 }
 
 /// Gives a token to the innermost bracket, which stands inside the outer ones.

@@ -80,6 +80,8 @@ fn brackets_inside_are_joined_removed_and_kept(rt: HostRuntime) -> Result<(), Fa
         ("[[a]-]", &[0x2D, 0x2E, 0x61, 0x62], 6),
         ("[zba[c]-[z]]", &[0x61, 0x64], 12),
         ("[^zba]", &[0, 0x61, 0x63, 0x7A, 0x7B, 0x11_0000], 6),
+        ("[[b]-[ac-eb][g]]", &[0x67, 0x68], 16),
+        ("[[ac][^abc]&[a-z]-[xyz]]", &[0x61, 0x62, 0x63, 0x78], 24),
     ] {
         let (set, length) = parse_unstable_with_variables(alloc, source, &variables, &database)?;
         assert_eq!(rt; set.code_points().get_inversion_list(), list, "at {source}");

@@ -46,6 +46,6 @@ pub returns-in-Done-clause-read : goal.returns-in-Done-clause-read
 returns-in-Done-clause-read c =
     let syntax = syntax_seen c.args.syntax.now in
     let top = on_top syntax _ _ _ _ c.in-Some-pop.bracket c.loop-bracket.invariant.2 c.in-Some-pop.ensures.items in
-    front syntax _ _ c.in-Some-2.behind.now c.in-Done.set
+    front syntax _ _ c.in-Some-2.behind.now c.in-Done.set _
     (done syntax _ _ _ _ _ _ c.in-Some-2.token c.in-Done.set top (sym (rw c.in-Some-2.is at c.in_ok-token.ensures.parts)) (rw c.in-Done.is at c.in_ok-set.ensures))
-    (search rules) (omega (arith, rw c.in-Some-2.is at c.in_ok-token.ensures.shorter))
+    c.in_ok-into_members.ensures (search rules) (omega (arith, rw c.in-Some-2.is at c.in_ok-token.ensures.shorter))
