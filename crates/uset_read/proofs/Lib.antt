@@ -1,0 +1,6 @@
+pub mod DigitBounds
+pub mod NumbersInBraces
+pub mod EscapeReading
+pub mod Placed
+pub mod EscapeRead
+pub mod PlaceInBytes
