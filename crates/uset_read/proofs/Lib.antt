@@ -4,3 +4,8 @@ pub mod EscapeReading
 pub mod Placed
 pub mod EscapeRead
 pub mod PlaceInBytes
+pub mod StringPushes
+pub mod PiecesRead
+pub mod StringReading
+pub mod StringRead
+pub mod FirstCharacter

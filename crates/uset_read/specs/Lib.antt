@@ -3,3 +3,4 @@ pub mod Spelled
 pub mod Reading
 pub mod UnitRead
 pub mod Cursors
+pub mod Pieces

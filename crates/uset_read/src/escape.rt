@@ -352,7 +352,7 @@ fn plain(c: char) -> char
 
 /// Reads what follows the backslash of an escape that begins there.
 #[tactic(auto, unfolding(uset_grammar::specs::Escape::letter))]
-fn read_letter<'a>(
+pub(crate) fn read_letter<'a>(
     alloc: Global,
     white_space: &CodePointInversionList,
     around: Around,

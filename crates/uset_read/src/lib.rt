@@ -1,6 +1,7 @@
 //! Readers of the units of UnicodeSet patterns (UTS 35, Unicode Sets): text in, units out, with no knowledge of brackets.
 #![tactic(auto)]
 
+mod braced_string;
 mod cursor;
 mod digits;
 mod escape;
@@ -9,6 +10,7 @@ mod stop;
 mod tests;
 mod text;
 
+pub use braced_string::read_string;
 pub use cursor::Cursor;
 pub use escape::{Around, Spelled, read_escape};
 pub use stop::{Kind, Stop};

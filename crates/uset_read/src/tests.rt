@@ -1,4 +1,4 @@
-use crate::{Around, Cursor, Kind, Spelled, Stop, read_escape};
+use crate::{Around, Cursor, Kind, Spelled, Stop, read_escape, read_string};
 use cp_invlist::CodePointInversionList;
 use std::test::Fail;
 
@@ -84,5 +84,38 @@ fn a_cursor_counts_bytes(rt: HostRuntime) -> Result<(), Fail> {
     assert_eq!(rt; cursor.offset(), 0);
     assert_eq!(rt; cursor.rest(), "ä]");
     assert_eq!(rt; cursor.at("]").offset(), 2);
+    Ok(())
+}
+
+#[test]
+fn strings_are_read(rt: HostRuntime) -> Result<(), Fail> {
+    let alloc = rt.alloc();
+    let white_space = CodePointInversionList::try_from_inversion_list(alloc, &SPACES)?;
+    for (text, characters, rest) in [
+        ("{}}]", "", "}]"),
+        ("{ [ a - z } ]", "[a-z", " ]"),
+        ("{h\\u{65}llo\\ world}", "hello world", ""),
+        ("{\\x{61 62  1F600}\\p}x", "ab\u{1F600}p", "x"),
+    ] {
+        let Ok((string, behind)) = read_string(alloc, &white_space, text) else {
+            assert!(rt; false, "at {text}");
+            continue;
+        };
+        assert_eq!(rt; string.as_str(), characters, "at {text}");
+        assert_eq!(rt; behind, rest, "at {text}");
+    }
+    for (text, offset) in [("{\\uD800}", 1), ("{a\\x{61 D800g}", 8), ("{{\\udFFF ]", 2)] {
+        match read_string(alloc, &white_space, text) {
+            Err(Stop::Fault(Kind::InvalidEscape, rest)) => {
+                assert_eq!(rt;
+                    text.len().checked_sub(rest.len()),
+                    Some(offset),
+                    "at {text}"
+                );
+            }
+            _ => assert!(rt; false, "at {text}"),
+        }
+    }
+    assert!(rt; matches!(read_string(alloc, &white_space, "{a"), Err(Stop::Ended)));
     Ok(())
 }

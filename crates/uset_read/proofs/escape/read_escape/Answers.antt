@@ -1,14 +1,10 @@
-use Rattle.std.proofs.Common.{◌≡◌, ℕ, ◌∷◌, sym, ap, ◌∙◌, Result, Ok, Err, IfOk, IfErr, MatchResult}
+use Rattle.std.proofs.Common.{Result, Ok, Err, IfOk, IfErr, MatchResult}
 use Rattle.std.specs.Str.{chars}
 use Rattle.cp_invlist.specs.InversionList.{contains}
-use Rattle.uset_grammar.specs.Text.{Text}
 use Rattle.uset_read.specs.Spelled.{around_seen, spelled_seen, EscapeIs, EscapeStops}
 use Rattle.uset_read.proofs.EscapeRead.{escape_got, escape_stops}
+use Rattle.uset_read.proofs.FirstCharacter.{begins_with}
 use Rattle.uset_read.proofs.escape.read_escape.Goals as goal
-
--- the text is a backslash and what was read behind its first character
-starts : (text behind inner : Text) (first : ℕ) → text ≡ first ∷ behind → text ≡ 0x5C ∷ inner → text ≡ 0x5C ∷ behind
-starts text behind inner first e h = let g : first ∷ behind ≡ 0x5C ∷ inner = sym e ∙ h in let same : first ≡ 0x5C = cc in e ∙ ap (λ z. z ∷ behind) same
 
 -- each half of what is told of an answer
 if_ok : {A E : Type 0} (r : Result A E) (P Q : A → Type 0) (S : E → Type 0) → ((x : A) → P x → Q x) → MatchResult r P S → IfOk r Q
@@ -23,10 +19,10 @@ pub returns-clause-read : goal.returns-clause-read
 returns-clause-read c =
     if_ok c.read_letter.result _ (λ p. EscapeIs c.args.white_space.now c.args.around c.args.text.now p.0 p.1.now) _
     (λ p h apart inner e. escape_got (contains c.args.white_space.now) apart (around_seen c.args.around) (chars c.in_ok-inner.inner.now) (chars c.args.text.now)
-    (spelled_seen p.0) (chars p.1.now) (starts _ _ inner _ c.in_ok-inner.ensures.parts e) h) c.read_letter.ensures.parts
+    (spelled_seen p.0) (chars p.1.now) (begins_with _ _ inner _ _ c.in_ok-inner.ensures.parts e) h) c.read_letter.ensures.parts
 
 pub returns-clause-stopped : goal.returns-clause-stopped
 returns-clause-stopped c =
     if_err c.read_letter.result _ _ (EscapeStops c.args.white_space.now c.args.around c.args.text.now)
     (λ stop h apart inner e. escape_stops (contains c.args.white_space.now) apart (around_seen c.args.around) (chars c.in_ok-inner.inner.now) (chars c.args.text.now)
-    stop (starts _ _ inner _ c.in_ok-inner.ensures.parts e) h) c.read_letter.ensures.parts
+    stop (begins_with _ _ inner _ _ c.in_ok-inner.ensures.parts e) h) c.read_letter.ensures.parts
