@@ -1,0 +1,34 @@
+//! Laws of the grammar, each the contract of a function that does nothing.
+ghost use Rattle.uset_grammar.specs.Laws.{OneAnswer, OneEscape, OneString, OneProperty, OneUnit, ThreeListsTell, CloseFitsBehindBody};
+
+/// Every source has exactly one answer: it is read, with one tree and one rest, or refused, with one
+/// kind and one place. So no source has two readings, two faults, both or neither.
+pub fn one_answer()
+    ensures { OneAnswer }
+{}
+
+/// What begins as an escape is read in one way, fails in one way, or ends inside the escape.
+pub fn one_escape()
+    ensures { OneEscape }
+{}
+
+/// The same of strings.
+pub fn one_string()
+    ensures { OneString }
+{}
+
+/// The same of properties.
+pub fn one_property()
+    ensures { OneProperty }
+{}
+
+/// The same of what begins as any of them in a bracket.
+pub fn one_unit()
+    ensures { OneUnit }
+{}
+
+/// Whether items fit is told by three lists.
+pub fn fits_by_lists()
+    ensures items { ThreeListsTell }
+    ensures close { CloseFitsBehindBody }
+{}

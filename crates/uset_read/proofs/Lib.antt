@@ -1,0 +1,11 @@
+pub mod DigitBounds
+pub mod NumbersInBraces
+pub mod EscapeReading
+pub mod Placed
+pub mod EscapeRead
+pub mod PlaceInBytes
+pub mod StringPushes
+pub mod PiecesRead
+pub mod StringReading
+pub mod StringRead
+pub mod FirstCharacter

@@ -1,0 +1,20 @@
+use Rattle.std.proofs.Common.{◌≡◌, ◌≤◌, length}
+use denote.Text.{Utf8}
+use denote.Shadow.{shadow}
+use Rattle.std.specs.Str.{chars}
+use Rattle.uset_read.specs.Spelled.{around_seen}
+use Rattle.uset_read.specs.Reading.{number_in}
+use Rattle.uset_read.proofs.DigitBounds.{BelowFor}
+use Rattle.uset_read.proofs.escape.read_further_digits.Given as goal
+
+abbrev pub invariant-loop-c : goal.invariant-loop-c
+invariant-loop-c l =
+    shadow (Utf8 l.rest)
+    × (length l.rest ≤ length l.text)
+    × (length (chars l.rest) ≤ length (chars l.text))
+    × BelowFor l.left l.number
+    × (number_in (around_seen l.around) l.later (chars l.begin) 5 l.first (chars l.text)
+    ≡ number_in (around_seen l.around) l.later (chars l.begin) l.left l.number (chars l.rest))
+
+abbrev pub decreases-loop-c : goal.decreases-loop-c
+decreases-loop-c l = length l.rest

@@ -1,0 +1,23 @@
+-- The answers of the code as outcomes, whose places are the rests of the text there.
+use Rattle.std.specs.Prelude.{◌≡◌, Result, MatchResult}
+use Rattle.std.specs.Str.{chars}
+use Rattle.uset_grammar.specs.Outcome.{Outcome, faulty, ended, Kind, unexpected, unimplemented, invalid_escape}
+use Rattle.uset_read.specs.declared.stop.Kind.{Kind as CodeKind}
+use Rattle.uset_read.specs.declared.stop.Kind.TheVariants.{UnexpectedChar, Unimplemented, InvalidEscape}
+use Rattle.uset_read.specs.declared.stop.Stop.{Stop}
+use Rattle.uset_read.specs.declared.stop.Stop.TheVariants.{Fault, Ended, NoMemory}
+
+abbrev pub kind_seen : CodeKind → Kind
+kind_seen (UnexpectedChar c) = unexpected c
+kind_seen Unimplemented = unimplemented
+kind_seen InvalidEscape = invalid_escape
+
+-- the outcome is that it stops so, or memory was refused
+abbrev pub Stops : {V : Type 0} → Outcome V → Stop → Type 0
+Stops o (Fault kind rest) = o ≡ faulty (kind_seen kind) (chars rest.now)
+Stops o Ended = o ≡ ended
+Stops o NoMemory = Unit {0}
+
+-- The answer tells the outcome: what was read is it, or it stops so.
+abbrev pub Tells : {A V : Type 0} → Outcome V → (A → Outcome V) → Result A Stop → Type 0
+Tells o seen result = MatchResult result (λ a. o ≡ seen a) (Stops o)

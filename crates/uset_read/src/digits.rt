@@ -1,0 +1,78 @@
+//! Numbers in hexadecimal digits.
+ghost use Rattle.std.specs.Prelude.{◌<◌, ◌*◌, ◌+◌, ◌^◌, ◌≡◌, length, IfOk};
+ghost use Rattle.std.specs.Str.{chars};
+ghost use Rattle.uset_grammar.specs.Outcome.{got};
+ghost use Rattle.uset_read.specs.Stops.{Tells};
+ghost use Rattle.uset_read.specs.Reading.{digit_in, two_digits_in, four_digits_in, last_digit_in, six_digits_in};
+
+use crate::stop::{Kind, Stop};
+use crate::text::take_first;
+
+/// Reads a hexadecimal digit onto the number.
+#[tactic(auto, unfolding(crate::specs::Reading::digit_in, uset_grammar::specs::Escape::is_hex))]
+pub(crate) fn read_digit(number: u32, text: &str) -> Result<(u32, &str), Stop<'_>>
+    requires { number < 2 ^ 24 }
+    ensures parts { Tells (digit_in number (chars text.now)) (λ p. got p.0 (chars p.1.now)) result }
+    ensures bound { IfOk result (λ p. p.0 < number * 16 + 16) }
+    ensures shorter { IfOk result (λ p. length p.1.now < length text.now) }
+    ensures fewer { IfOk result (λ p. length (chars p.1.now) < length (chars text.now)) }
+{
+    let (first, rest) = take_first(text)?;
+    match first.to_digit(16) {
+        Some(digit) => Ok((number * 16 + digit, rest)),
+        None => Err(Stop::Fault(Kind::UnexpectedChar(first), text)),
+    }
+}
+
+/// Reads two hexadecimal digits onto the number.
+#[tactic(auto, unfolding(crate::specs::Reading::two_digits_in))]
+pub(crate) fn read_two_digits(number: u32, text: &str) -> Result<(u32, &str), Stop<'_>>
+    requires { number < 2 ^ 16 }
+    ensures parts { Tells (two_digits_in number (chars text.now)) (λ p. got p.0 (chars p.1.now)) result }
+    ensures bound { IfOk result (λ p. p.0 < number * 256 + 256) }
+    ensures shorter { IfOk result (λ p. length p.1.now < length text.now) }
+    ensures fewer { IfOk result (λ p. length (chars p.1.now) < length (chars text.now)) }
+{
+    let (number, rest) = read_digit(number, text)?;
+    read_digit(number, rest)
+}
+
+/// Reads four hexadecimal digits onto the number.
+#[tactic(auto, unfolding(crate::specs::Reading::four_digits_in))]
+pub(crate) fn read_four_digits(number: u32, text: &str) -> Result<(u32, &str), Stop<'_>>
+    requires { number < 2 ^ 8 }
+    ensures parts { Tells (four_digits_in number (chars text.now)) (λ p. got p.0 (chars p.1.now)) result }
+    ensures bound { IfOk result (λ p. p.0 < number * 65536 + 65536) }
+    ensures shorter { IfOk result (λ p. length p.1.now < length text.now) }
+    ensures fewer { IfOk result (λ p. length (chars p.1.now) < length (chars text.now)) }
+{
+    let (number, rest) = read_two_digits(number, text)?;
+    read_two_digits(number, rest)
+}
+
+/// Reads the sixth hexadecimal digit of a number.
+#[tactic(auto, unfolding(crate::specs::Reading::last_digit_in, uset_grammar::specs::Escape::is_above))]
+fn read_last_digit(number: u32, text: &str) -> Result<(u32, &str), Stop<'_>>
+    requires { number < 2 ^ 24 }
+    ensures parts { Tells (last_digit_in number (chars text.now)) (λ p. got p.0 (chars p.1.now)) result }
+    ensures shorter { IfOk result (λ p. length p.1.now < length text.now) }
+    ensures fewer { IfOk result (λ p. length (chars p.1.now) < length (chars text.now)) }
+{
+    let (number, rest) = read_digit(number, text)?;
+    if number > 0x10_FFFF {
+        return Err(Stop::Fault(Kind::InvalidEscape, text));
+    }
+    Ok((number, rest))
+}
+
+/// Reads a number of six hexadecimal digits.
+#[tactic(auto, unfolding(crate::specs::Reading::six_digits_in))]
+pub(crate) fn read_six_digits(text: &str) -> Result<(u32, &str), Stop<'_>>
+    ensures parts { Tells (six_digits_in (chars text.now)) (λ p. got p.0 (chars p.1.now)) result }
+    ensures shorter { IfOk result (λ p. length p.1.now < length text.now) }
+    ensures fewer { IfOk result (λ p. length (chars p.1.now) < length (chars text.now)) }
+{
+    let (number, rest) = read_four_digits(0, text)?;
+    let (number, rest) = read_digit(number, rest)?;
+    read_last_digit(number, rest)
+}

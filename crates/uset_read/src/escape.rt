@@ -1,0 +1,388 @@
+//! Escapes.
+ghost use Rattle.std.specs.Prelude.{◌≡◌, ℕ, ◌<◌, ◌≤◌, ◌∷◌, [], false, true, length, IfOk, IfErr};
+ghost use Rattle.std.specs.Str.{chars};
+ghost use Rattle.uset_grammar.specs.Text.{Text};
+ghost use Rattle.uset_grammar.specs.Outcome.{got};
+ghost use Rattle.uset_grammar.specs.Escape.{is_hex, is_surrogate, plain};
+ghost use Rattle.uset_read.specs.Stops.{Tells};
+ghost use Rattle.uset_read.specs.Spelled.{around_seen, spelled_got, next_seen, behind_next, next_at, braced_at, digits_at, letters_at, EscapeIs, EscapeStops};
+ghost use Rattle.uset_read.specs.Reading.{later_in, number_in, first_digit_in, number_at, at_next_in, sole_in, all_in, zero_in, long_escape, two_digits_in, four_digits_in};
+
+use crate::digits::{read_digit, read_four_digits, read_six_digits, read_two_digits};
+use crate::stop::{Kind, Stop};
+use crate::text::{skip_white_space, take_first};
+use cp_invlist::CodePointInversionList;
+use std::alloc::Global;
+
+/// Where an escape stands.
+#[derive(Clone, Copy, Drop)]
+pub enum Around {
+    /// In a string, where no surrogate can stand.
+    String,
+    /// In a bracket, and whether an escape of several numbers fits there.
+    Bracket(bool),
+}
+
+/// What an escape spells.
+#[derive(Drop)]
+pub enum Spelled {
+    /// A character, by itself or by its letter.
+    Itself(char),
+    /// Numbers: the first, and those behind it.
+    Numbers(u32, Vec<u32>),
+}
+
+/// Whether the number is a surrogate.
+#[tactic(auto, unfolding(uset_grammar::specs::Escape::is_surrogate))]
+fn is_surrogate(number: u32) -> bool
+    ensures { result ≡ is_surrogate number }
+{
+    0xD800 <= number && number <= 0xDFFF
+}
+
+/// A number that began there and ends in front of the rest. Behind another one of a string it is no
+/// surrogate.
+fn end_number<'a>(
+    around: Around,
+    later: bool,
+    begin: &'a str,
+    number: u32,
+    rest: &'a str,
+) -> Result<(u32, &'a str), Stop<'a>>
+    ensures parts { Tells (later_in (around_seen around) later (chars begin.now) number (chars rest.now)) (λ p. got p.0 (chars p.1.now)) result }
+    ensures rest { IfOk result (λ p. p.1.now ≡ rest.now) }
+{
+    match around {
+        Around::Bracket(_) => Ok((number, rest)),
+        Around::String => {
+            if later && is_surrogate(number) {
+                return Err(Stop::Fault(Kind::InvalidEscape, begin));
+            }
+            Ok((number, rest))
+        }
+    }
+}
+
+/// Reads at most five digits more of a number that begins there with this digit.
+#[tactic(auto, unfolding(uset_grammar::specs::Escape::is_hex, uset_grammar::specs::Escape::is_above))]
+fn read_further_digits<'a>(
+    around: Around,
+    later: bool,
+    begin: &'a str,
+    first: u32,
+    text: &'a str,
+) -> Result<(u32, &'a str), Stop<'a>>
+    requires { first < 16 }
+    ensures parts { Tells (number_in (around_seen around) later (chars begin.now) 5 first (chars text.now)) (λ p. got p.0 (chars p.1.now)) result }
+    ensures within { IfOk result (λ p. length p.1.now ≤ length text.now) }
+    ensures no_more { IfOk result (λ p. length (chars p.1.now) ≤ length (chars text.now)) }
+{
+    let mut number = first;
+    let mut rest = text;
+    let mut left: u32 = 5;
+    loop {
+        let (c, behind) = take_first(rest)?;
+        let Some(digit) = c.to_digit(16) else {
+            return end_number(around, later, begin, number, rest);
+        };
+        number = number * 16 + digit;
+        if left == 1 {
+            if number > 0x10_FFFF {
+                return Err(Stop::Fault(Kind::InvalidEscape, rest));
+            }
+            return end_number(around, later, begin, number, behind);
+        }
+        left -= 1;
+        rest = behind;
+    }
+}
+
+/// Reads a number of one to six digits, behind another one or not.
+#[tactic(auto, unfolding(crate::specs::Reading::digit_in, uset_grammar::specs::Escape::is_hex))]
+fn read_number(around: Around, later: bool, text: &str) -> Result<(u32, &str), Stop<'_>>
+    ensures parts { Tells (first_digit_in (around_seen around) later (chars text.now)) (λ p. got p.0 (chars p.1.now)) result }
+    ensures shorter { IfOk result (λ p. length p.1.now < length text.now) }
+    ensures fewer { IfOk result (λ p. length (chars p.1.now) < length (chars text.now)) }
+{
+    let (digit, rest) = read_digit(0, text)?;
+    read_further_digits(around, later, text, digit, rest)
+}
+
+/// The only number of an escape that begins there. In a string it is no surrogate.
+fn end_sole<'a>(
+    alloc: Global,
+    around: Around,
+    begin: &'a str,
+    number: u32,
+    rest: &'a str,
+) -> Result<(Spelled, &'a str), Stop<'a>>
+    ensures parts { Tells (sole_in (around_seen around) (chars begin.now) number (chars rest.now)) (λ p. spelled_got p.0 p.1.now) result }
+    ensures rest { IfOk result (λ p. p.1.now ≡ rest.now) }
+{
+    match around {
+        Around::String if is_surrogate(number) => Err(Stop::Fault(Kind::InvalidEscape, begin)),
+        _ => Ok((Spelled::Numbers(number, Vec::new(alloc)), rest)),
+    }
+}
+
+/// The numbers of an escape that begins there, behind its closing brace.
+fn end_numbers<'a>(
+    alloc: Global,
+    around: Around,
+    begin: &'a str,
+    first: u32,
+    more: Vec<u32>,
+    rest: &'a str,
+) -> Result<(Spelled, &'a str), Stop<'a>>
+    ensures parts { Tells (all_in (around_seen around) (chars begin.now) 0x7D (first ∷ more.items) (chars rest.now)) (λ p. spelled_got p.0 p.1.now) result }
+    ensures rest { IfOk result (λ p. p.1.now ≡ rest.now) }
+{
+    if more.is_empty() {
+        return end_sole(alloc, around, begin, first, rest);
+    }
+    Ok((Spelled::Numbers(first, more), rest))
+}
+
+/// Whether the character is a hexadecimal digit.
+#[tactic(auto, unfolding(uset_grammar::specs::Escape::is_hex))]
+fn is_hex(c: char) -> bool
+    ensures { result ≡ is_hex c }
+{
+    c.to_digit(16).is_some()
+}
+
+/// Reads a number behind the numbers of an escape that begins there. Where it is the second, the first
+/// is judged once a digit of it is seen.
+#[tactic(auto, unfolding(uset_grammar::specs::Escape::is_hex))]
+fn read_number_behind<'a>(
+    around: Around,
+    begin: &'a str,
+    first: u32,
+    more: &[u32],
+    text: &'a str,
+) -> Result<(u32, &'a str), Stop<'a>>
+    ensures parts { Tells (number_at (around_seen around) (chars begin.now) (first ∷ more.now) (chars text.now)) (λ p. got p.0 (chars p.1.now)) result }
+    ensures shorter { IfOk result (λ p. length p.1.now < length text.now) }
+    ensures fewer { IfOk result (λ p. length (chars p.1.now) < length (chars text.now)) }
+{
+    let (c, _) = take_first(text)?;
+    if more.is_empty() && is_hex(c) {
+        match around {
+            Around::String => {
+                if is_surrogate(first) {
+                    return Err(Stop::Fault(Kind::InvalidEscape, begin));
+                }
+            }
+            Around::Bracket(several) => {
+                if !several {
+                    return Err(Stop::Fault(Kind::UnexpectedChar('\\'), begin));
+                }
+            }
+        }
+    }
+    read_number(around, true, text)
+}
+
+/// What follows the numbers of an escape in braces.
+#[derive(Drop)]
+enum Next<'a> {
+    /// The closing brace, with the text behind it.
+    Closed(&'a str),
+    /// A further number, with the text behind it.
+    Number(u32, &'a str),
+}
+
+/// Reads the closing brace, or a number behind those.
+fn read_next_at<'a>(
+    around: Around,
+    begin: &'a str,
+    first: u32,
+    more: &[u32],
+    text: &'a str,
+) -> Result<Next<'a>, Stop<'a>>
+    ensures parts { Tells (at_next_in (around_seen around) (chars begin.now) (first ∷ more.now) (chars text.now)) next_seen result }
+    ensures shorter { IfOk result (λ next. length (behind_next next) < length text.now) }
+    ensures fewer { IfOk result (λ next. length (chars (behind_next next)) < length (chars text.now)) }
+{
+    let (c, behind) = take_first(text)?;
+    if c == '}' {
+        return Ok(Next::Closed(behind));
+    }
+    let (number, behind) = read_number_behind(around, begin, first, more, text)?;
+    Ok(Next::Number(number, behind))
+}
+
+/// Reads the closing brace, or white space and what follows it, behind numbers.
+fn read_next<'a>(
+    white_space: &CodePointInversionList,
+    around: Around,
+    begin: &'a str,
+    first: u32,
+    more: &[u32],
+    text: &'a str,
+) -> Result<Next<'a>, Stop<'a>>
+    ensures parts { Tells (next_at white_space.now around begin.now (first ∷ more.now) text.now) next_seen result }
+    ensures shorter { IfOk result (λ next. length (behind_next next) < length text.now) }
+    ensures fewer { IfOk result (λ next. length (chars (behind_next next)) < length (chars text.now)) }
+{
+    let (c, behind) = take_first(text)?;
+    if c == '}' {
+        return Ok(Next::Closed(behind));
+    }
+    if is_hex(c) || !white_space.contains32(c as u32) {
+        return Err(Stop::Fault(Kind::UnexpectedChar(c), text));
+    }
+    read_next_at(
+        around,
+        begin,
+        first,
+        more,
+        skip_white_space(white_space, behind),
+    )
+}
+
+/// Reads the numbers in braces of an escape that begins there, and the closing brace.
+fn read_braced<'a>(
+    alloc: Global,
+    white_space: &CodePointInversionList,
+    around: Around,
+    begin: &'a str,
+    text: &'a str,
+) -> Result<(Spelled, &'a str), Stop<'a>>
+    ensures parts { Tells (braced_at white_space.now around begin.now text.now) (λ p. spelled_got p.0 p.1.now) result }
+    ensures shorter { IfOk result (λ p. length p.1.now < length text.now) }
+    ensures fewer { IfOk result (λ p. length (chars p.1.now) < length (chars text.now)) }
+{
+    let (first, mut rest) = read_number(around, false, skip_white_space(white_space, text))?;
+    let mut more = Vec::new(alloc);
+    loop {
+        match read_next(white_space, around, begin, first, &more, rest)? {
+            Next::Closed(behind) => {
+                return end_numbers(alloc, around, begin, first, more, behind);
+            }
+            Next::Number(number, behind) => {
+                more.push(number)?;
+                rest = behind;
+            }
+        }
+    }
+}
+
+/// Reads what follows the `x` of an escape that begins there.
+fn read_two<'a>(
+    alloc: Global,
+    white_space: &CodePointInversionList,
+    around: Around,
+    begin: &'a str,
+    text: &'a str,
+) -> Result<(Spelled, &'a str), Stop<'a>>
+    ensures parts { Tells (digits_at white_space.now around begin.now two_digits_in text.now) (λ p. spelled_got p.0 p.1.now) result }
+    ensures shorter { IfOk result (λ p. length p.1.now < length text.now) }
+{
+    let (c, inner) = take_first(text)?;
+    if c == '{' {
+        return read_braced(alloc, white_space, around, begin, inner);
+    }
+    let (number, rest) = read_two_digits(0, text)?;
+    end_sole(alloc, around, begin, number, rest)
+}
+
+/// Reads what follows the `u` of an escape that begins there.
+fn read_four<'a>(
+    alloc: Global,
+    white_space: &CodePointInversionList,
+    around: Around,
+    begin: &'a str,
+    text: &'a str,
+) -> Result<(Spelled, &'a str), Stop<'a>>
+    ensures parts { Tells (digits_at white_space.now around begin.now four_digits_in text.now) (λ p. spelled_got p.0 p.1.now) result }
+    ensures shorter { IfOk result (λ p. length p.1.now < length text.now) }
+{
+    let (c, inner) = take_first(text)?;
+    if c == '{' {
+        return read_braced(alloc, white_space, around, begin, inner);
+    }
+    let (number, rest) = read_four_digits(0, text)?;
+    end_sole(alloc, around, begin, number, rest)
+}
+
+/// Reads a zero.
+fn read_zero(text: &str) -> Result<&str, Stop<'_>>
+    ensures parts { Tells (zero_in (chars text.now)) (λ rest. got tt (chars rest.now)) result }
+    ensures shorter { IfOk result (λ rest. length rest.now < length text.now) }
+{
+    let (c, rest) = take_first(text)?;
+    if c == '0' {
+        Ok(rest)
+    } else {
+        Err(Stop::Fault(Kind::UnexpectedChar(c), text))
+    }
+}
+
+/// Reads what follows the `U` of an escape that begins there.
+fn read_six<'a>(
+    alloc: Global,
+    around: Around,
+    begin: &'a str,
+    text: &'a str,
+) -> Result<(Spelled, &'a str), Stop<'a>>
+    ensures parts { Tells (long_escape (around_seen around) (chars begin.now) (chars text.now)) (λ p. spelled_got p.0 p.1.now) result }
+    ensures shorter { IfOk result (λ p. length p.1.now < length text.now) }
+{
+    let (number, rest) = read_six_digits(read_zero(read_zero(text)?)?)?;
+    end_sole(alloc, around, begin, number, rest)
+}
+
+/// What a character behind a backslash stands for.
+#[tactic(auto, unfolding(uset_grammar::specs::Escape::plain))]
+fn plain(c: char) -> char
+    ensures { result ≡ plain c }
+{
+    match c {
+        'a' => '\u{7}',
+        'b' => '\u{8}',
+        't' => '\t',
+        'n' => '\n',
+        'v' => '\u{b}',
+        'f' => '\u{c}',
+        'r' => '\r',
+        _ => c,
+    }
+}
+
+/// Reads what follows the backslash of an escape that begins there.
+#[tactic(auto, unfolding(uset_grammar::specs::Escape::letter))]
+pub(crate) fn read_letter<'a>(
+    alloc: Global,
+    white_space: &CodePointInversionList,
+    around: Around,
+    begin: &'a str,
+    text: &'a str,
+) -> Result<(Spelled, &'a str), Stop<'a>>
+    ensures parts { Tells (letters_at white_space.now around begin.now text.now) (λ p. spelled_got p.0 p.1.now) result }
+    ensures shorter { IfOk result (λ p. length p.1.now < length text.now) }
+{
+    let (c, rest) = take_first(text)?;
+    match c {
+        'x' => read_two(alloc, white_space, around, begin, rest),
+        'u' => read_four(alloc, white_space, around, begin, rest),
+        'U' => read_six(alloc, around, begin, rest),
+        'N' => Err(Stop::Fault(Kind::Unimplemented, text)),
+        _ => Ok((Spelled::Itself(plain(c)), rest)),
+    }
+}
+
+/// Reads the escape at the front of the text, which begins with its backslash.
+pub fn read_escape<'a>(
+    alloc: Global,
+    white_space: &CodePointInversionList,
+    around: Around,
+    text: &'a str,
+) -> Result<(Spelled, &'a str), Stop<'a>>
+    ensures read { IfOk result (λ p. EscapeIs white_space.now around text.now p.0 p.1.now) }
+    ensures stopped { IfErr result (EscapeStops white_space.now around text.now) }
+    ensures shorter { IfOk result (λ p. length p.1.now < length text.now) }
+{
+    let (_, inner) = take_first(text)?;
+    read_letter(alloc, white_space, around, text, inner)
+}

@@ -1,0 +1,16 @@
+//! Readers of the units of UnicodeSet patterns (UTS 35, Unicode Sets): text in, units out, with no knowledge of brackets.
+#![tactic(auto)]
+
+mod braced_string;
+mod cursor;
+mod digits;
+mod escape;
+mod stop;
+#[cfg(test)]
+mod tests;
+mod text;
+
+pub use braced_string::read_string;
+pub use cursor::Cursor;
+pub use escape::{Around, Spelled, read_escape};
+pub use stop::{Kind, Stop};

@@ -1,0 +1,47 @@
+//! Why a unit isn't read.
+use cp_invlist::NoMemory;
+use std::alloc::AllocFailed;
+
+/// What is wrong at a place.
+#[derive(Clone, Copy, Drop)]
+pub enum Kind {
+    /// The character can't stand there.
+    UnexpectedChar(char),
+    /// `\N`, which isn't read.
+    Unimplemented,
+    /// The number is no code point, or a surrogate where characters are due.
+    InvalidEscape,
+}
+
+/// Why a unit isn't read.
+#[derive(Drop)]
+pub enum Stop<'a> {
+    /// It has a fault, at the front of this rest of the text.
+    Fault(Kind, &'a str),
+    /// The text ends inside it.
+    Ended,
+    /// A request for memory was refused.
+    NoMemory,
+}
+
+impl<'a> From<NoMemory> for Stop<'a> {
+    ghost use Rattle.std.specs.Prelude.{◌≡◌};
+    ghost use Rattle.uset_read.specs.declared.stop.Stop.TheVariants.{NoMemory as OutOfMemory};
+
+    ghost from_gives = { λ _ stop. stop ≡ OutOfMemory };
+
+    fn from(_error: NoMemory) -> Stop<'a> {
+        Stop::NoMemory
+    }
+}
+
+impl<'a, T: Drop> From<AllocFailed<T>> for Stop<'a> {
+    ghost use Rattle.std.specs.Prelude.{◌≡◌};
+    ghost use Rattle.uset_read.specs.declared.stop.Stop.TheVariants.{NoMemory as OutOfMemory};
+
+    ghost from_gives = { λ _ stop. stop ≡ OutOfMemory };
+
+    fn from(_error: AllocFailed<T>) -> Stop<'a> {
+        Stop::NoMemory
+    }
+}

@@ -1,0 +1,121 @@
+use crate::{Around, Cursor, Kind, Spelled, Stop, read_escape, read_string};
+use cp_invlist::CodePointInversionList;
+use std::test::Fail;
+
+/// White space of patterns.
+const SPACES: [u32; 10] = [
+    0x9, 0xE, 0x20, 0x21, 0x85, 0x86, 0x200E, 0x2010, 0x2028, 0x202A,
+];
+
+#[test]
+fn escapes_are_read(rt: HostRuntime) -> Result<(), Fail> {
+    let alloc = rt.alloc();
+    let white_space = CodePointInversionList::try_from_inversion_list(alloc, &SPACES)?;
+    for (text, first, count, rest) in [
+        ("\\u0041]", 0x41, 1, "]"),
+        ("\\x{ 61 0062   63 }-", 0x61, 3, "-"),
+        ("\\U0010FFFFx", 0x10_FFFF, 1, "x"),
+        ("\\u{d800}", 0xD800, 1, ""),
+        ("\\n]", 0xA, 0, "]"),
+        ("\\ ]", 0x20, 0, "]"),
+    ] {
+        let Ok((spelled, behind)) = read_escape(alloc, &white_space, Around::Bracket(true), text)
+        else {
+            assert!(rt; false, "at {text}");
+            continue;
+        };
+        assert_eq!(rt; behind, rest, "at {text}");
+        match spelled {
+            Spelled::Itself(c) => {
+                assert_eq!(rt; c as u32, first, "at {text}");
+                assert_eq!(rt; count, 0, "at {text}");
+            }
+            Spelled::Numbers(number, more) => {
+                assert_eq!(rt; number, first, "at {text}");
+                assert_eq!(rt; Some(count), more.len().checked_add(1), "at {text}");
+            }
+        }
+    }
+    Ok(())
+}
+
+#[test]
+fn a_fault_of_an_escape_has_one_place(rt: HostRuntime) -> Result<(), Fail> {
+    let alloc = rt.alloc();
+    let white_space = CodePointInversionList::try_from_inversion_list(alloc, &SPACES)?;
+    for (source, around, kind, offset) in [
+        ("\\xag", Around::Bracket(true), 'g', 3),
+        ("\\x{}", Around::Bracket(true), '}', 3),
+        ("\\x{10ffff0}", Around::Bracket(true), '0', 9),
+        ("\\u{41 42}", Around::Bracket(false), '\\', 0),
+        ("\\x{dabeef}", Around::Bracket(true), 'E', 8),
+        ("\\N{DASH}", Around::Bracket(true), 'U', 1),
+        ("\\uD800", Around::String, 'E', 0),
+        ("\\u{D800 62}", Around::String, 'E', 0),
+        ("\\x{61 D800}", Around::String, 'E', 6),
+    ] {
+        match read_escape(alloc, &white_space, around, source) {
+            Err(Stop::Fault(found, rest)) => {
+                let letter = match found {
+                    Kind::UnexpectedChar(c) => c,
+                    Kind::Unimplemented => 'U',
+                    Kind::InvalidEscape => 'E',
+                };
+                assert_eq!(rt; letter, kind, "at {source}");
+                assert_eq!(rt;
+                    source.len().checked_sub(rest.len()),
+                    Some(offset),
+                    "at {source}"
+                );
+            }
+            _ => assert!(rt; false, "at {source}"),
+        }
+    }
+    for text in ["\\", "\\u", "\\u{", "\\u{6", "\\u{61 ", "\\U00"] {
+        let answer = read_escape(alloc, &white_space, Around::String, text);
+        assert!(rt; matches!(answer, Err(Stop::Ended)), "at {text}");
+    }
+    Ok(())
+}
+
+#[test]
+fn a_cursor_counts_bytes(rt: HostRuntime) -> Result<(), Fail> {
+    let cursor = Cursor::new("ä]");
+    assert_eq!(rt; cursor.offset(), 0);
+    assert_eq!(rt; cursor.rest(), "ä]");
+    assert_eq!(rt; cursor.at("]").offset(), 2);
+    Ok(())
+}
+
+#[test]
+fn strings_are_read(rt: HostRuntime) -> Result<(), Fail> {
+    let alloc = rt.alloc();
+    let white_space = CodePointInversionList::try_from_inversion_list(alloc, &SPACES)?;
+    for (text, characters, rest) in [
+        ("{}}]", "", "}]"),
+        ("{ [ a - z } ]", "[a-z", " ]"),
+        ("{h\\u{65}llo\\ world}", "hello world", ""),
+        ("{\\x{61 62  1F600}\\p}x", "ab\u{1F600}p", "x"),
+    ] {
+        let Ok((string, behind)) = read_string(alloc, &white_space, text) else {
+            assert!(rt; false, "at {text}");
+            continue;
+        };
+        assert_eq!(rt; string.as_str(), characters, "at {text}");
+        assert_eq!(rt; behind, rest, "at {text}");
+    }
+    for (text, offset) in [("{\\uD800}", 1), ("{a\\x{61 D800g}", 8), ("{{\\udFFF ]", 2)] {
+        match read_string(alloc, &white_space, text) {
+            Err(Stop::Fault(Kind::InvalidEscape, rest)) => {
+                assert_eq!(rt;
+                    text.len().checked_sub(rest.len()),
+                    Some(offset),
+                    "at {text}"
+                );
+            }
+            _ => assert!(rt; false, "at {text}"),
+        }
+    }
+    assert!(rt; matches!(read_string(alloc, &white_space, "{a"), Err(Stop::Ended)));
+    Ok(())
+}

@@ -1,0 +1,48 @@
+//! What stands in front of a text.
+ghost use Rattle.std.specs.Prelude.{◌≡◌, ◌<◌, ◌≤◌, ◌∷◌, [], length, IfSome, IfOk, MatchOption, MatchResult};
+ghost use Rattle.std.specs.Str.{chars};
+ghost use Rattle.cp_invlist.specs.InversionList.{contains};
+ghost use Rattle.uset_grammar.specs.Text.{skip};
+ghost use Rattle.uset_read.specs.declared.stop.Stop.TheVariants.{Ended as IsEnded};
+
+use crate::stop::Stop;
+use cp_invlist::CodePointInversionList;
+
+/// The first character, and the text behind it.
+pub(crate) fn split_first(text: &str) -> Option<(char, &str)>
+    ensures parts { MatchOption result (chars text.now ≡ []) (λ p. chars text.now ≡ p.0 ∷ chars p.1.now) }
+    ensures shorter { IfSome result (λ p. length p.1.now < length text.now) }
+    ensures fewer { IfSome result (λ p. length (chars p.1.now) < length (chars text.now)) }
+{
+    let mut characters = text.chars();
+    let first = characters.next()?;
+    Some((first, characters.as_str()))
+}
+
+/// The first character, and the text behind it, where the text hasn't ended.
+pub(crate) fn take_first(text: &str) -> Result<(char, &str), Stop<'_>>
+    ensures parts { MatchResult result (λ p. chars text.now ≡ p.0 ∷ chars p.1.now) (λ stop. (stop ≡ IsEnded) × (chars text.now ≡ [])) }
+    ensures shorter { IfOk result (λ p. length p.1.now < length text.now) }
+    ensures fewer { IfOk result (λ p. length (chars p.1.now) < length (chars text.now)) }
+{
+    match split_first(text) {
+        Some(parts) => Ok(parts),
+        None => Err(Stop::Ended),
+    }
+}
+
+/// The text without the white space in front.
+pub(crate) fn skip_white_space<'a>(white_space: &CodePointInversionList, text: &'a str) -> &'a str
+    ensures skipped { chars result.now ≡ skip (contains white_space.now) (chars text.now) }
+    ensures within { length result.now ≤ length text.now }
+    ensures no_more { length (chars result.now) ≤ length (chars text.now) }
+{
+    let mut rest = text;
+    while let Some((c, behind)) = split_first(rest) {
+        if !white_space.contains32(c as u32) {
+            break;
+        }
+        rest = behind;
+    }
+    rest
+}
