@@ -2,6 +2,7 @@
 ghost use Rattle.std.specs.Prelude.{◌≡◌, ◌∷◌, [], codes, drop, map, take};
 ghost use Rattle.prop_binary.specs.Tables.{numbers_from, property_names};
 
+use crate::case::*;
 use crate::emoji::{BasicEmoji, EmojiSet};
 use crate::posix::{Alnum, Blank, Graph, Print, Xdigit};
 use crate::property::BinaryProperty;

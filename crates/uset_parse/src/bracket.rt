@@ -3,9 +3,9 @@ use crate::code_point::CodePoint;
 use crate::error::{ParseError, ParseErrorKind};
 use crate::escape::Codes;
 use crate::set::Gathered;
-use crate::string::sole_char;
 use crate::token::{Item, Opening};
 use cp_invlist::CodePointRange;
+use cp_strset::sole_char;
 use std::alloc::Global;
 
 /// The range of the hyphen alone.

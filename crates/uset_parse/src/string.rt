@@ -16,17 +16,6 @@ use crate::syntax::Syntax;
 use cp_invlist::NoMemory;
 use std::alloc::Global;
 
-/// The character of a text that has exactly one.
-pub(crate) fn sole_char(text: &str) -> Option<char>
-    ensures { result ≡ sole_of (chars text.now) }
-{
-    let (first, rest) = split_first(text)?;
-    match split_first(rest) {
-        Some(_) => None,
-        None => Some(first),
-    }
-}
-
 /// Reads a string and its closing brace. `None` where none is read there.
 #[tactic(auto, unfolding(crate::specs::Strings::braced_text))]
 pub(crate) fn read_text<'a>(

@@ -9,9 +9,13 @@ use std::alloc::Global;
 use uset_tool::{Status, SureSink, SureSource, run};
 
 #[cfg(test)]
+mod devices;
+#[cfg(test)]
 mod errors;
 #[cfg(test)]
-mod first_path;
+mod fixtures;
+#[cfg(test)]
+mod patterns;
 #[cfg(test)]
 mod refusals;
 

@@ -1,23 +1,16 @@
 //! Inputs that are refused, and patterns with a fault.
-use crate::first_path::{SYNTAX, eval};
+use crate::fixtures::{SYNTAX, assert_answers, eval};
 use crate::run_in_memory;
 use std::test::Fail;
 
 #[test]
 fn lines_with_a_fault_are_answered_with_it(rt: HostRuntime) -> Result<(), Fail> {
-    let alloc = rt.alloc();
-    let words = eval(alloc)?;
-    for (line, expected) in [
+    let rows = [
         ("pat [a&b]", "err error: unimplemented\n"),
         ("pat [z-a]", "err error: unimplemented\n"),
         ("hello", "err bad line\n"),
-    ] {
-        let input = format!(in alloc; "{SYNTAX}{line}\n")?;
-        let (status, sink) = run_in_memory(alloc, &words, input.into_bytes());
-        assert_eq!(rt; sink.written(), expected.as_bytes(), "at {line}");
-        assert_eq!(rt; status.code(), 1, "at {line}");
-    }
-    Ok(())
+    ];
+    assert_answers(&rt, rt.alloc(), &rows, 1)
 }
 
 #[test]

@@ -1,5 +1,5 @@
 //! Sinks of bytes.
-ghost use Rattle.std.specs.Prelude.{◌≡◌, ℕ, ◌+◌, ◌<◌, ◌≤◌, ◌++◌, List, [], Option, Some, None, length, IfOk, Err};
+ghost use Rattle.std.specs.Prelude.{◌≡◌, ℕ, ◌+◌, ◌<◌, ◌≤◌, ◌++◌, List, [], Option, Some, None, length, IfOk, IfErr, Err};
 ghost use Rattle.uset_tool.specs.Device.{WritesFront, WritesText, Rose};
 
 use cp_invlist::NoMemory;
@@ -103,8 +103,10 @@ pub struct StdSink<W: Write + Drop> {
 }
 
 impl<W: Write + Drop> StdSink<W> {
-    /// A sink over the writer.
-    pub fn new(writer: W) -> StdSink<W> {
+    /// A sink over the writer, with no fault counted.
+    pub fn new(writer: W) -> StdSink<W>
+        ensures { ⟦<StdSink<W> as Sink>⟧.faults result ≡ 0 }
+    {
         StdSink { writer, faults: 0 }
     }
 
@@ -123,7 +125,14 @@ impl<W: Write + Drop> Sink for StdSink<W> {
 
     ghost faults = { λ s. s.faults };
 
-    fn write(&mut self, buf: &[u8]) -> Result<usize, WriteError> {
+    /// Appends the front of the piece, and takes no memory.
+    fn write(&mut self, buf: &[u8]) -> Result<usize, WriteError>
+        ensures within { IfOk result (λ n. (0 < n) × (n ≤ length buf.now)) }
+        ensures bytes { WritesFront None None result buf.now }
+        ensures failed { IfErr result (λ error. error ≡ WriteError.Failed) }
+        ensures rose { IfErr result (λ _. Rose (⟦<StdSink<W> as Sink>⟧.faults self.old) (⟦<StdSink<W> as Sink>⟧.faults self.new)) }
+        ensures counted { ⟦<StdSink<W> as Sink>⟧.faults self.old ≤ ⟦<StdSink<W> as Sink>⟧.faults self.new }
+    {
         match self.writer.write(buf) {
             Ok(0) | Err(_) => self.fail(),
             Ok(count) => Ok(count),
