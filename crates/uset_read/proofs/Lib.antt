@@ -9,3 +9,4 @@ pub mod PiecesRead
 pub mod StringReading
 pub mod StringRead
 pub mod FirstCharacter
+pub mod NameParts

@@ -4,3 +4,4 @@ pub mod Reading
 pub mod UnitRead
 pub mod Cursors
 pub mod Pieces
+pub mod Names

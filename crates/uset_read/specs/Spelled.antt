@@ -5,7 +5,7 @@ use Prim.Native.Char.{code}
 use Rattle.cp_invlist.specs.InversionList.{contains}
 use Rattle.uset_grammar.specs.Text.{Text}
 use Rattle.uset_grammar.specs.Outcome.{Outcome, got}
-use Rattle.uset_grammar.specs.Escape.{Apart, Spelled, itself, numbers}
+use Rattle.uset_grammar.specs.Escape.{Apart, Spelled, itself, numbers, codes_of}
 use Rattle.uset_grammar.specs.EscapeSlips.{Around, in_string, in_bracket, EscapeOutcome}
 use Rattle.uset_read.specs.declared.stop.Stop.{Stop}
 use Rattle.uset_read.specs.UnitRead.{StopsAt}
@@ -24,6 +24,10 @@ around_seen (Bracket several) = in_bracket several
 abbrev pub spelled_seen : CodeSpelled → Spelled
 spelled_seen (Itself c) = itself c
 spelled_seen (Numbers first more) = numbers (first ∷ more.items)
+
+-- the code points that it spells
+abbrev pub spelled_codes : CodeSpelled → List ℕ
+spelled_codes spelled = codes_of (spelled_seen spelled)
 
 -- what follows the numbers of an escape in braces: none, or a further number
 abbrev pub next_seen : Next → Outcome (Option ℕ)

@@ -4,9 +4,8 @@ ghost use Rattle.std.specs.List.{list_all};
 ghost use Rattle.std.specs.Str.{chars};
 ghost use Rattle.std.specs.String.{string_bytes};
 ghost use Rattle.cp_invlist.specs.InversionList.{contains};
-ghost use Rattle.uset_grammar.specs.Escape.{codes_of};
 ghost use Rattle.uset_grammar.specs.EscapeSlips.{in_string, allowed};
-ghost use Rattle.uset_read.specs.Spelled.{spelled_seen};
+ghost use Rattle.uset_read.specs.Spelled.{spelled_codes, spelled_seen};
 ghost use Rattle.uset_read.specs.Stops.{Tells};
 ghost use Rattle.uset_read.specs.Pieces.{Appended, is_character, piece_in, piece_seen, behind_piece, PiecesAre, PiecesStop, StringIs, StringStops};
 
@@ -84,7 +83,7 @@ fn push_numbers(string: &mut String, first: u32, more: &[u32]) -> Result<bool, N
 /// Appends what an escape or a character spells. The answer is false where a number is no character's.
 fn push_spelled(string: &mut String, spelled: &Spelled) -> Result<bool, NoMemory>
     ensures characters { IfOk result (λ pushed. pushed ≡ allowed in_string (spelled_seen spelled.now)) }
-    ensures appended { IfOk result (λ pushed. pushed ≡ true → Appended (string_bytes string.old) (string_bytes string.new) (codes_of (spelled_seen spelled.now))) }
+    ensures appended { IfOk result (λ pushed. pushed ≡ true → Appended (string_bytes string.old) (string_bytes string.new) (spelled_codes spelled.now)) }
 {
     match spelled {
         Spelled::Itself(c) => {

@@ -5,6 +5,7 @@ mod braced_string;
 mod cursor;
 mod digits;
 mod escape;
+mod name;
 mod stop;
 #[cfg(test)]
 mod tests;
@@ -13,4 +14,5 @@ mod text;
 pub use braced_string::read_string;
 pub use cursor::Cursor;
 pub use escape::{Around, Spelled, read_escape};
+pub use name::read_name;
 pub use stop::{Kind, Stop};

@@ -1,4 +1,4 @@
-use crate::{Around, Cursor, Kind, Spelled, Stop, read_escape, read_string};
+use crate::{Around, Cursor, Kind, Spelled, Stop, read_escape, read_name, read_string};
 use cp_invlist::CodePointInversionList;
 use std::test::Fail;
 
@@ -117,5 +117,26 @@ fn strings_are_read(rt: HostRuntime) -> Result<(), Fail> {
         }
     }
     assert!(rt; matches!(read_string(alloc, &white_space, "{a"), Err(Stop::Ended)));
+    Ok(())
+}
+
+#[test]
+fn the_longest_name_is_read(rt: HostRuntime) -> Result<(), Fail> {
+    let alloc = rt.alloc();
+    let letters = CodePointInversionList::try_from_inversion_list(
+        alloc,
+        &[0x61, 0x7B, 0xE4, 0xE5],
+    )?;
+    let continuing = CodePointInversionList::try_from_inversion_list(
+        alloc,
+        &[0x30, 0x3A, 0x61, 0x7B, 0xE4, 0xE5],
+    )?;
+    assert_eq!(rt;
+        read_name(&letters, &continuing, "ab1-x"),
+        Some(("ab1", "-x"))
+    );
+    assert_eq!(rt; read_name(&letters, &continuing, "äö"), Some(("ä", "ö")));
+    assert_eq!(rt; read_name(&letters, &continuing, "1a"), None);
+    assert_eq!(rt; read_name(&letters, &continuing, ""), None);
     Ok(())
 }
