@@ -11,31 +11,10 @@ use Rattle.uset_parse.specs.declared.set.run.Run.{Run}
 use Rattle.uset_parse.specs.Painting.{in_run, covered, painted, painted_alike, behind, behind_all}
 use Rattle.uset_parse.proofs.PaintingLemmas.{painted_more}
 
-over_step : (lower_added lower_removed upper_added upper_removed b : Bool) →
-    (((lower_added && not upper_removed) || upper_added) || (b && not (lower_removed || upper_removed)))
-    ≡ (upper_added || ((lower_added || (b && not lower_removed)) && not upper_removed))
-over_step true true false true true = refl
-over_step true false false true true = refl
-over_step true lr false true false = refl
-over_step true lr true true b = refl
-over_step true lr true false b = refl
-over_step true lr false false b = refl
-over_step false lr true ur b = refl
-over_step false lr false ur false = refl
-over_step false true false ur true = refl
-over_step false false false ur true = refl
-
 -- one more layer
 pub behind_all_more : (ls : List Layer) (l : Layer) (c : ℕ) (b : Bool) → behind_all (ls ++ l ∷ []) c b ≡ behind l c (behind_all ls c b)
 behind_all_more [] l c b = refl
 behind_all_more (k ∷ ls) l c b = behind_all_more ls l c (behind k c b)
-
--- the sets of a layer over another
-pub over_behind : (lower upper both : Layer) (c : ℕ) (b : Bool) → contains both.added c ≡ ((contains lower.added c && not (contains upper.removed c)) || contains upper.added c) →
-    contains both.removed c ≡ (contains lower.removed c || contains upper.removed c) → behind both c b ≡ behind upper c (behind lower c b)
-over_behind lower upper both c b added removed =
-    (λ i. added i || (b && not (removed i)))
-    ∙ over_step (contains lower.added c) (contains lower.removed c) (contains upper.added c) (contains upper.removed c) b
 
 -- the uppermost layer
 pub on_top : (layers rest : List Layer) (l : Layer) → layers ≡ rest ++ l ∷ [] → (c : ℕ) (b : Bool) → behind_all layers c b ≡ behind l c (behind_all rest c b)
