@@ -77,3 +77,16 @@ fn a_million_brackets_inside_one_another_are_read(rt: HostRuntime) -> Result<(),
     assert_eq!(rt; status.code(), 0);
     Ok(())
 }
+
+#[test]
+fn answers_of_more_than_a_piece_are_written_in_order(rt: HostRuntime) -> Result<(), Fail> {
+    let alloc = rt.alloc();
+    let words = eval(alloc)?;
+    let lines = "pat [a-z0]\npat [b]\n".repeat(alloc, 5_000)?;
+    let answers = "ok 6 0030 0061-007A\nok 3 0062\n".repeat(alloc, 5_000)?;
+    let input = format!(in alloc; "{SYNTAX}{lines}")?;
+    let (status, sink) = run_in_memory(alloc, &words, input.into_bytes());
+    assert!(rt; sink.written() == answers.as_bytes());
+    assert_eq!(rt; status.code(), 0);
+    Ok(())
+}

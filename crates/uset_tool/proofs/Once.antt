@@ -1,17 +1,16 @@
 -- Each line has one answer.
-use Rattle.std.proofs.Common.{◌≡◌, ℕ, ◌+◌, ◌<◌, ◌≤◌, Bool, true, false, ◌||◌, List, [], ◌∷◌, ◌++◌, length, encode_utf8_all, refl, sym, ap, ◌∙◌, subst, inl, inr, append_assoc, append-nil, length-append, Option, None, Some, IfSome, Err, arith}
-use Rattle.std.proofs.lemmas.Bool.{cases_order, true≢false}
+use Rattle.std.proofs.Common.{◌≡◌, ℕ, Bool, true, false, ◌||◌, List, [], ◌∷◌, ◌++◌, length, encode_utf8_all, refl, sym, ap, ◌∙◌, subst, append_assoc, append-nil, length-append, Option, None, Some, IfSome, Err, arith}
 use Rattle.std.specs.Str.{chars}
 use Rattle.cp_invlist.specs.declared.ranges.CodePointRange.{CodePointRange}
-use Rattle.cp_invlist.specs.Ranges.{AreRangesFrom, AreMaximalRanges}
+use Rattle.cp_invlist.specs.Ranges.{AreMaximalRanges}
 use Rattle.cp_strset.specs.StringList.{holds, AreCanonical}
 use Rattle.prop_data.specs.Tables.{Tables}
 use Rattle.uset_parse.specs.Laws.{OneReading, NoFaultOfReading, OneFault}
 use Rattle.uset_parse.specs.Tree.{point, string, has}
 use Rattle.uset_tool.specs.declared.sink.WriteError.{WriteError}
 use Rattle.uset_tool.specs.declared.sink.WriteError.TheVariants.{Failed, NoMemory}
-use Rattle.uset_tool.specs.Answered.{StopsWithin, AnswersScript}
-use Rattle.uset_tool.specs.Device.{Appends, IsProperFront}
+use Rattle.uset_tool.specs.Answered.{StopsWithin, StopsGathering, Gathers, AnswersScript}
+use Rattle.uset_tool.specs.Device.{Appends, IsProperFront, IsFront}
 use Rattle.uset_tool.specs.Script.{ScriptLine, silent, pattern, bad, script_line}
 use Rattle.uset_tool.specs.Answer.{PatternAnswer, read, fault, read_text, fault_text, LineAnswer, ScriptAnswer, ends, answers}
 
@@ -85,47 +84,122 @@ goes_on laws tables all lines rest line text first errs err at parts h = record 
       (left, left_errs, left_is, whole_is ∙ (ap (λ t. text ++ t) left_parts ∙ sym (append_assoc text first left)));
 }
 
--- what the sink was told so far, and the front of an answer behind it
-Front-behind : (before so_far now first more text : List ℕ) → text ≡ so_far ++ (first ++ more) → IsProperFront (before ++ so_far) now first → IsProperFront before now text
-Front-behind before so_far now first more text parts h = record {
-  front = so_far ++ h.front;
+-- the answers to the first lines: what of them was written, and what is pending
+pub record Holds (tables : Tables) (all rest : List (List ℕ)) (errs : Bool) (pending : List ℕ) (old now : Option (List ℕ)) : Type 0 where
+  pub text : List ℕ
+  pub written : List ℕ
+  pub answered : SoFar tables all rest text errs
+  pub parts : text ≡ written ++ pending
+  pub appended : Appends old now written
+
+pub holds_none : (tables : Tables) (all : List (List ℕ)) (old : Option (List ℕ)) → Holds tables all all false [] old old
+holds_none tables all None = record { text = []; written = []; answered = begins tables all; parts = refl; appended = tt }
+holds_none tables all (Some before) = record { text = []; written = []; answered = begins tables all; parts = refl; appended = ap Some (sym (append-nil before)) }
+
+Appends-more : (old middle new : Option (List ℕ)) (first second : List ℕ) → Appends old middle first → Appends middle new second → Appends old new (first ++ second)
+Appends-more None middle new first second a b = tt
+Appends-more (Some before) middle new first second a b = (rw a at b) ∙ ap Some (append_assoc before first second)
+
+-- one more line is answered, and gathered with what is pending
+pub holds_more : Laws → (tables : Tables) (all lines rest : List (List ℕ)) (line first pending after : List ℕ) (errs err : Bool) (old middle new : Option (List ℕ)) →
+    Holds tables all lines errs pending old middle → lines ≡ line ∷ rest → LineAnswer tables (script_line line) first err → Gathers middle new pending first after →
+    Holds tables all rest (errs || err) after old new
+holds_more laws tables all lines rest line first pending after errs err old middle new held parts h gathered = record {
+  text = held.text ++ first;
+  written = held.written ++ gathered.written;
+  answered = goes_on laws tables all lines rest line held.text first errs err held.answered parts h;
+  parts =
+      ap (λ t. t ++ first) held.parts
+      ∙ (append_assoc held.written pending first ∙ (ap (λ t. held.written ++ t) gathered.parts ∙ sym (append_assoc held.written gathered.written after)));
+  appended = Appends-more old middle new held.written gathered.written held.appended gathered.appended;
+}
+
+-- what was written before, and a front of what was to be written then, are a front of the whole
+Front-behind : (before written now first more text : List ℕ) → text ≡ written ++ (first ++ more) → IsProperFront (before ++ written) now first → IsProperFront before now text
+Front-behind before written now first more text parts h = record {
+  front = written ++ h.front;
   rest = h.rest ++ more;
   parts =
-      parts ∙ (ap (λ t. so_far ++ (t ++ more)) h.parts ∙ (ap (λ t. so_far ++ t) (append_assoc h.front h.rest more) ∙ sym (append_assoc so_far h.front (h.rest ++ more))));
+      parts ∙ (ap (λ t. written ++ (t ++ more)) h.parts ∙ (ap (λ t. written ++ t) (append_assoc h.front h.rest more) ∙ sym (append_assoc written h.front (h.rest ++ more))));
   proper = omega (arith, length-append h.rest more, h.proper);
-  appended = h.appended ∙ append_assoc before so_far h.front;
+  appended = h.appended ∙ append_assoc before written h.front;
 }
+
+Front-within : (before written now first more text : List ℕ) → text ≡ written ++ (first ++ more) → IsFront (before ++ written) now first → IsFront before now text
+Front-within before written now first more text parts h = record {
+  front = written ++ h.front;
+  rest = h.rest ++ more;
+  parts =
+      parts ∙ (ap (λ t. written ++ (t ++ more)) h.parts ∙ (ap (λ t. written ++ t) (append_assoc h.front h.rest more) ∙ sym (append_assoc written h.front (h.rest ++ more))));
+  appended = h.appended ∙ append_assoc before written h.front;
+}
+
+stops_behind : (e : WriteError) (before written now first more text : List ℕ) → text ≡ written ++ (first ++ more) → StopsWithin e (before ++ written) now first → StopsWithin e before now text
+stops_behind Failed before written now first more text parts h = Front-behind before written now first more text parts h
+stops_behind NoMemory before written now first more text parts h = Front-within before written now first more text parts h
 
 proper_is_front : (e : WriteError) (before now text : List ℕ) → IsProperFront before now text → StopsWithin e before now text
 proper_is_front Failed before now text h = h
 proper_is_front NoMemory before now text h = record { front = h.front; rest = h.rest; parts = h.parts; appended = h.appended }
 
--- the write of an answer stopped
-pub write_stops : Laws → (tables : Tables) (all lines rest : List (List ℕ)) (line so_far first : List ℕ) (errs err : Bool) (old middle new : Option (List ℕ)) (e : WriteError) →
-    SoFar tables all lines so_far errs → lines ≡ line ∷ rest → LineAnswer tables (script_line line) first err → Appends old middle so_far →
-    IfSome middle (λ told. (now : List ℕ) × (new ≡ Some now) × IsProperFront told now first) → AnswersScript tables all old new (Err e)
-write_stops laws tables all lines rest line so_far first errs err None middle new e at parts h appended stopped = tt
-write_stops laws tables all lines rest line so_far first errs err (Some before) middle new e at parts h appended stopped =
-    let (now, new_is, front) = rw appended at stopped in (
+-- the writing of what is pending, and of an answer behind it, stopped
+pub gathering_stops : Laws → (tables : Tables) (all lines rest : List (List ℕ)) (line first pending : List ℕ) (errs err : Bool) (old middle new : Option (List ℕ)) (e : WriteError) →
+    Holds tables all lines errs pending old middle → lines ≡ line ∷ rest → LineAnswer tables (script_line line) first err →
+    StopsGathering middle new (pending ++ first) e → AnswersScript tables all old new (Err e)
+gathering_stops laws tables all lines rest line first pending errs err None middle new e held parts h stopped = tt
+gathering_stops laws tables all lines rest line first pending errs err (Some before) middle new e held parts h stopped =
+    let (now, new_is, front) = rw held.appended at stopped in (
       now,
       new_is,
       λ text es k.
-          let (more, more_errs, more_is, text_is) = at.splits text es k in
+          let (more, more_errs, more_is, text_is) = held.answered.splits text es k in
           let (left, left_errs, left_is, left_parts) = line_parts laws tables line rest first more err more_errs h (subst (λ ls. ScriptAnswer tables ls more more_errs) parts more_is) in
-          proper_is_front e before now text (Front-behind before so_far now first left text (text_is ∙ ap (λ t. so_far ++ t) left_parts) front),
+          let whole : text ≡ held.written ++ ((pending ++ first) ++ left) =
+          text_is
+          ∙ (ap (λ t. t ++ more) held.parts
+          ∙ (append_assoc held.written pending more
+          ∙ ap (λ t. held.written ++ t) (ap (λ t. pending ++ t) left_parts ∙ sym (append_assoc pending first left)))) in
+          stops_behind e before held.written now (pending ++ first) left text whole front,
     )
 
--- one more answer was written
-pub write_goes_on : (old middle new : Option (List ℕ)) (so_far first : List ℕ) → Appends old middle so_far → Appends middle new first → Appends old new (so_far ++ first)
-write_goes_on None middle new so_far first a b = tt
-write_goes_on (Some before) middle new so_far first a b = (rw a at b) ∙ ap Some (append_assoc before so_far first)
-
--- all lines are answered
-pub all_answered : (tables : Tables) (all : List (List ℕ)) (so_far : List ℕ) (errs : Bool) (old new : Option (List ℕ)) → SoFar tables all [] so_far errs → Appends old new so_far →
-    IfSome old (λ before. (text : List ℕ) × ScriptAnswer tables all text errs × (new ≡ Some (before ++ text)))
-all_answered tables all so_far errs None new at appended = tt
-all_answered tables all so_far errs (Some before) new at appended = (
-  so_far,
-  subst (λ t. ScriptAnswer tables all t errs) (append-nil so_far) (subst (λ b. ScriptAnswer tables all (so_far ++ []) b) (or-false errs) (at.joins [] false ends)),
-  appended,
+-- memory was refused before a line was answered
+pub answering_stops : (tables : Tables) (all lines : List (List ℕ)) (pending : List ℕ) (errs : Bool) (old middle : Option (List ℕ)) →
+    Holds tables all lines errs pending old middle → AnswersScript tables all old middle (Err NoMemory)
+answering_stops tables all lines pending errs None middle held = tt
+answering_stops tables all lines pending errs (Some before) middle held = (
+  before ++ held.written,
+  held.appended,
+  λ text es k.
+      let (more, more_errs, more_is, text_is) = held.answered.splits text es k in
+      record {
+        front = held.written;
+        rest = pending ++ more;
+        parts = text_is ∙ (ap (λ t. t ++ more) held.parts ∙ append_assoc held.written pending more);
+        appended = refl;
+      },
 )
+
+-- the writing of the last of the answers stopped
+pub last_stops : (tables : Tables) (all : List (List ℕ)) (pending : List ℕ) (errs : Bool) (old middle new : Option (List ℕ)) (e : WriteError) →
+    Holds tables all [] errs pending old middle → IfSome middle (λ told. (now : List ℕ) × (new ≡ Some now) × IsProperFront told now pending) → AnswersScript tables all old new (Err e)
+last_stops tables all pending errs None middle new e held stopped = tt
+last_stops tables all pending errs (Some before) middle new e held stopped =
+    let (now, new_is, front) = rw held.appended at stopped in (
+      now,
+      new_is,
+      λ text es k.
+          let (more, more_errs, more_is, text_is) = held.answered.splits text es k in
+          let whole : text ≡ held.written ++ (pending ++ more) = text_is ∙ (ap (λ t. t ++ more) held.parts ∙ append_assoc held.written pending more) in
+          proper_is_front e before now text (Front-behind before held.written now pending more text whole front),
+    )
+
+-- all lines are answered, and the last of the answers was written
+pub all_answered : (tables : Tables) (all : List (List ℕ)) (pending : List ℕ) (errs : Bool) (old middle new : Option (List ℕ)) → Holds tables all [] errs pending old middle → Appends middle new pending →
+    IfSome old (λ before. (text : List ℕ) × ScriptAnswer tables all text errs × (new ≡ Some (before ++ text)))
+all_answered tables all pending errs None middle new held written = tt
+all_answered tables all pending errs (Some before) middle new held written =
+    let text = held.text in (
+      text,
+      subst (λ t. ScriptAnswer tables all t errs) (append-nil text) (subst (λ b. ScriptAnswer tables all (text ++ []) b) (or-false errs) (held.answered.joins [] false ends)),
+      Appends-more (Some before) middle new held.written pending held.appended written ∙ ap (λ t. Some (before ++ t)) (sym held.parts),
+    )

@@ -4,7 +4,7 @@ use Rattle.prop_data.specs.Tables.{Tables}
 use Rattle.uset_tool.specs.declared.sink.WriteError.{WriteError}
 use Rattle.uset_tool.specs.declared.sink.WriteError.TheVariants.{Failed, NoMemory}
 use Rattle.uset_tool.specs.Answer.{ScriptAnswer}
-use Rattle.uset_tool.specs.Device.{IsProperFront, IsFront}
+use Rattle.uset_tool.specs.Device.{Appends, IsProperFront, IsFront}
 
 -- where the sink failed, not all of the answer was appended, and where memory was refused, a front of it
 abbrev pub StopsWithin : WriteError → List ℕ → List ℕ → List ℕ → Type 0
@@ -17,3 +17,13 @@ AnswersScript tables lines old new (Ok errs) =
     IfSome old (λ before. (text : List ℕ) × ScriptAnswer tables lines text errs × (new ≡ Some (before ++ text)))
 AnswersScript tables lines old new (Err e) = IfSome old (λ before. (now : List ℕ) × (new ≡ Some now)
     × ((text : List ℕ) (errs : Bool) → ScriptAnswer tables lines text errs → StopsWithin e before now text))
+
+-- Of what was pending and a text behind it a front was appended, and the rest is pending now.
+pub record Gathers (old new : Option (List ℕ)) (before text after : List ℕ) : Type 0 where
+  pub written : List ℕ
+  pub parts : before ++ text ≡ written ++ after
+  pub appended : Appends old new written
+
+-- how much of a text was appended before it stopped
+abbrev pub StopsGathering : Option (List ℕ) → Option (List ℕ) → List ℕ → WriteError → Type 0
+StopsGathering old new text e = IfSome old (λ before. (now : List ℕ) × (new ≡ Some now) × StopsWithin e before now text)

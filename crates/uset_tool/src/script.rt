@@ -6,7 +6,7 @@ ghost use Rattle.uset_tool.specs.Answered.{AnswersScript};
 ghost use Rattle.uset_tool.specs.Device.{Rose};
 
 use crate::answer::answer_line;
-use crate::sink::{Sink, WriteError, write_all};
+use crate::sink::{Sink, WriteError, gather, write_all};
 use cp_invlist::laws::one_list_of_ranges;
 use cp_strset::laws::one_list;
 use prop_data::PropertyDatabase;
@@ -14,8 +14,8 @@ use std::alloc::Global;
 use text_lines::split_line;
 use uset_parse::laws::{no_fault_of_a_reading, one_fault, one_reading};
 
-/// Answers the lines of a script one by one: each answer is written before the next line is looked
-/// at. Tells whether an `err` line is among the answers.
+/// Answers the lines of a script one by one. The answers are gathered into pieces, which are written as
+/// they are full. Tells whether an `err` line is among the answers.
 pub(crate) fn answer_script<K: Sink>(
     alloc: Global,
     script: &str,
@@ -34,11 +34,13 @@ pub(crate) fn answer_script<K: Sink>(
     one_list();
     let mut rest = script;
     let mut has_err = false;
+    let mut pending = Vec::new(alloc);
     while let Some((line, behind)) = split_line(rest) {
         let answer = answer_line(alloc, line, database)?;
-        write_all(sink, answer.text.as_bytes())?;
+        gather(sink, &mut pending, answer.text.as_bytes())?;
         has_err |= answer.is_err;
         rest = behind;
     }
+    write_all(sink, &pending)?;
     Ok(has_err)
 }

@@ -1,9 +1,10 @@
 //! Sinks of bytes.
-ghost use Rattle.std.specs.Prelude.{◌≡◌, ℕ, ◌+◌, ◌<◌, ◌≤◌, ◌++◌, List, [], Option, Some, None, length, IfOk, IfErr, Err};
+ghost use Rattle.std.specs.Prelude.{◌≡◌, ℕ, ◌+◌, ◌<◌, ◌≤◌, ◌++◌, List, [], Option, Some, None, length, IfOk, IfErr, OnOk, Err};
+ghost use Rattle.uset_tool.specs.Answered.{Gathers, StopsGathering};
 ghost use Rattle.uset_tool.specs.Device.{WritesFront, WritesText, Rose};
 
 use cp_invlist::NoMemory;
-use std::alloc::Global;
+use std::alloc::{AllocError, Global};
 use std::io::Write;
 use std::marker::Model;
 use thiserror::Error;
@@ -26,6 +27,17 @@ impl From<NoMemory> for WriteError {
     ghost from_gives = { λ _ error. error ≡ OutOfMemory };
 
     fn from(_error: NoMemory) -> WriteError {
+        WriteError::NoMemory
+    }
+}
+
+impl From<AllocError> for WriteError {
+    ghost use Rattle.std.specs.Prelude.{◌≡◌};
+    ghost use Rattle.uset_tool.specs.declared.sink.WriteError.TheVariants.{NoMemory as OutOfMemory};
+
+    ghost from_gives = { λ _ error. error ≡ OutOfMemory };
+
+    fn from(_error: AllocError) -> WriteError {
         WriteError::NoMemory
     }
 }
@@ -151,5 +163,30 @@ pub(crate) fn write_all<K: Sink>(sink: &mut K, text: &[u8]) -> Result<(), WriteE
         let count = sink.write(rest)?;
         rest = rest.split_at(count).1;
     }
+    Ok(())
+}
+
+/// How many bytes are gathered before they are written.
+const PIECE: usize = 1 << 16;
+
+/// Puts the text behind what is pending, and writes it all once that is a piece.
+pub(crate) fn gather<K: Sink>(
+    sink: &mut K,
+    pending: &mut Vec<u8>,
+    text: &[u8],
+) -> Result<(), WriteError>
+    ensures gathered { OnOk result
+        (Gathers (K.written sink.old) (K.written sink.new) pending.old.items text.now pending.new.items) }
+    ensures stopped { IfErr result
+        (StopsGathering (K.written sink.old) (K.written sink.new) (pending.old.items ++ text.now)) }
+    ensures failed { result ≡ Err WriteError.Failed → Rose (K.faults sink.old) (K.faults sink.new) }
+    ensures counted { K.faults sink.old ≤ K.faults sink.new }
+{
+    pending.extend_from_slice(text)?;
+    if pending.len() < PIECE {
+        return Ok(());
+    }
+    write_all(sink, pending)?;
+    pending.clear();
     Ok(())
 }

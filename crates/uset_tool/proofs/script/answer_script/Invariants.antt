@@ -1,17 +1,16 @@
-use Rattle.std.proofs.Common.{◌≤◌, List, ℕ, length}
+use Rattle.std.proofs.Common.{◌≤◌, length}
 use denote.Shadow.{shadow}
 use denote.Text.{Utf8}
 use Rattle.text_lines.specs.Lines.{lines}
 use Rattle.prop_data.specs.Database.{tables_of}
-use Rattle.uset_tool.specs.Device.{Appends}
-use Rattle.uset_tool.proofs.Once.{SoFar}
+use Rattle.uset_tool.proofs.Once.{Holds}
 use Rattle.uset_tool.proofs.script.answer_script.Given as goal
 
 abbrev pub invariant-loop-line : goal.invariant-loop-line
 invariant-loop-line g l =
     shadow (Utf8 l.rest)
     × (g.K.Sink.faults l.initial.sink ≤ g.K.Sink.faults l.sink)
-    × ((text : List ℕ) × SoFar (tables_of l.database) (lines l.script) (lines l.rest) text l.has_err × Appends (g.K.Sink.written l.initial.sink) (g.K.Sink.written l.sink) text)
+    × Holds (tables_of l.database) (lines l.script) (lines l.rest) l.has_err l.pending.items (g.K.Sink.written l.initial.sink) (g.K.Sink.written l.sink)
 
 abbrev pub decreases-loop-line : goal.decreases-loop-line
 decreases-loop-line g l = length l.rest
