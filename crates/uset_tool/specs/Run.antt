@@ -127,3 +127,7 @@ pub record IsAccepted (words : List (List ℕ)) (input : List ℕ) : Type 0 wher
 -- all lines were answered, or memory was refused
 abbrev pub IsAnswered : Status → Type 0
 IsAnswered result = (result ≡ Done) ⊎ ((result ≡ SomeErr) ⊎ (result ≡ NoMemory))
+
+-- the status of a text that was to be said: that which was wanted, or that it wasn't written whole
+abbrev pub EndsAs : Status → Status → Type 0
+EndsAs wanted status = (status ≡ wanted) ⊎ ((status ≡ WriteFault) ⊎ (status ≡ NoMemory))

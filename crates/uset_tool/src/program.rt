@@ -5,7 +5,7 @@ ghost use Rattle.uset_tool.specs.Device.{Rose, NoFault};
 ghost use Rattle.uset_tool.specs.Words.{is_known, table_fault_text};
 ghost use Rattle.text_lines.specs.Lines.{lines};
 ghost use Rattle.prop_data.specs.Database.{tables_of};
-ghost use Rattle.uset_tool.specs.Run.{Answers, Evaluates, Writes, IsLeft, IsSettled, IsAccepted, IsAnswered, Says, SaysError, ScriptWrites, is_of_text};
+ghost use Rattle.uset_tool.specs.Run.{Answers, Evaluates, Writes, IsLeft, IsSettled, IsAccepted, IsAnswered, EndsAs, Says, SaysError, ScriptWrites, is_of_text};
 
 use crate::input::{InputError, read_input};
 use crate::script::answer_script;
@@ -23,6 +23,7 @@ use uset_parse::laws::{no_fault_of_a_reading, one_fault, one_reading};
 /// Writes a text, and gives the status that is wanted where all of it was written.
 fn say<K: Sink>(sink: &mut K, text: &str, wanted: Status) -> Status
     ensures says { Says (K.written sink.old) (K.written sink.new) text.now wanted result }
+    ensures ends { EndsAs wanted result }
     ensures failed { result ≡ Status.WriteFault → wanted ≢ Status.WriteFault → Rose (K.faults sink.old) (K.faults sink.new) }
     ensures counted { K.faults sink.old ≤ K.faults sink.new }
 {
@@ -95,6 +96,8 @@ fn answer_words<S: Source, K: Sink>(
     ensures written { IfSome (S.left source.old) (λ input. Writes (Answers (map string_bytes words.now.items) input) (K.written sink.old) (K.written sink.new) result) }
     ensures left { IfSome (S.left source.old) (λ input. IsLeft input (S.left source.new) result) }
     ensures usage { result ≡ Status.Usage → is_known (map string_bytes words.now.items) ≡ false }
+    ensures unknown { is_known (map string_bytes words.now.items) ≡ false → EndsAs Status.Usage result }
+    ensures untouched { is_known (map string_bytes words.now.items) ≡ false → source.new ≡ source.old }
     ensures read_fault_words { result ≡ Status.ReadFault → is_known (map string_bytes words.now.items) ≡ true }
     ensures read_fault { result ≡ Status.ReadFault → Rose (S.faults source.old) (S.faults source.new) }
     ensures write_fault { result ≡ Status.WriteFault → Rose (K.faults sink.old) (K.faults sink.new) }
@@ -131,6 +134,8 @@ pub fn run<S: Source, K: Sink>(
 
     // Why the run ended before an answer.
     ensures usage { result ≡ Status.Usage → is_known (map string_bytes words.now.items) ≡ false }
+    ensures unknown { is_known (map string_bytes words.now.items) ≡ false → EndsAs Status.Usage result }
+    ensures untouched { is_known (map string_bytes words.now.items) ≡ false → source.new ≡ source.old }
     ensures read_fault_words { result ≡ Status.ReadFault → is_known (map string_bytes words.now.items) ≡ true }
     ensures read_fault { result ≡ Status.ReadFault → Rose (S.faults source.old) (S.faults source.new) }
     ensures write_fault { result ≡ Status.WriteFault → Rose (K.faults sink.old) (K.faults sink.new) }
