@@ -279,9 +279,11 @@ fn constants_have_their_numbers(rt: HostRuntime) {
         assert_eq!(rt; class.to_icu4c_value(), number);
         number = number.wrapping_add(1);
     }
-    assert_eq!(rt; rows::scripts()[8], Script::Latin);
+    let scripts = rows::scripts();
+    assert_eq!(rt; scripts.get(8), Some(&Script::Latin));
     assert_eq!(rt; rows::unknown_script(), ScriptWithExt(103));
-    assert_eq!(rt; rows::hangul_syllable_types()[6].to_icu4c_value(), 4);
+    let types = rows::hangul_syllable_types();
+    assert_eq!(rt; types.get(6), Some(&HangulSyllableType::LVSyllable));
 }
 
 #[test]
