@@ -1,5 +1,5 @@
 -- The answers of the code as outcomes, whose places are the rests of the text there.
-use Rattle.std.specs.Prelude.{◌≡◌, Result, MatchResult}
+use Rattle.std.specs.Prelude.{◌≡◌, ℕ, length, Result, MatchResult}
 use Rattle.std.specs.Str.{chars}
 use Rattle.uset_grammar.specs.Outcome.{Outcome, faulty, ended, Kind, unexpected, unimplemented, invalid_escape}
 use Rattle.uset_read.specs.declared.stop.Kind.{Kind as CodeKind}
@@ -17,6 +17,12 @@ abbrev pub Stops : {V : Type 0} → Outcome V → Stop → Type 0
 Stops o (Fault kind rest) = o ≡ faulty (kind_seen kind) (chars rest.now)
 Stops o Ended = o ≡ ended
 Stops o NoMemory = Unit {0}
+
+-- The number of bytes of the rest at whose front the fault is; no more of the text is left where it ends.
+abbrev pub left_at : Stop → ℕ
+left_at (Fault kind rest) = length rest.now
+left_at Ended = 0
+left_at NoMemory = 0
 
 -- The answer tells the outcome: what was read is it, or it stops so.
 abbrev pub Tells : {A V : Type 0} → Outcome V → (A → Outcome V) → Result A Stop → Type 0

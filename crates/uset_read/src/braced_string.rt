@@ -6,7 +6,7 @@ ghost use Rattle.std.specs.String.{string_bytes};
 ghost use Rattle.cp_invlist.specs.InversionList.{contains};
 ghost use Rattle.uset_grammar.specs.EscapeSlips.{in_string, allowed};
 ghost use Rattle.uset_read.specs.Spelled.{spelled_codes, spelled_seen};
-ghost use Rattle.uset_read.specs.Stops.{Tells};
+ghost use Rattle.uset_read.specs.Stops.{left_at, Tells};
 ghost use Rattle.uset_read.specs.Pieces.{Appended, is_character, piece_in, piece_seen, behind_piece, PiecesAre, PiecesStop, StringIs, StringStops};
 
 use crate::escape::{Around, Spelled, read_letter};
@@ -34,6 +34,7 @@ fn read_piece<'a>(
 ) -> Result<Piece<'a>, Stop<'a>>
     ensures parts { Tells (piece_in (contains white_space.now) (chars text.now)) piece_seen result }
     ensures shorter { IfOk result (λ piece. length (behind_piece piece) < length text.now) }
+    ensures place { IfErr result (λ stop. left_at stop ≤ length text.now) }
 {
     let (c, behind) = take_first(text)?;
     if c == '}' {
@@ -103,6 +104,7 @@ fn read_pieces<'a>(
     ensures read { IfOk result (λ p. PiecesAre white_space.now text.now (string_bytes p.0) p.1.now) }
     ensures stopped { IfErr result (PiecesStop white_space.now text.now) }
     ensures within { IfOk result (λ p. length p.1.now ≤ length text.now) }
+    ensures place { IfErr result (λ stop. left_at stop ≤ length text.now) }
 {
     let mut string = String::new(alloc);
     let mut rest = text;
@@ -129,6 +131,7 @@ pub fn read_string<'a>(
     ensures read { IfOk result (λ p. StringIs white_space.now text.now (string_bytes p.0) p.1.now) }
     ensures stopped { IfErr result (StringStops white_space.now text.now) }
     ensures shorter { IfOk result (λ p. length p.1.now < length text.now) }
+    ensures place { IfErr result (λ stop. left_at stop ≤ length text.now) }
 {
     let (_, inner) = take_first(text)?;
     read_pieces(alloc, white_space, inner)

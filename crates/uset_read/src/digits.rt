@@ -1,8 +1,8 @@
 //! Numbers in hexadecimal digits.
-ghost use Rattle.std.specs.Prelude.{◌<◌, ◌*◌, ◌+◌, ◌^◌, ◌≡◌, length, IfOk};
+ghost use Rattle.std.specs.Prelude.{◌<◌, ◌≤◌, ◌*◌, ◌+◌, ◌^◌, ◌≡◌, length, IfErr, IfOk};
 ghost use Rattle.std.specs.Str.{chars};
 ghost use Rattle.uset_grammar.specs.Outcome.{got};
-ghost use Rattle.uset_read.specs.Stops.{Tells};
+ghost use Rattle.uset_read.specs.Stops.{left_at, Tells};
 ghost use Rattle.uset_read.specs.Reading.{digit_in, two_digits_in, four_digits_in, last_digit_in, six_digits_in};
 
 use crate::stop::{Kind, Stop};
@@ -16,6 +16,7 @@ pub(crate) fn read_digit(number: u32, text: &str) -> Result<(u32, &str), Stop<'_
     ensures bound { IfOk result (λ p. p.0 < number * 16 + 16) }
     ensures shorter { IfOk result (λ p. length p.1.now < length text.now) }
     ensures fewer { IfOk result (λ p. length (chars p.1.now) < length (chars text.now)) }
+    ensures place { IfErr result (λ stop. left_at stop ≤ length text.now) }
 {
     let (first, rest) = take_first(text)?;
     match first.to_digit(16) {
@@ -32,6 +33,7 @@ pub(crate) fn read_two_digits(number: u32, text: &str) -> Result<(u32, &str), St
     ensures bound { IfOk result (λ p. p.0 < number * 256 + 256) }
     ensures shorter { IfOk result (λ p. length p.1.now < length text.now) }
     ensures fewer { IfOk result (λ p. length (chars p.1.now) < length (chars text.now)) }
+    ensures place { IfErr result (λ stop. left_at stop ≤ length text.now) }
 {
     let (number, rest) = read_digit(number, text)?;
     read_digit(number, rest)
@@ -45,6 +47,7 @@ pub(crate) fn read_four_digits(number: u32, text: &str) -> Result<(u32, &str), S
     ensures bound { IfOk result (λ p. p.0 < number * 65536 + 65536) }
     ensures shorter { IfOk result (λ p. length p.1.now < length text.now) }
     ensures fewer { IfOk result (λ p. length (chars p.1.now) < length (chars text.now)) }
+    ensures place { IfErr result (λ stop. left_at stop ≤ length text.now) }
 {
     let (number, rest) = read_two_digits(number, text)?;
     read_two_digits(number, rest)
@@ -57,6 +60,7 @@ fn read_last_digit(number: u32, text: &str) -> Result<(u32, &str), Stop<'_>>
     ensures parts { Tells (last_digit_in number (chars text.now)) (λ p. got p.0 (chars p.1.now)) result }
     ensures shorter { IfOk result (λ p. length p.1.now < length text.now) }
     ensures fewer { IfOk result (λ p. length (chars p.1.now) < length (chars text.now)) }
+    ensures place { IfErr result (λ stop. left_at stop ≤ length text.now) }
 {
     let (number, rest) = read_digit(number, text)?;
     if number > 0x10_FFFF {
@@ -71,6 +75,7 @@ pub(crate) fn read_six_digits(text: &str) -> Result<(u32, &str), Stop<'_>>
     ensures parts { Tells (six_digits_in (chars text.now)) (λ p. got p.0 (chars p.1.now)) result }
     ensures shorter { IfOk result (λ p. length p.1.now < length text.now) }
     ensures fewer { IfOk result (λ p. length (chars p.1.now) < length (chars text.now)) }
+    ensures place { IfErr result (λ stop. left_at stop ≤ length text.now) }
 {
     let (number, rest) = read_four_digits(0, text)?;
     let (number, rest) = read_digit(number, rest)?;

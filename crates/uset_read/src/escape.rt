@@ -1,10 +1,10 @@
 //! Escapes.
-ghost use Rattle.std.specs.Prelude.{◌≡◌, ℕ, ◌<◌, ◌≤◌, ◌∷◌, [], false, true, length, IfOk, IfErr};
+ghost use Rattle.std.specs.Prelude.{◌≡◌, ℕ, ◌<◌, ◌≤◌, ◌∷◌, [], false, true, length, max, IfOk, IfErr};
 ghost use Rattle.std.specs.Str.{chars};
 ghost use Rattle.uset_grammar.specs.Text.{Text};
 ghost use Rattle.uset_grammar.specs.Outcome.{got};
 ghost use Rattle.uset_grammar.specs.Escape.{is_hex, is_surrogate, plain};
-ghost use Rattle.uset_read.specs.Stops.{Tells};
+ghost use Rattle.uset_read.specs.Stops.{left_at, Tells};
 ghost use Rattle.uset_read.specs.Spelled.{around_seen, spelled_got, next_seen, behind_next, next_at, braced_at, digits_at, letters_at, EscapeIs, EscapeStops};
 ghost use Rattle.uset_read.specs.Reading.{later_in, number_in, first_digit_in, number_at, at_next_in, sole_in, all_in, zero_in, long_escape, two_digits_in, four_digits_in};
 
@@ -51,6 +51,7 @@ fn end_number<'a>(
 ) -> Result<(u32, &'a str), Stop<'a>>
     ensures parts { Tells (later_in (around_seen around) later (chars begin.now) number (chars rest.now)) (λ p. got p.0 (chars p.1.now)) result }
     ensures rest { IfOk result (λ p. p.1.now ≡ rest.now) }
+    ensures place { IfErr result (λ stop. left_at stop ≤ length begin.now) }
 {
     match around {
         Around::Bracket(_) => Ok((number, rest)),
@@ -76,6 +77,7 @@ fn read_further_digits<'a>(
     ensures parts { Tells (number_in (around_seen around) later (chars begin.now) 5 first (chars text.now)) (λ p. got p.0 (chars p.1.now)) result }
     ensures within { IfOk result (λ p. length p.1.now ≤ length text.now) }
     ensures no_more { IfOk result (λ p. length (chars p.1.now) ≤ length (chars text.now)) }
+    ensures place { IfErr result (λ stop. left_at stop ≤ max (length begin.now) (length text.now)) }
 {
     let mut number = first;
     let mut rest = text;
@@ -103,6 +105,7 @@ fn read_number(around: Around, later: bool, text: &str) -> Result<(u32, &str), S
     ensures parts { Tells (first_digit_in (around_seen around) later (chars text.now)) (λ p. got p.0 (chars p.1.now)) result }
     ensures shorter { IfOk result (λ p. length p.1.now < length text.now) }
     ensures fewer { IfOk result (λ p. length (chars p.1.now) < length (chars text.now)) }
+    ensures place { IfErr result (λ stop. left_at stop ≤ length text.now) }
 {
     let (digit, rest) = read_digit(0, text)?;
     read_further_digits(around, later, text, digit, rest)
@@ -118,6 +121,7 @@ fn end_sole<'a>(
 ) -> Result<(Spelled, &'a str), Stop<'a>>
     ensures parts { Tells (sole_in (around_seen around) (chars begin.now) number (chars rest.now)) (λ p. spelled_got p.0 p.1.now) result }
     ensures rest { IfOk result (λ p. p.1.now ≡ rest.now) }
+    ensures place { IfErr result (λ stop. left_at stop ≤ length begin.now) }
 {
     match around {
         Around::String if is_surrogate(number) => Err(Stop::Fault(Kind::InvalidEscape, begin)),
@@ -136,6 +140,7 @@ fn end_numbers<'a>(
 ) -> Result<(Spelled, &'a str), Stop<'a>>
     ensures parts { Tells (all_in (around_seen around) (chars begin.now) 0x7D (first ∷ more.items) (chars rest.now)) (λ p. spelled_got p.0 p.1.now) result }
     ensures rest { IfOk result (λ p. p.1.now ≡ rest.now) }
+    ensures place { IfErr result (λ stop. left_at stop ≤ length begin.now) }
 {
     if more.is_empty() {
         return end_sole(alloc, around, begin, first, rest);
@@ -164,6 +169,7 @@ fn read_number_behind<'a>(
     ensures parts { Tells (number_at (around_seen around) (chars begin.now) (first ∷ more.now) (chars text.now)) (λ p. got p.0 (chars p.1.now)) result }
     ensures shorter { IfOk result (λ p. length p.1.now < length text.now) }
     ensures fewer { IfOk result (λ p. length (chars p.1.now) < length (chars text.now)) }
+    ensures place { IfErr result (λ stop. left_at stop ≤ max (length begin.now) (length text.now)) }
 {
     let (c, _) = take_first(text)?;
     if more.is_empty() && is_hex(c) {
@@ -203,6 +209,7 @@ fn read_next_at<'a>(
     ensures parts { Tells (at_next_in (around_seen around) (chars begin.now) (first ∷ more.now) (chars text.now)) next_seen result }
     ensures shorter { IfOk result (λ next. length (behind_next next) < length text.now) }
     ensures fewer { IfOk result (λ next. length (chars (behind_next next)) < length (chars text.now)) }
+    ensures place { IfErr result (λ stop. left_at stop ≤ max (length begin.now) (length text.now)) }
 {
     let (c, behind) = take_first(text)?;
     if c == '}' {
@@ -224,6 +231,7 @@ fn read_next<'a>(
     ensures parts { Tells (next_at white_space.now around begin.now (first ∷ more.now) text.now) next_seen result }
     ensures shorter { IfOk result (λ next. length (behind_next next) < length text.now) }
     ensures fewer { IfOk result (λ next. length (chars (behind_next next)) < length (chars text.now)) }
+    ensures place { IfErr result (λ stop. left_at stop ≤ max (length begin.now) (length text.now)) }
 {
     let (c, behind) = take_first(text)?;
     if c == '}' {
@@ -252,6 +260,7 @@ fn read_braced<'a>(
     ensures parts { Tells (braced_at white_space.now around begin.now text.now) (λ p. spelled_got p.0 p.1.now) result }
     ensures shorter { IfOk result (λ p. length p.1.now < length text.now) }
     ensures fewer { IfOk result (λ p. length (chars p.1.now) < length (chars text.now)) }
+    ensures place { IfErr result (λ stop. left_at stop ≤ max (length begin.now) (length text.now)) }
 {
     let (first, mut rest) = read_number(around, false, skip_white_space(white_space, text))?;
     let mut more = Vec::new(alloc);
@@ -278,6 +287,7 @@ fn read_two<'a>(
 ) -> Result<(Spelled, &'a str), Stop<'a>>
     ensures parts { Tells (digits_at white_space.now around begin.now two_digits_in text.now) (λ p. spelled_got p.0 p.1.now) result }
     ensures shorter { IfOk result (λ p. length p.1.now < length text.now) }
+    ensures place { IfErr result (λ stop. left_at stop ≤ max (length begin.now) (length text.now)) }
 {
     let (c, inner) = take_first(text)?;
     if c == '{' {
@@ -297,6 +307,7 @@ fn read_four<'a>(
 ) -> Result<(Spelled, &'a str), Stop<'a>>
     ensures parts { Tells (digits_at white_space.now around begin.now four_digits_in text.now) (λ p. spelled_got p.0 p.1.now) result }
     ensures shorter { IfOk result (λ p. length p.1.now < length text.now) }
+    ensures place { IfErr result (λ stop. left_at stop ≤ max (length begin.now) (length text.now)) }
 {
     let (c, inner) = take_first(text)?;
     if c == '{' {
@@ -310,6 +321,7 @@ fn read_four<'a>(
 fn read_zero(text: &str) -> Result<&str, Stop<'_>>
     ensures parts { Tells (zero_in (chars text.now)) (λ rest. got tt (chars rest.now)) result }
     ensures shorter { IfOk result (λ rest. length rest.now < length text.now) }
+    ensures place { IfErr result (λ stop. left_at stop ≤ length text.now) }
 {
     let (c, rest) = take_first(text)?;
     if c == '0' {
@@ -328,6 +340,7 @@ fn read_six<'a>(
 ) -> Result<(Spelled, &'a str), Stop<'a>>
     ensures parts { Tells (long_escape (around_seen around) (chars begin.now) (chars text.now)) (λ p. spelled_got p.0 p.1.now) result }
     ensures shorter { IfOk result (λ p. length p.1.now < length text.now) }
+    ensures place { IfErr result (λ stop. left_at stop ≤ max (length begin.now) (length text.now)) }
 {
     let (number, rest) = read_six_digits(read_zero(read_zero(text)?)?)?;
     end_sole(alloc, around, begin, number, rest)
@@ -361,6 +374,7 @@ pub(crate) fn read_letter<'a>(
 ) -> Result<(Spelled, &'a str), Stop<'a>>
     ensures parts { Tells (letters_at white_space.now around begin.now text.now) (λ p. spelled_got p.0 p.1.now) result }
     ensures shorter { IfOk result (λ p. length p.1.now < length text.now) }
+    ensures place { IfErr result (λ stop. left_at stop ≤ max (length begin.now) (length text.now)) }
 {
     let (c, rest) = take_first(text)?;
     match c {
@@ -382,6 +396,7 @@ pub fn read_escape<'a>(
     ensures read { IfOk result (λ p. EscapeIs white_space.now around text.now p.0 p.1.now) }
     ensures stopped { IfErr result (EscapeStops white_space.now around text.now) }
     ensures shorter { IfOk result (λ p. length p.1.now < length text.now) }
+    ensures place { IfErr result (λ stop. left_at stop ≤ length text.now) }
 {
     let (_, inner) = take_first(text)?;
     read_letter(alloc, white_space, around, text, inner)

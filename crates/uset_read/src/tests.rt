@@ -54,7 +54,8 @@ fn a_fault_of_an_escape_has_one_place(rt: HostRuntime) -> Result<(), Fail> {
         ("\\u{D800 62}", Around::String, 'E', 0),
         ("\\x{61 D800}", Around::String, 'E', 6),
     ] {
-        match read_escape(alloc, &white_space, around, source) {
+        let cursor = Cursor::new(source);
+        match read_escape(alloc, &white_space, around, cursor.rest()) {
             Err(Stop::Fault(found, rest)) => {
                 let letter = match found {
                     Kind::UnexpectedChar(c) => c,
@@ -62,11 +63,7 @@ fn a_fault_of_an_escape_has_one_place(rt: HostRuntime) -> Result<(), Fail> {
                     Kind::InvalidEscape => 'E',
                 };
                 assert_eq!(rt; letter, kind, "at {source}");
-                assert_eq!(rt;
-                    source.len().checked_sub(rest.len()),
-                    Some(offset),
-                    "at {source}"
-                );
+                assert_eq!(rt; cursor.at(rest).offset(), offset, "at {source}");
             }
             _ => assert!(rt; false, "at {source}"),
         }
@@ -105,13 +102,10 @@ fn strings_are_read(rt: HostRuntime) -> Result<(), Fail> {
         assert_eq!(rt; behind, rest, "at {text}");
     }
     for (text, offset) in [("{\\uD800}", 1), ("{a\\x{61 D800g}", 8), ("{{\\udFFF ]", 2)] {
-        match read_string(alloc, &white_space, text) {
+        let cursor = Cursor::new(text);
+        match read_string(alloc, &white_space, cursor.rest()) {
             Err(Stop::Fault(Kind::InvalidEscape, rest)) => {
-                assert_eq!(rt;
-                    text.len().checked_sub(rest.len()),
-                    Some(offset),
-                    "at {text}"
-                );
+                assert_eq!(rt; cursor.at(rest).offset(), offset, "at {text}");
             }
             _ => assert!(rt; false, "at {text}"),
         }

@@ -1,8 +1,9 @@
 //! What stands in front of a text.
-ghost use Rattle.std.specs.Prelude.{◌≡◌, ◌<◌, ◌≤◌, ◌∷◌, ◌++◌, [], encode_utf8, length, IfSome, IfOk, MatchOption, MatchResult};
+ghost use Rattle.std.specs.Prelude.{◌≡◌, ◌<◌, ◌≤◌, ◌∷◌, ◌++◌, [], encode_utf8, length, IfSome, IfErr, IfOk, MatchOption, MatchResult};
 ghost use Rattle.std.specs.Str.{chars};
 ghost use Rattle.cp_invlist.specs.InversionList.{contains};
 ghost use Rattle.uset_grammar.specs.Text.{skip};
+ghost use Rattle.uset_read.specs.Stops.{left_at};
 ghost use Rattle.uset_read.specs.declared.stop.Stop.TheVariants.{Ended as IsEnded};
 
 use crate::stop::Stop;
@@ -23,6 +24,7 @@ pub(crate) fn split_first(text: &str) -> Option<(char, &str)>
 /// The first character, and the text behind it, where the text hasn't ended.
 pub(crate) fn take_first(text: &str) -> Result<(char, &str), Stop<'_>>
     ensures parts { MatchResult result (λ p. chars text.now ≡ p.0 ∷ chars p.1.now) (λ stop. (stop ≡ IsEnded) × (chars text.now ≡ [])) }
+    ensures place { IfErr result (λ stop. left_at stop ≡ 0) }
     ensures shorter { IfOk result (λ p. length p.1.now < length text.now) }
     ensures fewer { IfOk result (λ p. length (chars p.1.now) < length (chars text.now)) }
 {
