@@ -85,10 +85,13 @@ number_at a begin ns [] = ended
 number_at a begin ns (c ∷ t) =
     if is_hex c then second_in a begin ns (number_in a (is_later ns) (c ∷ t) 5 (digit_value c) t) else faulty (unexpected c) (c ∷ t)
 
--- a zero
+-- this character
+abbrev pub char_in : ℕ → Text → Outcome (Unit {0})
+char_in due [] = ended
+char_in due (c ∷ t) = if c == due then got tt t else faulty (unexpected c) (c ∷ t)
+
 abbrev pub zero_in : Text → Outcome (Unit {0})
-zero_in [] = ended
-zero_in (c ∷ t) = if c ∈ "0" then got tt t else faulty (unexpected c) (c ∷ t)
+zero_in t = char_in (code "0") t
 
 -- two zeros and six digits
 abbrev pub long_escape : Around → Text → Text → Outcome Spelled

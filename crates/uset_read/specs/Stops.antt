@@ -1,9 +1,9 @@
 -- The answers of the code as outcomes, whose places are the rests of the text there.
 use Rattle.std.specs.Prelude.{◌≡◌, ℕ, length, Result, MatchResult}
 use Rattle.std.specs.Str.{chars}
-use Rattle.uset_grammar.specs.Outcome.{Outcome, faulty, ended, Kind, unexpected, unimplemented, invalid_escape}
+use Rattle.uset_grammar.specs.Outcome.{Outcome, faulty, ended, Kind, unexpected, unimplemented, invalid_escape, unknown_property, internal}
 use Rattle.uset_read.specs.declared.stop.Kind.{Kind as CodeKind}
-use Rattle.uset_read.specs.declared.stop.Kind.TheVariants.{UnexpectedChar, Unimplemented, InvalidEscape}
+use Rattle.uset_read.specs.declared.stop.Kind.TheVariants.{UnexpectedChar, Unimplemented, InvalidEscape, UnknownProperty, Internal}
 use Rattle.uset_read.specs.declared.stop.Stop.{Stop}
 use Rattle.uset_read.specs.declared.stop.Stop.TheVariants.{Fault, Ended, NoMemory}
 
@@ -11,6 +11,8 @@ abbrev pub kind_seen : CodeKind → Kind
 kind_seen (UnexpectedChar c) = unexpected c
 kind_seen Unimplemented = unimplemented
 kind_seen InvalidEscape = invalid_escape
+kind_seen UnknownProperty = unknown_property
+kind_seen Internal = internal
 
 -- the outcome is that it stops so, or memory was refused
 abbrev pub Stops : {V : Type 0} → Outcome V → Stop → Type 0

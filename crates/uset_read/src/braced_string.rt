@@ -11,7 +11,7 @@ ghost use Rattle.uset_read.specs.Pieces.{Appended, is_character, piece_in, piece
 
 use crate::escape::{Around, Spelled, read_letter};
 use crate::stop::{Kind, Stop};
-use crate::text::take_first;
+use crate::text::{push_char, take_first};
 use cp_invlist::{CodePointInversionList, NoMemory};
 use std::alloc::Global;
 
@@ -58,7 +58,7 @@ fn push_number(string: &mut String, number: u32) -> Result<bool, NoMemory>
 {
     match char::from_u32(number) {
         Some(c) => {
-            string.push(c)?;
+            push_char(string, c)?;
             Ok(true)
         }
         None => Ok(false),
@@ -88,7 +88,7 @@ fn push_spelled(string: &mut String, spelled: &Spelled) -> Result<bool, NoMemory
 {
     match spelled {
         Spelled::Itself(c) => {
-            string.push(*c)?;
+            push_char(string, *c)?;
             Ok(true)
         }
         Spelled::Numbers(first, more) => push_numbers(string, *first, more),

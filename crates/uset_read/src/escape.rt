@@ -6,11 +6,11 @@ ghost use Rattle.uset_grammar.specs.Outcome.{got};
 ghost use Rattle.uset_grammar.specs.Escape.{is_hex, is_surrogate, plain};
 ghost use Rattle.uset_read.specs.Stops.{left_at, Tells};
 ghost use Rattle.uset_read.specs.Spelled.{around_seen, spelled_got, next_seen, behind_next, next_at, braced_at, digits_at, letters_at, EscapeIs, EscapeStops};
-ghost use Rattle.uset_read.specs.Reading.{later_in, number_in, first_digit_in, number_at, at_next_in, sole_in, all_in, zero_in, long_escape, two_digits_in, four_digits_in};
+ghost use Rattle.uset_read.specs.Reading.{later_in, number_in, first_digit_in, number_at, at_next_in, sole_in, all_in, long_escape, two_digits_in, four_digits_in};
 
 use crate::digits::{read_digit, read_four_digits, read_six_digits, read_two_digits};
 use crate::stop::{Kind, Stop};
-use crate::text::{skip_white_space, take_first};
+use crate::text::{read_char, skip_white_space, take_first};
 use cp_invlist::CodePointInversionList;
 use std::alloc::Global;
 
@@ -317,20 +317,6 @@ fn read_four<'a>(
     end_sole(alloc, around, begin, number, rest)
 }
 
-/// Reads a zero.
-fn read_zero(text: &str) -> Result<&str, Stop<'_>>
-    ensures parts { Tells (zero_in (chars text.now)) (λ rest. got tt (chars rest.now)) result }
-    ensures shorter { IfOk result (λ rest. length rest.now < length text.now) }
-    ensures place { IfErr result (λ stop. left_at stop ≤ length text.now) }
-{
-    let (c, rest) = take_first(text)?;
-    if c == '0' {
-        Ok(rest)
-    } else {
-        Err(Stop::Fault(Kind::UnexpectedChar(c), text))
-    }
-}
-
 /// Reads what follows the `U` of an escape that begins there.
 fn read_six<'a>(
     alloc: Global,
@@ -342,7 +328,7 @@ fn read_six<'a>(
     ensures shorter { IfOk result (λ p. length p.1.now < length text.now) }
     ensures place { IfErr result (λ stop. left_at stop ≤ max (length begin.now) (length text.now)) }
 {
-    let (number, rest) = read_six_digits(read_zero(read_zero(text)?)?)?;
+    let (number, rest) = read_six_digits(read_char('0', read_char('0', text)?)?)?;
     end_sole(alloc, around, begin, number, rest)
 }
 
