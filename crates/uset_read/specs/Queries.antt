@@ -1,5 +1,6 @@
 -- What the reader of properties does, part by part, up to the end mark and behind it.
-use Rattle.std.specs.Prelude.{◌≡◌, ℕ, Bool, true, false, not, ◌==◌, List, [], ◌∷◌, ◌++◌, Some, None, if◌then◌else◌}
+use Rattle.std.specs.Prelude.{◌≡◌, ℕ, Bool, true, false, not, ◌==◌, List, [], ◌∷◌, ◌++◌, Some, None, String, if◌then◌else◌}
+use Rattle.std.specs.Borrow.{Bor}
 use Rattle.std.specs.Option.{option_map}
 use Rattle.std.specs.Str.{chars}
 use Rattle.std.specs.String.{string_bytes}
@@ -31,6 +32,16 @@ query_seen query = record {
   key = chars (string_bytes query.key);
   value = option_map (λ s. chars (string_bytes s)) query.value;
 }
+
+-- a key and what ends it, a value, and a query, each with the text behind it
+abbrev pub key_read : {Z : Type 0} → String Z × Sign × Bor (List ℕ) → Outcome (Text × Sign)
+key_read p = got (chars (string_bytes p.0), p.1) (chars p.2.now)
+
+abbrev pub value_read : {Z : Type 0} → String Z × Bor (List ℕ) → Outcome Text
+value_read p = got (chars (string_bytes p.0)) (chars p.1.now)
+
+abbrev pub query_read : CodeQuery × Bor (List ℕ) → Outcome Query
+query_read p = got (query_seen p.0) (chars p.1.now)
 
 abbrev pub is_nothing : Text → Bool
 is_nothing [] = true
@@ -95,7 +106,8 @@ module _ (white_space : ℕ → Bool) (form : Form) where
   value_behind (c ∷ t) = value_in [] t
 
   abbrev pub with_value_in : Bool → Text → Text → Outcome Query
-  with_value_in negated key t = and_then (value_behind t) (λ v. got (record { negated = negated; key = key; value = Some v }))
+  with_value_in negated key t =
+      and_then (value_behind t) (λ v. got (record { negated = negated; key = key; value = Some v }))
 
   abbrev pub ended_key_in : Bool → Text → Sign → Text → Outcome Query
   ended_key_in negated key Mark t = got (record { negated = negated; key = key; value = None }) t
@@ -123,9 +135,10 @@ close_in form t = and_then (char_in (mark form) t) (λ z. closing_in form)
 abbrev pub BeginsProperty : Text → Type 0
 BeginsProperty q = (t : Text) × ((q ≡ code "[" ∷ code ":" ∷ t) ⊎ (q ≡ code "\\" ∷ t))
 
--- The property at the front of the text asks this, and its end mark is at this place: what the outcome of the text is, whichever
--- queries resolve.
-pub record Asks (white_space : ℕ → Bool) (resolves lacks : Query → Bool) (q : Text) (form : Form) (query : Query) (at : Text) : Type 0 where
+-- The property at the front of the text asks this, and its end mark is at this place: what the outcome of the text is,
+-- whichever queries resolve.
+pub record Asks (white_space : ℕ → Bool) (resolves lacks : Query → Bool) (q : Text)
+    (form : Form) (query : Query) (at : Text) : Type 0 where
   -- where it resolves to nothing, the fault is at the end mark
   pub refused : resolves query ≡ false →
       (before : Text) × (q ≡ before ++ at)
@@ -144,7 +157,8 @@ PropertyIs white_space text form query at =
 
 -- The property there has the fault, with the place, or is not ended, as it says, whichever queries resolve.
 pub record PropertyStops (white_space text : List ℕ) (stop : Stop) : Type 0 where
-  pub outcome : contains white_space (code "a") ≡ false → BeginsProperty (chars text) → (resolves lacks : Query → Bool) →
+  pub outcome : contains white_space (code "a") ≡ false → BeginsProperty (chars text) →
+      (resolves lacks : Query → Bool) →
       StopsAt (PropertyOutcome (contains white_space) resolves lacks (chars text)) (chars text) stop
 
 -- The parts of the reader over the bytes that the code holds.

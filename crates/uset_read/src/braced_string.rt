@@ -7,7 +7,7 @@ ghost use Rattle.cp_invlist.specs.InversionList.{contains};
 ghost use Rattle.uset_grammar.specs.EscapeSlips.{in_string, allowed};
 ghost use Rattle.uset_read.specs.Spelled.{spelled_codes, spelled_seen};
 ghost use Rattle.uset_read.specs.Stops.{left_at, Tells};
-ghost use Rattle.uset_read.specs.Pieces.{Appended, is_character, piece_in, piece_seen, behind_piece, PiecesAre, PiecesStop, StringIs, StringStops};
+ghost use Rattle.uset_read.specs.Pieces.{Pushed, is_character, piece_in, piece_seen, behind_piece, PiecesAre, PiecesStop, StringIs, StringStops};
 
 use crate::escape::{Around, Spelled, read_letter};
 use crate::stop::{Kind, Stop};
@@ -54,7 +54,7 @@ fn read_piece<'a>(
 #[tactic(auto, unfolding(uset_grammar::specs::Escape::is_above, uset_grammar::specs::Escape::is_surrogate))]
 fn push_number(string: &mut String, number: u32) -> Result<bool, NoMemory>
     ensures character { IfOk result (λ pushed. pushed ≡ is_character number) }
-    ensures appended { IfOk result (λ pushed. pushed ≡ true → Appended (string_bytes string.old) (string_bytes string.new) (number ∷ [])) }
+    ensures appended { IfOk result (λ pushed. Pushed pushed string.old string.new (number ∷ [])) }
 {
     match char::from_u32(number) {
         Some(c) => {
@@ -68,7 +68,7 @@ fn push_number(string: &mut String, number: u32) -> Result<bool, NoMemory>
 /// Appends the characters of the numbers. The answer is false where one of them is no character's.
 fn push_numbers(string: &mut String, first: u32, more: &[u32]) -> Result<bool, NoMemory>
     ensures characters { IfOk result (λ pushed. pushed ≡ list_all is_character (first ∷ more.now)) }
-    ensures appended { IfOk result (λ pushed. pushed ≡ true → Appended (string_bytes string.old) (string_bytes string.new) (first ∷ more.now)) }
+    ensures appended { IfOk result (λ pushed. Pushed pushed string.old string.new (first ∷ more.now)) }
 {
     if !push_number(string, first)? {
         return Ok(false);
@@ -84,7 +84,7 @@ fn push_numbers(string: &mut String, first: u32, more: &[u32]) -> Result<bool, N
 /// Appends what an escape or a character spells. The answer is false where a number is no character's.
 fn push_spelled(string: &mut String, spelled: &Spelled) -> Result<bool, NoMemory>
     ensures characters { IfOk result (λ pushed. pushed ≡ allowed in_string (spelled_seen spelled.now)) }
-    ensures appended { IfOk result (λ pushed. pushed ≡ true → Appended (string_bytes string.old) (string_bytes string.new) (spelled_codes spelled.now)) }
+    ensures appended { IfOk result (λ pushed. Pushed pushed string.old string.new (spelled_codes spelled.now)) }
 {
     match spelled {
         Spelled::Itself(c) => {

@@ -2,7 +2,7 @@
 ghost use Rattle.std.specs.Prelude.{◌<◌, ◌≤◌, ◌*◌, ◌+◌, ◌^◌, ◌≡◌, length, IfErr, IfOk};
 ghost use Rattle.std.specs.Str.{chars};
 ghost use Rattle.uset_grammar.specs.Outcome.{got};
-ghost use Rattle.uset_read.specs.Stops.{left_at, Tells};
+ghost use Rattle.uset_read.specs.Stops.{left_at, with_rest, Tells};
 ghost use Rattle.uset_read.specs.Reading.{digit_in, two_digits_in, four_digits_in, last_digit_in, six_digits_in};
 
 use crate::stop::{Kind, Stop};
@@ -12,7 +12,7 @@ use crate::text::take_first;
 #[tactic(auto, unfolding(crate::specs::Reading::digit_in, uset_grammar::specs::Escape::is_hex))]
 pub(crate) fn read_digit(number: u32, text: &str) -> Result<(u32, &str), Stop<'_>>
     requires { number < 2 ^ 24 }
-    ensures parts { Tells (digit_in number (chars text.now)) (λ p. got p.0 (chars p.1.now)) result }
+    ensures parts { Tells (digit_in number (chars text.now)) with_rest result }
     ensures bound { IfOk result (λ p. p.0 < number * 16 + 16) }
     ensures shorter { IfOk result (λ p. length p.1.now < length text.now) }
     ensures fewer { IfOk result (λ p. length (chars p.1.now) < length (chars text.now)) }
@@ -29,7 +29,7 @@ pub(crate) fn read_digit(number: u32, text: &str) -> Result<(u32, &str), Stop<'_
 #[tactic(auto, unfolding(crate::specs::Reading::two_digits_in))]
 pub(crate) fn read_two_digits(number: u32, text: &str) -> Result<(u32, &str), Stop<'_>>
     requires { number < 2 ^ 16 }
-    ensures parts { Tells (two_digits_in number (chars text.now)) (λ p. got p.0 (chars p.1.now)) result }
+    ensures parts { Tells (two_digits_in number (chars text.now)) with_rest result }
     ensures bound { IfOk result (λ p. p.0 < number * 256 + 256) }
     ensures shorter { IfOk result (λ p. length p.1.now < length text.now) }
     ensures fewer { IfOk result (λ p. length (chars p.1.now) < length (chars text.now)) }
@@ -43,7 +43,7 @@ pub(crate) fn read_two_digits(number: u32, text: &str) -> Result<(u32, &str), St
 #[tactic(auto, unfolding(crate::specs::Reading::four_digits_in))]
 pub(crate) fn read_four_digits(number: u32, text: &str) -> Result<(u32, &str), Stop<'_>>
     requires { number < 2 ^ 8 }
-    ensures parts { Tells (four_digits_in number (chars text.now)) (λ p. got p.0 (chars p.1.now)) result }
+    ensures parts { Tells (four_digits_in number (chars text.now)) with_rest result }
     ensures bound { IfOk result (λ p. p.0 < number * 65536 + 65536) }
     ensures shorter { IfOk result (λ p. length p.1.now < length text.now) }
     ensures fewer { IfOk result (λ p. length (chars p.1.now) < length (chars text.now)) }
@@ -57,7 +57,7 @@ pub(crate) fn read_four_digits(number: u32, text: &str) -> Result<(u32, &str), S
 #[tactic(auto, unfolding(crate::specs::Reading::last_digit_in, uset_grammar::specs::Escape::is_above))]
 fn read_last_digit(number: u32, text: &str) -> Result<(u32, &str), Stop<'_>>
     requires { number < 2 ^ 24 }
-    ensures parts { Tells (last_digit_in number (chars text.now)) (λ p. got p.0 (chars p.1.now)) result }
+    ensures parts { Tells (last_digit_in number (chars text.now)) with_rest result }
     ensures shorter { IfOk result (λ p. length p.1.now < length text.now) }
     ensures fewer { IfOk result (λ p. length (chars p.1.now) < length (chars text.now)) }
     ensures place { IfErr result (λ stop. left_at stop ≤ length text.now) }
@@ -72,7 +72,7 @@ fn read_last_digit(number: u32, text: &str) -> Result<(u32, &str), Stop<'_>>
 /// Reads a number of six hexadecimal digits.
 #[tactic(auto, unfolding(crate::specs::Reading::six_digits_in))]
 pub(crate) fn read_six_digits(text: &str) -> Result<(u32, &str), Stop<'_>>
-    ensures parts { Tells (six_digits_in (chars text.now)) (λ p. got p.0 (chars p.1.now)) result }
+    ensures parts { Tells (six_digits_in (chars text.now)) with_rest result }
     ensures shorter { IfOk result (λ p. length p.1.now < length text.now) }
     ensures fewer { IfOk result (λ p. length (chars p.1.now) < length (chars text.now)) }
     ensures place { IfErr result (λ stop. left_at stop ≤ length text.now) }

@@ -4,9 +4,8 @@ ghost use Rattle.std.specs.Str.{chars};
 ghost use Rattle.uset_grammar.specs.Text.{Text};
 ghost use Rattle.uset_grammar.specs.Outcome.{got};
 ghost use Rattle.uset_grammar.specs.Escape.{is_hex, is_surrogate, plain};
-ghost use Rattle.uset_read.specs.Stops.{left_at, Tells};
-ghost use Rattle.uset_read.specs.Spelled.{around_seen, spelled_got, next_seen, behind_next, next_at, braced_at, digits_at, letters_at, EscapeIs, EscapeStops};
-ghost use Rattle.uset_read.specs.Reading.{later_in, number_in, first_digit_in, number_at, at_next_in, sole_in, all_in, long_escape, two_digits_in, four_digits_in};
+ghost use Rattle.uset_read.specs.Stops.{left_at, with_rest, Tells};
+ghost use Rattle.uset_read.specs.Spelled.{spelled_read, next_seen, behind_next, later_at, further_at, number_at, sole_at, all_at, number_behind_at, behind_white_at, next_at, braced_at, two_at, four_at, six_at, letters_at, EscapeIs, EscapeStops};
 
 use crate::digits::{read_digit, read_four_digits, read_six_digits, read_two_digits};
 use crate::stop::{Kind, Stop};
@@ -49,7 +48,7 @@ fn end_number<'a>(
     number: u32,
     rest: &'a str,
 ) -> Result<(u32, &'a str), Stop<'a>>
-    ensures parts { Tells (later_in (around_seen around) later (chars begin.now) number (chars rest.now)) (λ p. got p.0 (chars p.1.now)) result }
+    ensures parts { Tells (later_at around later begin.now number rest.now) with_rest result }
     ensures rest { IfOk result (λ p. p.1.now ≡ rest.now) }
     ensures place { IfErr result (λ stop. left_at stop ≤ length begin.now) }
 {
@@ -74,7 +73,7 @@ fn read_further_digits<'a>(
     text: &'a str,
 ) -> Result<(u32, &'a str), Stop<'a>>
     requires { first < 16 }
-    ensures parts { Tells (number_in (around_seen around) later (chars begin.now) 5 first (chars text.now)) (λ p. got p.0 (chars p.1.now)) result }
+    ensures parts { Tells (further_at around later begin.now first text.now) with_rest result }
     ensures within { IfOk result (λ p. length p.1.now ≤ length text.now) }
     ensures no_more { IfOk result (λ p. length (chars p.1.now) ≤ length (chars text.now)) }
     ensures place { IfErr result (λ stop. left_at stop ≤ max (length begin.now) (length text.now)) }
@@ -102,7 +101,7 @@ fn read_further_digits<'a>(
 /// Reads a number of one to six digits, behind another one or not.
 #[tactic(auto, unfolding(crate::specs::Reading::digit_in, uset_grammar::specs::Escape::is_hex))]
 fn read_number(around: Around, later: bool, text: &str) -> Result<(u32, &str), Stop<'_>>
-    ensures parts { Tells (first_digit_in (around_seen around) later (chars text.now)) (λ p. got p.0 (chars p.1.now)) result }
+    ensures parts { Tells (number_at around later text.now) with_rest result }
     ensures shorter { IfOk result (λ p. length p.1.now < length text.now) }
     ensures fewer { IfOk result (λ p. length (chars p.1.now) < length (chars text.now)) }
     ensures place { IfErr result (λ stop. left_at stop ≤ length text.now) }
@@ -119,7 +118,7 @@ fn end_sole<'a>(
     number: u32,
     rest: &'a str,
 ) -> Result<(Spelled, &'a str), Stop<'a>>
-    ensures parts { Tells (sole_in (around_seen around) (chars begin.now) number (chars rest.now)) (λ p. spelled_got p.0 p.1.now) result }
+    ensures parts { Tells (sole_at around begin.now number rest.now) spelled_read result }
     ensures rest { IfOk result (λ p. p.1.now ≡ rest.now) }
     ensures place { IfErr result (λ stop. left_at stop ≤ length begin.now) }
 {
@@ -138,7 +137,7 @@ fn end_numbers<'a>(
     more: Vec<u32>,
     rest: &'a str,
 ) -> Result<(Spelled, &'a str), Stop<'a>>
-    ensures parts { Tells (all_in (around_seen around) (chars begin.now) 0x7D (first ∷ more.items) (chars rest.now)) (λ p. spelled_got p.0 p.1.now) result }
+    ensures parts { Tells (all_at around begin.now (first ∷ more.items) rest.now) spelled_read result }
     ensures rest { IfOk result (λ p. p.1.now ≡ rest.now) }
     ensures place { IfErr result (λ stop. left_at stop ≤ length begin.now) }
 {
@@ -166,7 +165,7 @@ fn read_number_behind<'a>(
     more: &[u32],
     text: &'a str,
 ) -> Result<(u32, &'a str), Stop<'a>>
-    ensures parts { Tells (number_at (around_seen around) (chars begin.now) (first ∷ more.now) (chars text.now)) (λ p. got p.0 (chars p.1.now)) result }
+    ensures parts { Tells (number_behind_at around begin.now (first ∷ more.now) text.now) with_rest result }
     ensures shorter { IfOk result (λ p. length p.1.now < length text.now) }
     ensures fewer { IfOk result (λ p. length (chars p.1.now) < length (chars text.now)) }
     ensures place { IfErr result (λ stop. left_at stop ≤ max (length begin.now) (length text.now)) }
@@ -206,7 +205,7 @@ fn read_next_at<'a>(
     more: &[u32],
     text: &'a str,
 ) -> Result<Next<'a>, Stop<'a>>
-    ensures parts { Tells (at_next_in (around_seen around) (chars begin.now) (first ∷ more.now) (chars text.now)) next_seen result }
+    ensures parts { Tells (behind_white_at around begin.now (first ∷ more.now) text.now) next_seen result }
     ensures shorter { IfOk result (λ next. length (behind_next next) < length text.now) }
     ensures fewer { IfOk result (λ next. length (chars (behind_next next)) < length (chars text.now)) }
     ensures place { IfErr result (λ stop. left_at stop ≤ max (length begin.now) (length text.now)) }
@@ -257,7 +256,7 @@ fn read_braced<'a>(
     begin: &'a str,
     text: &'a str,
 ) -> Result<(Spelled, &'a str), Stop<'a>>
-    ensures parts { Tells (braced_at white_space.now around begin.now text.now) (λ p. spelled_got p.0 p.1.now) result }
+    ensures parts { Tells (braced_at white_space.now around begin.now text.now) spelled_read result }
     ensures shorter { IfOk result (λ p. length p.1.now < length text.now) }
     ensures fewer { IfOk result (λ p. length (chars p.1.now) < length (chars text.now)) }
     ensures place { IfErr result (λ stop. left_at stop ≤ max (length begin.now) (length text.now)) }
@@ -285,7 +284,7 @@ fn read_two<'a>(
     begin: &'a str,
     text: &'a str,
 ) -> Result<(Spelled, &'a str), Stop<'a>>
-    ensures parts { Tells (digits_at white_space.now around begin.now two_digits_in text.now) (λ p. spelled_got p.0 p.1.now) result }
+    ensures parts { Tells (two_at white_space.now around begin.now text.now) spelled_read result }
     ensures shorter { IfOk result (λ p. length p.1.now < length text.now) }
     ensures place { IfErr result (λ stop. left_at stop ≤ max (length begin.now) (length text.now)) }
 {
@@ -305,7 +304,7 @@ fn read_four<'a>(
     begin: &'a str,
     text: &'a str,
 ) -> Result<(Spelled, &'a str), Stop<'a>>
-    ensures parts { Tells (digits_at white_space.now around begin.now four_digits_in text.now) (λ p. spelled_got p.0 p.1.now) result }
+    ensures parts { Tells (four_at white_space.now around begin.now text.now) spelled_read result }
     ensures shorter { IfOk result (λ p. length p.1.now < length text.now) }
     ensures place { IfErr result (λ stop. left_at stop ≤ max (length begin.now) (length text.now)) }
 {
@@ -324,7 +323,7 @@ fn read_six<'a>(
     begin: &'a str,
     text: &'a str,
 ) -> Result<(Spelled, &'a str), Stop<'a>>
-    ensures parts { Tells (long_escape (around_seen around) (chars begin.now) (chars text.now)) (λ p. spelled_got p.0 p.1.now) result }
+    ensures parts { Tells (six_at around begin.now text.now) spelled_read result }
     ensures shorter { IfOk result (λ p. length p.1.now < length text.now) }
     ensures place { IfErr result (λ stop. left_at stop ≤ max (length begin.now) (length text.now)) }
 {
@@ -358,7 +357,7 @@ pub(crate) fn read_letter<'a>(
     begin: &'a str,
     text: &'a str,
 ) -> Result<(Spelled, &'a str), Stop<'a>>
-    ensures parts { Tells (letters_at white_space.now around begin.now text.now) (λ p. spelled_got p.0 p.1.now) result }
+    ensures parts { Tells (letters_at white_space.now around begin.now text.now) spelled_read result }
     ensures shorter { IfOk result (λ p. length p.1.now < length text.now) }
     ensures place { IfErr result (λ stop. left_at stop ≤ max (length begin.now) (length text.now)) }
 {

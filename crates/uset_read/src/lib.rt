@@ -1,4 +1,5 @@
-//! Readers of the units of UnicodeSet patterns (UTS 35, Unicode Sets): text in, units out, with no knowledge of brackets.
+//! Readers of the units of UnicodeSet patterns (UTS 35, Unicode Sets): text in, units out, with no
+//! knowledge of brackets.
 #![tactic(auto)]
 
 mod braced_string;

@@ -5,9 +5,9 @@ ghost use Rattle.std.specs.String.{string_bytes};
 ghost use Rattle.cp_invlist.specs.InversionList.{contains};
 ghost use Rattle.uset_grammar.specs.Outcome.{got};
 ghost use Rattle.uset_grammar.specs.Property.{mark};
-ghost use Rattle.uset_read.specs.Stops.{left_at, Tells};
+ghost use Rattle.uset_read.specs.Stops.{left_at, with_rest, Tells};
 ghost use Rattle.uset_read.specs.Pieces.{Appended};
-ghost use Rattle.uset_read.specs.Queries.{form_seen, query_seen, is_nothing, caret_in, posix_front_in, perl_front_in, front_in, key_part, key_at, value_at, with_value_at, query_at, close_in, PropertyIs, PropertyStops};
+ghost use Rattle.uset_read.specs.Queries.{form_seen, key_read, value_read, query_read, is_nothing, caret_in, posix_front_in, perl_front_in, front_in, key_part, key_at, value_at, with_value_at, query_at, close_in, PropertyIs, PropertyStops};
 
 use crate::stop::{Kind, Stop};
 use crate::text::{push_char, read_char, split_first, take_first};
@@ -77,7 +77,7 @@ fn is_nothing(text: &str) -> bool
 
 /// Reads what stands behind the bracket in front of a property. The answer is true where a `^` does.
 fn read_posix_front(text: &str) -> Result<(bool, &str), Stop<'_>>
-    ensures parts { Tells (posix_front_in (chars text.now)) (λ p. got p.0 (chars p.1.now)) result }
+    ensures parts { Tells (posix_front_in (chars text.now)) with_rest result }
     ensures place { IfErr result (λ stop. left_at stop ≤ length text.now) }
     ensures shorter { IfOk result (λ p. length p.1.now < length text.now) }
 {
@@ -90,7 +90,7 @@ fn read_posix_front(text: &str) -> Result<(bool, &str), Stop<'_>>
 
 /// Reads what stands behind the backslash in front of a property. The answer is true where it is a `P`.
 fn read_perl_front(text: &str) -> Result<(bool, &str), Stop<'_>>
-    ensures parts { Tells (perl_front_in (chars text.now)) (λ p. got p.0 (chars p.1.now)) result }
+    ensures parts { Tells (perl_front_in (chars text.now)) with_rest result }
     ensures place { IfErr result (λ stop. left_at stop ≤ length text.now) }
     ensures shorter { IfOk result (λ p. length p.1.now < length text.now) }
 {
@@ -143,7 +143,7 @@ fn read_key<'a>(
     form: Form,
     text: &'a str,
 ) -> Result<(String, Sign, &'a str), Stop<'a>>
-    ensures parts { Tells (key_at white_space.now form text.now) (λ p. got (chars (string_bytes p.0), p.1) (chars p.2.now)) result }
+    ensures parts { Tells (key_at white_space.now form text.now) key_read result }
     ensures place { IfErr result (λ stop. left_at stop ≤ length text.now) }
     ensures within { IfOk result (λ p. length p.2.now ≤ length text.now) }
 {
@@ -168,7 +168,7 @@ fn read_value<'a>(
     form: Form,
     text: &'a str,
 ) -> Result<(String, &'a str), Stop<'a>>
-    ensures parts { Tells (value_at white_space.now form text.now) (λ p. got (chars (string_bytes p.0)) (chars p.1.now)) result }
+    ensures parts { Tells (value_at white_space.now form text.now) value_read result }
     ensures place { IfErr result (λ stop. left_at stop ≤ length text.now) }
     ensures within { IfOk result (λ p. length p.1.now ≤ length text.now) }
 {
@@ -198,7 +198,7 @@ fn read_valued<'a>(
     key: String,
     text: &'a str,
 ) -> Result<(Query, &'a str), Stop<'a>>
-    ensures parts { Tells (with_value_at white_space.now form negated (string_bytes key) text.now) (λ p. got (query_seen p.0) (chars p.1.now)) result }
+    ensures parts { Tells (with_value_at white_space.now form negated (string_bytes key) text.now) query_read result }
     ensures place { IfErr result (λ stop. left_at stop ≤ length text.now) }
     ensures within { IfOk result (λ p. length p.1.now ≤ length text.now) }
 {
@@ -220,7 +220,7 @@ fn read_inner<'a>(
     negated: bool,
     text: &'a str,
 ) -> Result<(Query, &'a str), Stop<'a>>
-    ensures parts { Tells (query_at white_space.now form negated text.now) (λ p. got (query_seen p.0) (chars p.1.now)) result }
+    ensures parts { Tells (query_at white_space.now form negated text.now) query_read result }
     ensures place { IfErr result (λ stop. left_at stop ≤ length text.now) }
     ensures within { IfOk result (λ p. length p.1.now ≤ length text.now) }
 {

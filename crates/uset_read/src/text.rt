@@ -1,5 +1,5 @@
 //! What stands in front of a text.
-ghost use Rattle.std.specs.Prelude.{◌≡◌, ◌<◌, ◌≤◌, ◌∷◌, ◌++◌, [], encode_utf8, length, IfSome, IfErr, IfOk, MatchOption, MatchResult};
+ghost use Rattle.std.specs.Prelude.{◌≡◌, ◌<◌, ◌≤◌, ◌∷◌, ◌++◌, [], encode_utf8, length, IfSome, IfErr, IfOk, MatchOption};
 ghost use Rattle.std.specs.Str.{chars};
 ghost use Rattle.std.specs.String.{string_bytes};
 ghost use Rattle.cp_invlist.specs.InversionList.{contains};
@@ -27,7 +27,8 @@ pub(crate) fn split_first(text: &str) -> Option<(char, &str)>
 
 /// The first character, and the text behind it, where the text hasn't ended.
 pub(crate) fn take_first(text: &str) -> Result<(char, &str), Stop<'_>>
-    ensures parts { MatchResult result (λ p. chars text.now ≡ p.0 ∷ chars p.1.now) (λ stop. (stop ≡ IsEnded) × (chars text.now ≡ [])) }
+    ensures parts { IfOk result (λ p. chars text.now ≡ p.0 ∷ chars p.1.now) }
+    ensures ended { IfErr result (λ stop. (stop ≡ IsEnded) × (chars text.now ≡ [])) }
     ensures place { IfErr result (λ stop. left_at stop ≡ 0) }
     ensures shorter { IfOk result (λ p. length p.1.now < length text.now) }
     ensures fewer { IfOk result (λ p. length (chars p.1.now) < length (chars text.now)) }
