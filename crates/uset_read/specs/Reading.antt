@@ -93,6 +93,7 @@ abbrev pub char_in : ℕ → Text → Outcome (Unit {0})
 char_in due [] = ended
 char_in due (c ∷ t) = if c == due then got tt t else faulty (unexpected c) (c ∷ t)
 
+-- a zero
 abbrev pub zero_in : Text → Outcome (Unit {0})
 zero_in t = char_in (code "0") t
 
