@@ -247,11 +247,11 @@ module _ (white_space : ℕ → Bool) where
   completes_law h p (bracket n) = (0x5D ∷ [], n, refl)
 
   module _ (resolves lacks : Query → Bool) where
-    abbrev mark_slip : Text → Query → Slip
+    abbrev pub mark_slip : Text → Query → Slip
     mark_slip p n = if resolves n then None else Some (unresolved white_space resolves lacks n, p)
 
     -- an end mark slips where what it ends resolves to nothing
-    abbrev slip_by : Text → Next State Query → Slip
+    abbrev pub slip_by : Text → Next State Query → Slip
     slip_by p (goes start) = None
     slip_by p (goes colon) = None
     slip_by p (goes caret_due) = None
@@ -263,7 +263,7 @@ module _ (white_space : ℕ → Bool) where
     slip_by p (whole n) = mark_slip p n
     slip_by p refuses = None
 
-    abbrev slip : Text → State → ℕ → Slip
+    abbrev pub slip : Text → State → ℕ → Slip
     slip p start c = None
     slip p colon c = None
     slip p caret_due c = slip_by p (next p caret_due c)

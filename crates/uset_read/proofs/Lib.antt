@@ -10,3 +10,5 @@ pub mod StringReading
 pub mod StringRead
 pub mod FirstCharacter
 pub mod NameParts
+pub mod PropertyReading
+pub mod PropertyRead

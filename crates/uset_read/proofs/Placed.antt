@@ -2,7 +2,7 @@
 use Rattle.std.proofs.Common.{◌≡◌, ◌++◌, refl, sym, subst, ap, ◌∙◌}
 use Rattle.std.specs.Str.{chars}
 use Rattle.uset_grammar.specs.Text.{Text}
-use Rattle.uset_grammar.specs.Outcome.{Outcome, got, faulty, ended}
+use Rattle.uset_grammar.specs.Outcome.{Kind, Outcome, got, faulty, ended}
 use Rattle.uset_read.specs.declared.stop.Stop.{Stop}
 use Rattle.uset_read.specs.declared.stop.Stop.TheVariants.{Fault, Ended, NoMemory}
 use Rattle.uset_read.specs.Stops.{Stops, kind_seen}
@@ -25,15 +25,18 @@ module _ {V : Type 0} (q : Text) where
   placed_end ended (faulty k b) h e = absurd h
   placed_end ended ended h e = refl
 
+  pub placed_fault : (o u : Outcome V) (k : Kind) (r : Text) → Placed q o u → o ≡ faulty k r → (b : Text) × (q ≡ b ++ r) × (u ≡ faulty k b)
+  placed_fault (got w s) u k r h e = absurd (let g : got w s ≡ faulty k r = e in cc)
+  placed_fault (faulty l s) (got w t) k r h e = absurd h
+  placed_fault (faulty l s) (faulty m b) k r h e =
+      let g : ◌≡◌ {A = Outcome V} (faulty l s) (faulty k r) = e in
+      let same : l ≡ k = cc in
+      let there : s ≡ r = cc in
+      (b, h.1 ∙ ap (λ z. b ++ z) there, ap (λ z. faulty z b) (sym h.0 ∙ same))
+  placed_fault (faulty l s) ended k r h e = absurd h
+  placed_fault ended u k r h e = absurd (let g : ◌≡◌ {A = Outcome V} ended (faulty k r) = e in cc)
+
   pub placed_stops : (Is : Outcome V → Type 0) (o u : Outcome V) (stop : Stop) → Placed q o u → Is u → Stops o stop → StopsAt Is q stop
-  placed_stops Is (got w s) u (Fault kind rest) h is e = absurd (let g : got w s ≡ faulty (kind_seen kind) (chars rest.now) = e in cc)
-  placed_stops Is (faulty k s) (got w t) (Fault kind rest) h is e = absurd h
-  placed_stops Is (faulty k s) (faulty l b) (Fault kind rest) h is e =
-      let g : ◌≡◌ {A = Outcome V} (faulty k s) (faulty (kind_seen kind) (chars rest.now)) = e in
-      let same : k ≡ kind_seen kind = cc in
-      let there : s ≡ chars rest.now = cc in
-      (b, h.1 ∙ ap (λ z. b ++ z) there, subst (λ z. Is (faulty z b)) (sym h.0 ∙ same) is)
-  placed_stops Is (faulty k s) ended (Fault kind rest) h is e = absurd h
-  placed_stops Is ended u (Fault kind rest) h is e = absurd (let g : ◌≡◌ {A = Outcome V} ended (faulty (kind_seen kind) (chars rest.now)) = e in cc)
+  placed_stops Is o u (Fault kind rest) h is e = let f = placed_fault o u (kind_seen kind) (chars rest.now) h e in (f.0, f.1, subst Is f.2 is)
   placed_stops Is o u Ended h is e = subst Is (placed_end o u h e) is
   placed_stops Is o u NoMemory h is e = tt

@@ -5,3 +5,4 @@ pub mod UnitRead
 pub mod Cursors
 pub mod Pieces
 pub mod Names
+pub mod Queries

@@ -1,6 +1,7 @@
 -- What the reader of strings in braces does with one piece, and with all.
-use Rattle.std.specs.Prelude.{◌≡◌, ◌≤◌, length, ℕ, zero, suc, Bool, List, [], ◌∷◌, ◌++◌, Option, Some, None, if◌then◌else◌}
+use Rattle.std.specs.Prelude.{◌≡◌, ◌≤◌, length, ℕ, zero, suc, Bool, true, String, List, [], ◌∷◌, ◌++◌, Option, Some, None, if◌then◌else◌}
 use Rattle.std.specs.Str.{chars}
+use Rattle.std.specs.String.{string_bytes}
 use Prim.Native.Char.{code}
 use Rattle.cp_invlist.specs.InversionList.{contains}
 use Rattle.uset_grammar.specs.Text.{Text, ◌∈◌}
@@ -48,7 +49,8 @@ pieces_in white_space (suc most) read [] = ended
 pieces_in white_space (suc most) read (c ∷ t) =
     if c ∈ "}" then got read t
     else if white_space c then pieces_in white_space most read t
-    else if c ∈ "\\" then and_then (letters_in white_space in_string (c ∷ t) t) (λ s u. pieces_in white_space most (read ++ s ∷ []) u)
+    else if c ∈ "\\"
+    then and_then (letters_in white_space in_string (c ∷ t) t) (λ s u. pieces_in white_space most (read ++ s ∷ []) u)
     else pieces_in white_space most (read ++ itself c ∷ []) t
 
 -- The string has the characters of the pieces of the text, and they and the closing brace come before the rest.
@@ -62,14 +64,16 @@ pub record PiecesAre (white_space text string rest : List ℕ) : Type 0 where
 abbrev pub PiecesStop : List ℕ → List ℕ → Stop → Type 0
 PiecesStop white_space text stop =
     Apart (contains white_space) →
-    Stops (pieces_in (contains white_space) (suc (length text)) [] (chars text)) stop × (length (chars text) ≤ length text)
+    Stops (pieces_in (contains white_space) (suc (length text)) [] (chars text)) stop
+    × (length (chars text) ≤ length text)
 
--- The string was read at the front of the text, which begins with an opening brace: its characters are those of the pieces there, and
--- the rest stands behind it.
+-- The string was read at the front of the text, which begins with an opening brace: its characters are those of the
+-- pieces there, and the rest stands behind it.
 abbrev pub StringIs : List ℕ → List ℕ → List ℕ → List ℕ → Type 0
 StringIs white_space text string rest =
     Apart (contains white_space) → (inner : Text) → chars text ≡ code "{" ∷ inner →
-    (pieces : List Spelled) × StringOutcome (contains white_space) (chars text) (got pieces (chars rest)) × (chars string ≡ text_of pieces)
+    (pieces : List Spelled) × StringOutcome (contains white_space) (chars text) (got pieces (chars rest))
+    × (chars string ≡ text_of pieces)
 
 -- The string there has the fault, with the place, or is not ended, as it says.
 abbrev pub StringStops : List ℕ → List ℕ → Stop → Type 0
@@ -80,3 +84,7 @@ StringStops white_space text stop =
 -- the string has these characters more
 abbrev pub Appended : List ℕ → List ℕ → Text → Type 0
 Appended old new more = chars new ≡ chars old ++ more
+
+-- the same, where the answer is true
+abbrev pub Pushed : {Z : Type 0} → Bool → String Z → String Z → Text → Type 0
+Pushed pushed old new more = pushed ≡ true → Appended (string_bytes old) (string_bytes new) more

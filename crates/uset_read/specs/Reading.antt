@@ -1,5 +1,5 @@
--- What the reader of escapes does, part by part: each part reads in front of a text, and says what it read and the rest, or where it
--- stopped: at a rest, or at the end of the text.
+-- What the reader of escapes does, part by part: each part reads in front of a text, and says what it read and the
+-- rest, or where it stopped: at a rest, or at the end of the text.
 use Rattle.std.specs.Prelude.{ℕ, zero, suc, ◌+◌, ◌*◌, ◌-◌, Bool, true, false, ◌==◌, length, List, [], ◌∷◌, ◌++◌, Option, Some, None, if◌then◌else◌}
 use Rattle.std.specs.Char.{digit_value}
 use Prim.Native.Char.{code}
@@ -54,13 +54,15 @@ abbrev pub number_in : Around → Bool → Text → ℕ → ℕ → Text → Out
 number_in a later begin left n [] = ended
 number_in a later begin left n (c ∷ t) =
     if is_hex c
-    then (if left == 1 then sixth_in a later begin (n * 16 + digit_value c) (c ∷ t) t else number_in a later begin (left - 1) (n * 16 + digit_value c) t)
+    then (if left == 1 then sixth_in a later begin (n * 16 + digit_value c) (c ∷ t) t
+    else number_in a later begin (left - 1) (n * 16 + digit_value c) t)
     else later_in a later begin n (c ∷ t)
 
 -- a number that begins there
 abbrev pub first_digit_in : Around → Bool → Text → Outcome ℕ
 first_digit_in a later [] = ended
-first_digit_in a later (c ∷ t) = if is_hex c then number_in a later (c ∷ t) 5 (digit_value c) t else faulty (unexpected c) (c ∷ t)
+first_digit_in a later (c ∷ t) =
+    if is_hex c then number_in a later (c ∷ t) 5 (digit_value c) t else faulty (unexpected c) (c ∷ t)
 
 -- the numbers of an escape that begins there, at its closing brace
 abbrev pub all_in : Around → Text → ℕ → List ℕ → Text → Outcome Spelled
@@ -83,12 +85,17 @@ is_later (n ∷ ns) = true
 abbrev pub number_at : Around → Text → List ℕ → Text → Outcome ℕ
 number_at a begin ns [] = ended
 number_at a begin ns (c ∷ t) =
-    if is_hex c then second_in a begin ns (number_in a (is_later ns) (c ∷ t) 5 (digit_value c) t) else faulty (unexpected c) (c ∷ t)
+    if is_hex c then second_in a begin ns (number_in a (is_later ns) (c ∷ t) 5 (digit_value c) t)
+    else faulty (unexpected c) (c ∷ t)
+
+-- this character
+abbrev pub char_in : ℕ → Text → Outcome (Unit {0})
+char_in due [] = ended
+char_in due (c ∷ t) = if c == due then got tt t else faulty (unexpected c) (c ∷ t)
 
 -- a zero
 abbrev pub zero_in : Text → Outcome (Unit {0})
-zero_in [] = ended
-zero_in (c ∷ t) = if c ∈ "0" then got tt t else faulty (unexpected c) (c ∷ t)
+zero_in t = char_in (code "0") t
 
 -- two zeros and six digits
 abbrev pub long_escape : Around → Text → Text → Outcome Spelled
@@ -98,7 +105,8 @@ long_escape a begin t =
 -- the closing brace, or a number behind those
 abbrev pub at_next_in : Around → Text → List ℕ → Text → Outcome (Option ℕ)
 at_next_in a begin ns [] = ended
-at_next_in a begin ns (c ∷ t) = if c ∈ "}" then got None t else and_then (number_at a begin ns (c ∷ t)) (λ n. got (Some n))
+at_next_in a begin ns (c ∷ t) =
+    if c ∈ "}" then got None t else and_then (number_at a begin ns (c ∷ t)) (λ n. got (Some n))
 
 module _ (white_space : ℕ → Bool) (a : Around) (begin : Text) where
   -- the closing brace, or white space and what stands behind it

@@ -1,5 +1,6 @@
 -- Where an escape stands and what it spells, as the code keeps them.
-use Rattle.std.specs.Prelude.{◌≡◌, ℕ, List, ◌∷◌, Option, Some, None}
+use Rattle.std.specs.Prelude.{◌≡◌, ℕ, Bool, List, ◌∷◌, Option, Some, None}
+use Rattle.std.specs.Borrow.{Bor}
 use Rattle.std.specs.Str.{chars}
 use Prim.Native.Char.{code}
 use Rattle.cp_invlist.specs.InversionList.{contains}
@@ -9,7 +10,7 @@ use Rattle.uset_grammar.specs.Escape.{Apart, Spelled, itself, numbers, codes_of}
 use Rattle.uset_grammar.specs.EscapeSlips.{Around, in_string, in_bracket, EscapeOutcome}
 use Rattle.uset_read.specs.declared.stop.Stop.{Stop}
 use Rattle.uset_read.specs.UnitRead.{StopsAt}
-use Rattle.uset_read.specs.Reading.{next_in, braced_in, brace_or, letters_in}
+use Rattle.uset_read.specs.Reading.{later_in, number_in, first_digit_in, number_at as number_behind, at_next_in, sole_in, all_in, two_digits_in, four_digits_in, long_escape, next_in, braced_in, brace_or, letters_in}
 use Rattle.uset_read.specs.declared.escape.Around.{Around as CodeAround}
 use Rattle.uset_read.specs.declared.escape.Around.TheVariants.{String, Bracket}
 use Rattle.uset_read.specs.declared.escape.Spelled.{Spelled as CodeSpelled}
@@ -40,25 +41,59 @@ behind_next (Closed rest) = rest.now
 behind_next (Number n rest) = rest.now
 
 -- the escape that was read, and what stands behind it
-abbrev pub spelled_got : CodeSpelled → List ℕ → Outcome Spelled
-spelled_got spelled rest = got (spelled_seen spelled) (chars rest)
+abbrev pub spelled_read : CodeSpelled × Bor (List ℕ) → Outcome Spelled
+spelled_read p = got (spelled_seen p.0) (chars p.1.now)
 
--- The parts of the reader over the bytes that the code holds: the list of the white space, where the escape stands, the text that
--- begins with it, and the text of the part.
+-- The parts of the reader over the bytes that the code holds: the list of the white space, where the escape stands, the
+-- text that begins with it, and the text of the part.
 abbrev pub next_at : List ℕ → CodeAround → List ℕ → List ℕ → List ℕ → Outcome (Option ℕ)
-next_at white_space around begin ns text = next_in (contains white_space) (around_seen around) (chars begin) ns (chars text)
+next_at white_space around begin ns text =
+    next_in (contains white_space) (around_seen around) (chars begin) ns (chars text)
 
 abbrev pub braced_at : List ℕ → CodeAround → List ℕ → List ℕ → Outcome Spelled
-braced_at white_space around begin text = braced_in (contains white_space) (around_seen around) (chars begin) (chars text)
+braced_at white_space around begin text =
+    braced_in (contains white_space) (around_seen around) (chars begin) (chars text)
+
+abbrev pub later_at : CodeAround → Bool → List ℕ → ℕ → List ℕ → Outcome ℕ
+later_at around later begin number rest = later_in (around_seen around) later (chars begin) number (chars rest)
+
+abbrev pub further_at : CodeAround → Bool → List ℕ → ℕ → List ℕ → Outcome ℕ
+further_at around later begin first text = number_in (around_seen around) later (chars begin) 5 first (chars text)
+
+abbrev pub number_at : CodeAround → Bool → List ℕ → Outcome ℕ
+number_at around later text = first_digit_in (around_seen around) later (chars text)
+
+abbrev pub sole_at : CodeAround → List ℕ → ℕ → List ℕ → Outcome Spelled
+sole_at around begin number rest = sole_in (around_seen around) (chars begin) number (chars rest)
+
+abbrev pub all_at : CodeAround → List ℕ → List ℕ → List ℕ → Outcome Spelled
+all_at around begin ns rest = all_in (around_seen around) (chars begin) (code "}") ns (chars rest)
+
+abbrev pub number_behind_at : CodeAround → List ℕ → List ℕ → List ℕ → Outcome ℕ
+number_behind_at around begin ns text = number_behind (around_seen around) (chars begin) ns (chars text)
+
+abbrev pub behind_white_at : CodeAround → List ℕ → List ℕ → List ℕ → Outcome (Option ℕ)
+behind_white_at around begin ns text = at_next_in (around_seen around) (chars begin) ns (chars text)
 
 abbrev pub digits_at : List ℕ → CodeAround → List ℕ → (ℕ → Text → Outcome ℕ) → List ℕ → Outcome Spelled
-digits_at white_space around begin digits text = brace_or (contains white_space) (around_seen around) (chars begin) digits (chars text)
+digits_at white_space around begin digits text =
+    brace_or (contains white_space) (around_seen around) (chars begin) digits (chars text)
+
+abbrev pub two_at : List ℕ → CodeAround → List ℕ → List ℕ → Outcome Spelled
+two_at white_space around begin text = digits_at white_space around begin two_digits_in text
+
+abbrev pub four_at : List ℕ → CodeAround → List ℕ → List ℕ → Outcome Spelled
+four_at white_space around begin text = digits_at white_space around begin four_digits_in text
+
+abbrev pub six_at : CodeAround → List ℕ → List ℕ → Outcome Spelled
+six_at around begin text = long_escape (around_seen around) (chars begin) (chars text)
 
 abbrev pub letters_at : List ℕ → CodeAround → List ℕ → List ℕ → Outcome Spelled
-letters_at white_space around begin text = letters_in (contains white_space) (around_seen around) (chars begin) (chars text)
+letters_at white_space around begin text =
+    letters_in (contains white_space) (around_seen around) (chars begin) (chars text)
 
--- What was read at the front of these bytes, under this white space, is the escape there and what stands behind it, where white
--- space is apart from the characters of escapes and a backslash is in front.
+-- What was read at the front of these bytes, under this white space, is the escape there and what stands behind it,
+-- where white space is apart from the characters of escapes and a backslash is in front.
 abbrev pub EscapeIs : List ℕ → CodeAround → List ℕ → CodeSpelled → List ℕ → Type 0
 EscapeIs white_space around text spelled rest =
     Apart (contains white_space) → (inner : Text) → chars text ≡ code "\\" ∷ inner →

@@ -6,12 +6,12 @@ ghost use Rattle.std.specs.String.{string_bytes};
 ghost use Rattle.cp_invlist.specs.InversionList.{contains};
 ghost use Rattle.uset_grammar.specs.EscapeSlips.{in_string, allowed};
 ghost use Rattle.uset_read.specs.Spelled.{spelled_codes, spelled_seen};
-ghost use Rattle.uset_read.specs.Stops.{Tells};
-ghost use Rattle.uset_read.specs.Pieces.{Appended, is_character, piece_in, piece_seen, behind_piece, PiecesAre, PiecesStop, StringIs, StringStops};
+ghost use Rattle.uset_read.specs.Stops.{left_at, Tells};
+ghost use Rattle.uset_read.specs.Pieces.{Pushed, is_character, piece_in, piece_seen, behind_piece, PiecesAre, PiecesStop, StringIs, StringStops};
 
 use crate::escape::{Around, Spelled, read_letter};
 use crate::stop::{Kind, Stop};
-use crate::text::take_first;
+use crate::text::{push_char, take_first};
 use cp_invlist::{CodePointInversionList, NoMemory};
 use std::alloc::Global;
 
@@ -34,6 +34,7 @@ fn read_piece<'a>(
 ) -> Result<Piece<'a>, Stop<'a>>
     ensures parts { Tells (piece_in (contains white_space.now) (chars text.now)) piece_seen result }
     ensures shorter { IfOk result (λ piece. length (behind_piece piece) < length text.now) }
+    ensures place { IfErr result (λ stop. left_at stop ≤ length text.now) }
 {
     let (c, behind) = take_first(text)?;
     if c == '}' {
@@ -53,11 +54,11 @@ fn read_piece<'a>(
 #[tactic(auto, unfolding(uset_grammar::specs::Escape::is_above, uset_grammar::specs::Escape::is_surrogate))]
 fn push_number(string: &mut String, number: u32) -> Result<bool, NoMemory>
     ensures character { IfOk result (λ pushed. pushed ≡ is_character number) }
-    ensures appended { IfOk result (λ pushed. pushed ≡ true → Appended (string_bytes string.old) (string_bytes string.new) (number ∷ [])) }
+    ensures appended { IfOk result (λ pushed. Pushed pushed string.old string.new (number ∷ [])) }
 {
     match char::from_u32(number) {
         Some(c) => {
-            string.push(c)?;
+            push_char(string, c)?;
             Ok(true)
         }
         None => Ok(false),
@@ -67,7 +68,7 @@ fn push_number(string: &mut String, number: u32) -> Result<bool, NoMemory>
 /// Appends the characters of the numbers. The answer is false where one of them is no character's.
 fn push_numbers(string: &mut String, first: u32, more: &[u32]) -> Result<bool, NoMemory>
     ensures characters { IfOk result (λ pushed. pushed ≡ list_all is_character (first ∷ more.now)) }
-    ensures appended { IfOk result (λ pushed. pushed ≡ true → Appended (string_bytes string.old) (string_bytes string.new) (first ∷ more.now)) }
+    ensures appended { IfOk result (λ pushed. Pushed pushed string.old string.new (first ∷ more.now)) }
 {
     if !push_number(string, first)? {
         return Ok(false);
@@ -83,11 +84,11 @@ fn push_numbers(string: &mut String, first: u32, more: &[u32]) -> Result<bool, N
 /// Appends what an escape or a character spells. The answer is false where a number is no character's.
 fn push_spelled(string: &mut String, spelled: &Spelled) -> Result<bool, NoMemory>
     ensures characters { IfOk result (λ pushed. pushed ≡ allowed in_string (spelled_seen spelled.now)) }
-    ensures appended { IfOk result (λ pushed. pushed ≡ true → Appended (string_bytes string.old) (string_bytes string.new) (spelled_codes spelled.now)) }
+    ensures appended { IfOk result (λ pushed. Pushed pushed string.old string.new (spelled_codes spelled.now)) }
 {
     match spelled {
         Spelled::Itself(c) => {
-            string.push(*c)?;
+            push_char(string, *c)?;
             Ok(true)
         }
         Spelled::Numbers(first, more) => push_numbers(string, *first, more),
@@ -103,6 +104,7 @@ fn read_pieces<'a>(
     ensures read { IfOk result (λ p. PiecesAre white_space.now text.now (string_bytes p.0) p.1.now) }
     ensures stopped { IfErr result (PiecesStop white_space.now text.now) }
     ensures within { IfOk result (λ p. length p.1.now ≤ length text.now) }
+    ensures place { IfErr result (λ stop. left_at stop ≤ length text.now) }
 {
     let mut string = String::new(alloc);
     let mut rest = text;
@@ -129,6 +131,7 @@ pub fn read_string<'a>(
     ensures read { IfOk result (λ p. StringIs white_space.now text.now (string_bytes p.0) p.1.now) }
     ensures stopped { IfErr result (StringStops white_space.now text.now) }
     ensures shorter { IfOk result (λ p. length p.1.now < length text.now) }
+    ensures place { IfErr result (λ stop. left_at stop ≤ length text.now) }
 {
     let (_, inner) = take_first(text)?;
     read_pieces(alloc, white_space, inner)

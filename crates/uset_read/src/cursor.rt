@@ -1,8 +1,6 @@
 //! A place in a source.
-ghost use Rattle.std.specs.Prelude.{◌≡◌, ◌≤◌, ◌+◌, ◌++◌, length, encode_utf8_all};
+ghost use Rattle.std.specs.Prelude.{◌≡◌, ◌≤◌, ◌+◌, length, encode_utf8_all};
 ghost use Rattle.std.specs.Str.{chars};
-ghost use Rattle.uset_grammar.specs.Text.{Text};
-ghost use Rattle.uset_grammar.specs.Place.{size};
 
 /// A source, and what is left of it to read.
 #[derive(Clone, Copy, Drop)]
@@ -15,7 +13,7 @@ pub struct Cursor<'a> {
 }
 
 impl<'a> Cursor<'a> {
-    ghost use Rattle.uset_read.specs.Cursors.{source_of, left_of};
+    ghost use Rattle.uset_read.specs.Cursors.{source_of, left_of, IsPlace};
 
     /// The cursor in front of the whole source.
     pub fn new(source: &'a str) -> Cursor<'a>
@@ -50,7 +48,7 @@ impl<'a> Cursor<'a> {
     /// The number of bytes of the source before what is left.
     pub fn offset(&self) -> usize
         ensures bytes { result + length (left_of self.now) ≡ length (source_of self.now) }
-        ensures place { (before : Text) → chars (source_of self.now) ≡ before ++ chars (left_of self.now) → result ≡ size before }
+        ensures place { IsPlace result self.now }
     {
         self.source.len() - self.rest.len()
     }

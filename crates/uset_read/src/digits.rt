@@ -1,8 +1,8 @@
 //! Numbers in hexadecimal digits.
-ghost use Rattle.std.specs.Prelude.{◌<◌, ◌*◌, ◌+◌, ◌^◌, ◌≡◌, length, IfOk};
+ghost use Rattle.std.specs.Prelude.{◌<◌, ◌≤◌, ◌*◌, ◌+◌, ◌^◌, ◌≡◌, length, IfErr, IfOk};
 ghost use Rattle.std.specs.Str.{chars};
 ghost use Rattle.uset_grammar.specs.Outcome.{got};
-ghost use Rattle.uset_read.specs.Stops.{Tells};
+ghost use Rattle.uset_read.specs.Stops.{left_at, with_rest, Tells};
 ghost use Rattle.uset_read.specs.Reading.{digit_in, two_digits_in, four_digits_in, last_digit_in, six_digits_in};
 
 use crate::stop::{Kind, Stop};
@@ -12,10 +12,11 @@ use crate::text::take_first;
 #[tactic(auto, unfolding(crate::specs::Reading::digit_in, uset_grammar::specs::Escape::is_hex))]
 pub(crate) fn read_digit(number: u32, text: &str) -> Result<(u32, &str), Stop<'_>>
     requires { number < 2 ^ 24 }
-    ensures parts { Tells (digit_in number (chars text.now)) (λ p. got p.0 (chars p.1.now)) result }
+    ensures parts { Tells (digit_in number (chars text.now)) with_rest result }
     ensures bound { IfOk result (λ p. p.0 < number * 16 + 16) }
     ensures shorter { IfOk result (λ p. length p.1.now < length text.now) }
     ensures fewer { IfOk result (λ p. length (chars p.1.now) < length (chars text.now)) }
+    ensures place { IfErr result (λ stop. left_at stop ≤ length text.now) }
 {
     let (first, rest) = take_first(text)?;
     match first.to_digit(16) {
@@ -28,10 +29,11 @@ pub(crate) fn read_digit(number: u32, text: &str) -> Result<(u32, &str), Stop<'_
 #[tactic(auto, unfolding(crate::specs::Reading::two_digits_in))]
 pub(crate) fn read_two_digits(number: u32, text: &str) -> Result<(u32, &str), Stop<'_>>
     requires { number < 2 ^ 16 }
-    ensures parts { Tells (two_digits_in number (chars text.now)) (λ p. got p.0 (chars p.1.now)) result }
+    ensures parts { Tells (two_digits_in number (chars text.now)) with_rest result }
     ensures bound { IfOk result (λ p. p.0 < number * 256 + 256) }
     ensures shorter { IfOk result (λ p. length p.1.now < length text.now) }
     ensures fewer { IfOk result (λ p. length (chars p.1.now) < length (chars text.now)) }
+    ensures place { IfErr result (λ stop. left_at stop ≤ length text.now) }
 {
     let (number, rest) = read_digit(number, text)?;
     read_digit(number, rest)
@@ -41,10 +43,11 @@ pub(crate) fn read_two_digits(number: u32, text: &str) -> Result<(u32, &str), St
 #[tactic(auto, unfolding(crate::specs::Reading::four_digits_in))]
 pub(crate) fn read_four_digits(number: u32, text: &str) -> Result<(u32, &str), Stop<'_>>
     requires { number < 2 ^ 8 }
-    ensures parts { Tells (four_digits_in number (chars text.now)) (λ p. got p.0 (chars p.1.now)) result }
+    ensures parts { Tells (four_digits_in number (chars text.now)) with_rest result }
     ensures bound { IfOk result (λ p. p.0 < number * 65536 + 65536) }
     ensures shorter { IfOk result (λ p. length p.1.now < length text.now) }
     ensures fewer { IfOk result (λ p. length (chars p.1.now) < length (chars text.now)) }
+    ensures place { IfErr result (λ stop. left_at stop ≤ length text.now) }
 {
     let (number, rest) = read_two_digits(number, text)?;
     read_two_digits(number, rest)
@@ -54,9 +57,10 @@ pub(crate) fn read_four_digits(number: u32, text: &str) -> Result<(u32, &str), S
 #[tactic(auto, unfolding(crate::specs::Reading::last_digit_in, uset_grammar::specs::Escape::is_above))]
 fn read_last_digit(number: u32, text: &str) -> Result<(u32, &str), Stop<'_>>
     requires { number < 2 ^ 24 }
-    ensures parts { Tells (last_digit_in number (chars text.now)) (λ p. got p.0 (chars p.1.now)) result }
+    ensures parts { Tells (last_digit_in number (chars text.now)) with_rest result }
     ensures shorter { IfOk result (λ p. length p.1.now < length text.now) }
     ensures fewer { IfOk result (λ p. length (chars p.1.now) < length (chars text.now)) }
+    ensures place { IfErr result (λ stop. left_at stop ≤ length text.now) }
 {
     let (number, rest) = read_digit(number, text)?;
     if number > 0x10_FFFF {
@@ -68,9 +72,10 @@ fn read_last_digit(number: u32, text: &str) -> Result<(u32, &str), Stop<'_>>
 /// Reads a number of six hexadecimal digits.
 #[tactic(auto, unfolding(crate::specs::Reading::six_digits_in))]
 pub(crate) fn read_six_digits(text: &str) -> Result<(u32, &str), Stop<'_>>
-    ensures parts { Tells (six_digits_in (chars text.now)) (λ p. got p.0 (chars p.1.now)) result }
+    ensures parts { Tells (six_digits_in (chars text.now)) with_rest result }
     ensures shorter { IfOk result (λ p. length p.1.now < length text.now) }
     ensures fewer { IfOk result (λ p. length (chars p.1.now) < length (chars text.now)) }
+    ensures place { IfErr result (λ stop. left_at stop ≤ length text.now) }
 {
     let (number, rest) = read_four_digits(0, text)?;
     let (number, rest) = read_digit(number, rest)?;

@@ -1,16 +1,15 @@
 //! Escapes.
-ghost use Rattle.std.specs.Prelude.{◌≡◌, ℕ, ◌<◌, ◌≤◌, ◌∷◌, [], false, true, length, IfOk, IfErr};
+ghost use Rattle.std.specs.Prelude.{◌≡◌, ℕ, ◌<◌, ◌≤◌, ◌∷◌, [], false, true, length, max, IfOk, IfErr};
 ghost use Rattle.std.specs.Str.{chars};
 ghost use Rattle.uset_grammar.specs.Text.{Text};
 ghost use Rattle.uset_grammar.specs.Outcome.{got};
 ghost use Rattle.uset_grammar.specs.Escape.{is_hex, is_surrogate, plain};
-ghost use Rattle.uset_read.specs.Stops.{Tells};
-ghost use Rattle.uset_read.specs.Spelled.{around_seen, spelled_got, next_seen, behind_next, next_at, braced_at, digits_at, letters_at, EscapeIs, EscapeStops};
-ghost use Rattle.uset_read.specs.Reading.{later_in, number_in, first_digit_in, number_at, at_next_in, sole_in, all_in, zero_in, long_escape, two_digits_in, four_digits_in};
+ghost use Rattle.uset_read.specs.Stops.{left_at, with_rest, Tells};
+ghost use Rattle.uset_read.specs.Spelled.{spelled_read, next_seen, behind_next, later_at, further_at, number_at, sole_at, all_at, number_behind_at, behind_white_at, next_at, braced_at, two_at, four_at, six_at, letters_at, EscapeIs, EscapeStops};
 
 use crate::digits::{read_digit, read_four_digits, read_six_digits, read_two_digits};
 use crate::stop::{Kind, Stop};
-use crate::text::{skip_white_space, take_first};
+use crate::text::{read_char, skip_white_space, take_first};
 use cp_invlist::CodePointInversionList;
 use std::alloc::Global;
 
@@ -49,8 +48,9 @@ fn end_number<'a>(
     number: u32,
     rest: &'a str,
 ) -> Result<(u32, &'a str), Stop<'a>>
-    ensures parts { Tells (later_in (around_seen around) later (chars begin.now) number (chars rest.now)) (λ p. got p.0 (chars p.1.now)) result }
+    ensures parts { Tells (later_at around later begin.now number rest.now) with_rest result }
     ensures rest { IfOk result (λ p. p.1.now ≡ rest.now) }
+    ensures place { IfErr result (λ stop. left_at stop ≤ length begin.now) }
 {
     match around {
         Around::Bracket(_) => Ok((number, rest)),
@@ -73,9 +73,10 @@ fn read_further_digits<'a>(
     text: &'a str,
 ) -> Result<(u32, &'a str), Stop<'a>>
     requires { first < 16 }
-    ensures parts { Tells (number_in (around_seen around) later (chars begin.now) 5 first (chars text.now)) (λ p. got p.0 (chars p.1.now)) result }
+    ensures parts { Tells (further_at around later begin.now first text.now) with_rest result }
     ensures within { IfOk result (λ p. length p.1.now ≤ length text.now) }
     ensures no_more { IfOk result (λ p. length (chars p.1.now) ≤ length (chars text.now)) }
+    ensures place { IfErr result (λ stop. left_at stop ≤ max (length begin.now) (length text.now)) }
 {
     let mut number = first;
     let mut rest = text;
@@ -100,9 +101,10 @@ fn read_further_digits<'a>(
 /// Reads a number of one to six digits, behind another one or not.
 #[tactic(auto, unfolding(crate::specs::Reading::digit_in, uset_grammar::specs::Escape::is_hex))]
 fn read_number(around: Around, later: bool, text: &str) -> Result<(u32, &str), Stop<'_>>
-    ensures parts { Tells (first_digit_in (around_seen around) later (chars text.now)) (λ p. got p.0 (chars p.1.now)) result }
+    ensures parts { Tells (number_at around later text.now) with_rest result }
     ensures shorter { IfOk result (λ p. length p.1.now < length text.now) }
     ensures fewer { IfOk result (λ p. length (chars p.1.now) < length (chars text.now)) }
+    ensures place { IfErr result (λ stop. left_at stop ≤ length text.now) }
 {
     let (digit, rest) = read_digit(0, text)?;
     read_further_digits(around, later, text, digit, rest)
@@ -116,8 +118,9 @@ fn end_sole<'a>(
     number: u32,
     rest: &'a str,
 ) -> Result<(Spelled, &'a str), Stop<'a>>
-    ensures parts { Tells (sole_in (around_seen around) (chars begin.now) number (chars rest.now)) (λ p. spelled_got p.0 p.1.now) result }
+    ensures parts { Tells (sole_at around begin.now number rest.now) spelled_read result }
     ensures rest { IfOk result (λ p. p.1.now ≡ rest.now) }
+    ensures place { IfErr result (λ stop. left_at stop ≤ length begin.now) }
 {
     match around {
         Around::String if is_surrogate(number) => Err(Stop::Fault(Kind::InvalidEscape, begin)),
@@ -134,8 +137,9 @@ fn end_numbers<'a>(
     more: Vec<u32>,
     rest: &'a str,
 ) -> Result<(Spelled, &'a str), Stop<'a>>
-    ensures parts { Tells (all_in (around_seen around) (chars begin.now) 0x7D (first ∷ more.items) (chars rest.now)) (λ p. spelled_got p.0 p.1.now) result }
+    ensures parts { Tells (all_at around begin.now (first ∷ more.items) rest.now) spelled_read result }
     ensures rest { IfOk result (λ p. p.1.now ≡ rest.now) }
+    ensures place { IfErr result (λ stop. left_at stop ≤ length begin.now) }
 {
     if more.is_empty() {
         return end_sole(alloc, around, begin, first, rest);
@@ -161,9 +165,10 @@ fn read_number_behind<'a>(
     more: &[u32],
     text: &'a str,
 ) -> Result<(u32, &'a str), Stop<'a>>
-    ensures parts { Tells (number_at (around_seen around) (chars begin.now) (first ∷ more.now) (chars text.now)) (λ p. got p.0 (chars p.1.now)) result }
+    ensures parts { Tells (number_behind_at around begin.now (first ∷ more.now) text.now) with_rest result }
     ensures shorter { IfOk result (λ p. length p.1.now < length text.now) }
     ensures fewer { IfOk result (λ p. length (chars p.1.now) < length (chars text.now)) }
+    ensures place { IfErr result (λ stop. left_at stop ≤ max (length begin.now) (length text.now)) }
 {
     let (c, _) = take_first(text)?;
     if more.is_empty() && is_hex(c) {
@@ -200,9 +205,10 @@ fn read_next_at<'a>(
     more: &[u32],
     text: &'a str,
 ) -> Result<Next<'a>, Stop<'a>>
-    ensures parts { Tells (at_next_in (around_seen around) (chars begin.now) (first ∷ more.now) (chars text.now)) next_seen result }
+    ensures parts { Tells (behind_white_at around begin.now (first ∷ more.now) text.now) next_seen result }
     ensures shorter { IfOk result (λ next. length (behind_next next) < length text.now) }
     ensures fewer { IfOk result (λ next. length (chars (behind_next next)) < length (chars text.now)) }
+    ensures place { IfErr result (λ stop. left_at stop ≤ max (length begin.now) (length text.now)) }
 {
     let (c, behind) = take_first(text)?;
     if c == '}' {
@@ -224,6 +230,7 @@ fn read_next<'a>(
     ensures parts { Tells (next_at white_space.now around begin.now (first ∷ more.now) text.now) next_seen result }
     ensures shorter { IfOk result (λ next. length (behind_next next) < length text.now) }
     ensures fewer { IfOk result (λ next. length (chars (behind_next next)) < length (chars text.now)) }
+    ensures place { IfErr result (λ stop. left_at stop ≤ max (length begin.now) (length text.now)) }
 {
     let (c, behind) = take_first(text)?;
     if c == '}' {
@@ -249,9 +256,10 @@ fn read_braced<'a>(
     begin: &'a str,
     text: &'a str,
 ) -> Result<(Spelled, &'a str), Stop<'a>>
-    ensures parts { Tells (braced_at white_space.now around begin.now text.now) (λ p. spelled_got p.0 p.1.now) result }
+    ensures parts { Tells (braced_at white_space.now around begin.now text.now) spelled_read result }
     ensures shorter { IfOk result (λ p. length p.1.now < length text.now) }
     ensures fewer { IfOk result (λ p. length (chars p.1.now) < length (chars text.now)) }
+    ensures place { IfErr result (λ stop. left_at stop ≤ max (length begin.now) (length text.now)) }
 {
     let (first, mut rest) = read_number(around, false, skip_white_space(white_space, text))?;
     let mut more = Vec::new(alloc);
@@ -276,8 +284,9 @@ fn read_two<'a>(
     begin: &'a str,
     text: &'a str,
 ) -> Result<(Spelled, &'a str), Stop<'a>>
-    ensures parts { Tells (digits_at white_space.now around begin.now two_digits_in text.now) (λ p. spelled_got p.0 p.1.now) result }
+    ensures parts { Tells (two_at white_space.now around begin.now text.now) spelled_read result }
     ensures shorter { IfOk result (λ p. length p.1.now < length text.now) }
+    ensures place { IfErr result (λ stop. left_at stop ≤ max (length begin.now) (length text.now)) }
 {
     let (c, inner) = take_first(text)?;
     if c == '{' {
@@ -295,8 +304,9 @@ fn read_four<'a>(
     begin: &'a str,
     text: &'a str,
 ) -> Result<(Spelled, &'a str), Stop<'a>>
-    ensures parts { Tells (digits_at white_space.now around begin.now four_digits_in text.now) (λ p. spelled_got p.0 p.1.now) result }
+    ensures parts { Tells (four_at white_space.now around begin.now text.now) spelled_read result }
     ensures shorter { IfOk result (λ p. length p.1.now < length text.now) }
+    ensures place { IfErr result (λ stop. left_at stop ≤ max (length begin.now) (length text.now)) }
 {
     let (c, inner) = take_first(text)?;
     if c == '{' {
@@ -306,19 +316,6 @@ fn read_four<'a>(
     end_sole(alloc, around, begin, number, rest)
 }
 
-/// Reads a zero.
-fn read_zero(text: &str) -> Result<&str, Stop<'_>>
-    ensures parts { Tells (zero_in (chars text.now)) (λ rest. got tt (chars rest.now)) result }
-    ensures shorter { IfOk result (λ rest. length rest.now < length text.now) }
-{
-    let (c, rest) = take_first(text)?;
-    if c == '0' {
-        Ok(rest)
-    } else {
-        Err(Stop::Fault(Kind::UnexpectedChar(c), text))
-    }
-}
-
 /// Reads what follows the `U` of an escape that begins there.
 fn read_six<'a>(
     alloc: Global,
@@ -326,10 +323,11 @@ fn read_six<'a>(
     begin: &'a str,
     text: &'a str,
 ) -> Result<(Spelled, &'a str), Stop<'a>>
-    ensures parts { Tells (long_escape (around_seen around) (chars begin.now) (chars text.now)) (λ p. spelled_got p.0 p.1.now) result }
+    ensures parts { Tells (six_at around begin.now text.now) spelled_read result }
     ensures shorter { IfOk result (λ p. length p.1.now < length text.now) }
+    ensures place { IfErr result (λ stop. left_at stop ≤ max (length begin.now) (length text.now)) }
 {
-    let (number, rest) = read_six_digits(read_zero(read_zero(text)?)?)?;
+    let (number, rest) = read_six_digits(read_char('0', read_char('0', text)?)?)?;
     end_sole(alloc, around, begin, number, rest)
 }
 
@@ -359,8 +357,9 @@ pub(crate) fn read_letter<'a>(
     begin: &'a str,
     text: &'a str,
 ) -> Result<(Spelled, &'a str), Stop<'a>>
-    ensures parts { Tells (letters_at white_space.now around begin.now text.now) (λ p. spelled_got p.0 p.1.now) result }
+    ensures parts { Tells (letters_at white_space.now around begin.now text.now) spelled_read result }
     ensures shorter { IfOk result (λ p. length p.1.now < length text.now) }
+    ensures place { IfErr result (λ stop. left_at stop ≤ max (length begin.now) (length text.now)) }
 {
     let (c, rest) = take_first(text)?;
     match c {
@@ -382,6 +381,7 @@ pub fn read_escape<'a>(
     ensures read { IfOk result (λ p. EscapeIs white_space.now around text.now p.0 p.1.now) }
     ensures stopped { IfErr result (EscapeStops white_space.now around text.now) }
     ensures shorter { IfOk result (λ p. length p.1.now < length text.now) }
+    ensures place { IfErr result (λ stop. left_at stop ≤ length text.now) }
 {
     let (_, inner) = take_first(text)?;
     read_letter(alloc, white_space, around, text, inner)

@@ -1,4 +1,5 @@
-//! Readers of the units of UnicodeSet patterns (UTS 35, Unicode Sets): text in, units out, with no knowledge of brackets.
+//! Readers of the units of UnicodeSet patterns (UTS 35, Unicode Sets): text in, units out, with no
+//! knowledge of brackets.
 #![tactic(auto)]
 
 mod braced_string;
@@ -6,6 +7,7 @@ mod cursor;
 mod digits;
 mod escape;
 mod name;
+mod property;
 mod stop;
 #[cfg(test)]
 mod tests;
@@ -15,4 +17,5 @@ pub use braced_string::read_string;
 pub use cursor::Cursor;
 pub use escape::{Around, Spelled, read_escape};
 pub use name::read_name;
+pub use property::{Form, Query, close_property, read_property};
 pub use stop::{Kind, Stop};

@@ -1,9 +1,9 @@
 //! Names of variables.
-ghost use Rattle.std.specs.Prelude.{◌≡◌, ◌<◌, ◌++◌, ℕ, List, None, Some, length, IfNone, IfSome};
+ghost use Rattle.std.specs.Prelude.{◌≡◌, ◌<◌, ◌++◌, ℕ, List, None, length, IfNone, IfSome};
 ghost use Rattle.std.specs.Str.{chars};
 ghost use Rattle.cp_invlist.specs.InversionList.{contains};
 ghost use Rattle.uset_grammar.specs.Text.{while_in};
-ghost use Rattle.uset_read.specs.Names.{name_at};
+ghost use Rattle.uset_read.specs.Names.{name_at, NameIs};
 
 use crate::text::split_first;
 use cp_invlist::CodePointInversionList;
@@ -30,7 +30,7 @@ pub fn read_name<'a>(
     text: &'a str,
 ) -> Option<(&'a str, &'a str)>
     ensures none { IfNone result (name_at start.now continuing.now text.now ≡ None) }
-    ensures some { IfSome result (λ p. name_at start.now continuing.now text.now ≡ Some (chars p.0.now, chars p.1.now)) }
+    ensures some { IfSome result (λ p. NameIs start.now continuing.now text.now p.0.now p.1.now) }
     ensures shorter { IfSome result (λ p. length p.1.now < length text.now) }
 {
     let (first, behind) = split_first(text)?;

@@ -11,6 +11,10 @@ pub enum Kind {
     Unimplemented,
     /// The number is no code point, or a surrogate where characters are due.
     InvalidEscape,
+    /// The property resolves to nothing.
+    UnknownProperty,
+    /// A table is absent.
+    Internal,
 }
 
 /// Why a unit isn't read.

@@ -1,4 +1,7 @@
-use crate::{Around, Cursor, Kind, Spelled, Stop, read_escape, read_name, read_string};
+use crate::{
+    Around, Cursor, Form, Kind, Spelled, Stop, close_property, read_escape, read_name,
+    read_property, read_string,
+};
 use cp_invlist::CodePointInversionList;
 use std::test::Fail;
 
@@ -54,19 +57,17 @@ fn a_fault_of_an_escape_has_one_place(rt: HostRuntime) -> Result<(), Fail> {
         ("\\u{D800 62}", Around::String, 'E', 0),
         ("\\x{61 D800}", Around::String, 'E', 6),
     ] {
-        match read_escape(alloc, &white_space, around, source) {
+        let cursor = Cursor::new(source);
+        match read_escape(alloc, &white_space, around, cursor.rest()) {
             Err(Stop::Fault(found, rest)) => {
                 let letter = match found {
                     Kind::UnexpectedChar(c) => c,
                     Kind::Unimplemented => 'U',
                     Kind::InvalidEscape => 'E',
+                    Kind::UnknownProperty | Kind::Internal => '?',
                 };
                 assert_eq!(rt; letter, kind, "at {source}");
-                assert_eq!(rt;
-                    source.len().checked_sub(rest.len()),
-                    Some(offset),
-                    "at {source}"
-                );
+                assert_eq!(rt; cursor.at(rest).offset(), offset, "at {source}");
             }
             _ => assert!(rt; false, "at {source}"),
         }
@@ -105,13 +106,10 @@ fn strings_are_read(rt: HostRuntime) -> Result<(), Fail> {
         assert_eq!(rt; behind, rest, "at {text}");
     }
     for (text, offset) in [("{\\uD800}", 1), ("{a\\x{61 D800g}", 8), ("{{\\udFFF ]", 2)] {
-        match read_string(alloc, &white_space, text) {
+        let cursor = Cursor::new(text);
+        match read_string(alloc, &white_space, cursor.rest()) {
             Err(Stop::Fault(Kind::InvalidEscape, rest)) => {
-                assert_eq!(rt;
-                    text.len().checked_sub(rest.len()),
-                    Some(offset),
-                    "at {text}"
-                );
+                assert_eq!(rt; cursor.at(rest).offset(), offset, "at {text}");
             }
             _ => assert!(rt; false, "at {text}"),
         }
@@ -138,5 +136,79 @@ fn the_longest_name_is_read(rt: HostRuntime) -> Result<(), Fail> {
     assert_eq!(rt; read_name(&letters, &continuing, "äö"), Some(("ä", "ö")));
     assert_eq!(rt; read_name(&letters, &continuing, "1a"), None);
     assert_eq!(rt; read_name(&letters, &continuing, ""), None);
+    Ok(())
+}
+
+#[test]
+fn properties_are_read(rt: HostRuntime) -> Result<(), Fail> {
+    let alloc = rt.alloc();
+    let white_space = CodePointInversionList::try_from_inversion_list(alloc, &SPACES)?;
+    for (text, negated, key, value, rest) in [
+        ("[:^AHex≠True:]", false, "AHex", Some("True"), ":]"),
+        ("\\p{AHex≠False}", true, "AHex", Some("False"), "}"),
+        (
+            "[:gc=lower-case-letter:]",
+            false,
+            "gc",
+            Some("lower-case-letter"),
+            ":]",
+        ),
+        ("\\P{ L l }]", true, "Ll", None, "}]"),
+    ] {
+        let Ok((_, query, at)) = read_property(alloc, &white_space, text) else {
+            assert!(rt; false, "at {text}");
+            continue;
+        };
+        assert_eq!(rt; query.negated, negated, "at {text}");
+        assert_eq!(rt; query.key.as_str(), key, "at {text}");
+        assert_eq!(rt; query.value.as_deref(), value, "at {text}");
+        assert_eq!(rt; at, rest, "at {text}");
+    }
+    let signs = CodePointInversionList::try_from_inversion_list(alloc, &[0x2260, 0x2261])?;
+    match read_property(alloc, &signs, "\\p{A≠Hex}") {
+        Ok((_, query, _)) => assert_eq!(rt; query.key.as_str(), "AHex"),
+        Err(_) => assert!(rt; false),
+    }
+    assert!(rt; matches!(close_property(Form::Posix, ":]x"), Ok("x")));
+    assert!(rt;
+        matches!(
+            close_property(Form::Posix, ": ]"),
+            Err(Stop::Fault(_, " ]"))
+        )
+    );
+    assert!(rt; matches!(close_property(Form::Posix, ":"), Err(Stop::Ended)));
+    assert!(rt; matches!(close_property(Form::Perl, "}x"), Ok("x")));
+    Ok(())
+}
+
+#[test]
+fn a_fault_of_a_property_has_one_place(rt: HostRuntime) -> Result<(), Fail> {
+    let alloc = rt.alloc();
+    let white_space = CodePointInversionList::try_from_inversion_list(alloc, &SPACES)?;
+    for (source, character, offset) in [
+        ("[:=", '=', 2),
+        ("[:=hello:]", '=', 2),
+        ("[::]", ':', 2),
+        ("[:gc=:]", ':', 5),
+        ("[:L]", ']', 3),
+        ("[:]", ']', 2),
+        ("\\p {L}", ' ', 2),
+        ("\\p{lower-case}", '-', 8),
+    ] {
+        let cursor = Cursor::new(source);
+        match read_property(alloc, &white_space, cursor.rest()) {
+            Err(Stop::Fault(Kind::UnexpectedChar(c), rest)) => {
+                assert_eq!(rt; c, character, "at {source}");
+                assert_eq!(rt; cursor.at(rest).offset(), offset, "at {source}");
+            }
+            _ => assert!(rt; false, "at {source}"),
+        }
+    }
+    for text in [
+        "[:", "[:^", "[:L", "[:gc≠ ", "\\", "\\P", "\\p{", "\\p{a=b:",
+    ] {
+        let answer = read_property(alloc, &white_space, text);
+        assert!(rt; matches!(answer, Err(Stop::Ended)), "at {text}");
+    }
     Ok(())
 }

@@ -1,12 +1,17 @@
 //! What stands in front of a text.
-ghost use Rattle.std.specs.Prelude.{◌≡◌, ◌<◌, ◌≤◌, ◌∷◌, ◌++◌, [], encode_utf8, length, IfSome, IfOk, MatchOption, MatchResult};
+ghost use Rattle.std.specs.Prelude.{◌≡◌, ◌<◌, ◌≤◌, ◌∷◌, ◌++◌, [], encode_utf8, length, IfSome, IfErr, IfOk, MatchOption};
 ghost use Rattle.std.specs.Str.{chars};
+ghost use Rattle.std.specs.String.{string_bytes};
 ghost use Rattle.cp_invlist.specs.InversionList.{contains};
 ghost use Rattle.uset_grammar.specs.Text.{skip};
+ghost use Rattle.uset_grammar.specs.Outcome.{got};
+ghost use Rattle.uset_read.specs.Reading.{char_in};
+ghost use Rattle.uset_read.specs.Pieces.{Appended};
+ghost use Rattle.uset_read.specs.Stops.{left_at, Tells};
 ghost use Rattle.uset_read.specs.declared.stop.Stop.TheVariants.{Ended as IsEnded};
 
-use crate::stop::Stop;
-use cp_invlist::CodePointInversionList;
+use crate::stop::{Kind, Stop};
+use cp_invlist::{CodePointInversionList, NoMemory};
 
 /// The first character, and the text behind it.
 pub(crate) fn split_first(text: &str) -> Option<(char, &str)>
@@ -22,7 +27,9 @@ pub(crate) fn split_first(text: &str) -> Option<(char, &str)>
 
 /// The first character, and the text behind it, where the text hasn't ended.
 pub(crate) fn take_first(text: &str) -> Result<(char, &str), Stop<'_>>
-    ensures parts { MatchResult result (λ p. chars text.now ≡ p.0 ∷ chars p.1.now) (λ stop. (stop ≡ IsEnded) × (chars text.now ≡ [])) }
+    ensures parts { IfOk result (λ p. chars text.now ≡ p.0 ∷ chars p.1.now) }
+    ensures ended { IfErr result (λ stop. (stop ≡ IsEnded) × (chars text.now ≡ [])) }
+    ensures place { IfErr result (λ stop. left_at stop ≡ 0) }
     ensures shorter { IfOk result (λ p. length p.1.now < length text.now) }
     ensures fewer { IfOk result (λ p. length (chars p.1.now) < length (chars text.now)) }
 {
@@ -30,6 +37,28 @@ pub(crate) fn take_first(text: &str) -> Result<(char, &str), Stop<'_>>
         Some(parts) => Ok(parts),
         None => Err(Stop::Ended),
     }
+}
+
+/// Reads this character.
+pub(crate) fn read_char(due: char, text: &str) -> Result<&str, Stop<'_>>
+    ensures parts { Tells (char_in due (chars text.now)) (λ rest. got tt (chars rest.now)) result }
+    ensures place { IfErr result (λ stop. left_at stop ≤ length text.now) }
+    ensures shorter { IfOk result (λ rest. length rest.now < length text.now) }
+{
+    let (c, rest) = take_first(text)?;
+    if c == due {
+        Ok(rest)
+    } else {
+        Err(Stop::Fault(Kind::UnexpectedChar(c), text))
+    }
+}
+
+/// Appends the character.
+pub(crate) fn push_char(string: &mut String, c: char) -> Result<(), NoMemory>
+    ensures appended { IfOk result (λ _. Appended (string_bytes string.old) (string_bytes string.new) (c ∷ [])) }
+{
+    string.push(c)?;
+    Ok(())
 }
 
 /// The text without the white space in front.
