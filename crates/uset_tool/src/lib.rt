@@ -8,6 +8,7 @@ mod script;
 mod sink;
 mod source;
 mod status;
+mod table_fault;
 mod words;
 
 pub use program::run;

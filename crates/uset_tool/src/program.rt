@@ -12,7 +12,8 @@ use crate::script::answer_script;
 use crate::sink::{Sink, WriteError, write_all};
 use crate::source::Source;
 use crate::status::Status;
-use crate::words::{is_known, table_fault_text};
+use crate::table_fault::table_fault_text;
+use crate::words::{Command, find_command};
 use cp_invlist::laws::one_list_of_ranges;
 use cp_strset::laws::one_list;
 use prop_data::{LoadError, PropertyDatabase, TableError};
@@ -102,9 +103,9 @@ fn answer_words<S: Source, K: Sink>(
     ensures read_fault { result ≡ Status.ReadFault → Rose (S.faults source.old) (S.faults source.new) }
     ensures write_fault { result ≡ Status.WriteFault → Rose (K.faults sink.old) (K.faults sink.new) }
 {
-    if !is_known(words) {
+    let Some(Command::Eval) = find_command(words) else {
         return say(sink, "usage: uset COMMAND\n", Status::Usage);
-    }
+    };
     let input = match read_input(alloc, source) {
         Ok(input) => input,
         Err(InputError::Failed) => return Status::ReadFault,

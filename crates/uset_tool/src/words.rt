@@ -1,49 +1,22 @@
-//! The words after the program's name, and the texts that the program says.
-ghost use Rattle.std.specs.Prelude.{◌≡◌, map, IfOk};
+//! The words after the program's name.
+ghost use Rattle.std.specs.Prelude.{◌≡◌, true, false, map, IfNone, IfSome};
 ghost use Rattle.std.specs.String.{string_bytes};
-ghost use Rattle.uset_tool.specs.Words.{is_known, kind_name, table_fault_text};
+ghost use Rattle.uset_tool.specs.Words.{is_known};
 
-use prop_data::{TableError, TableErrorKind};
-use std::alloc::{AllocError, Global};
+/// What the words ask for.
+#[derive(Clone, Copy, Drop)]
+pub(crate) enum Command {
+    /// `eval`: the input is a table text and a script behind it.
+    Eval,
+}
 
-/// Whether the words are a known list.
-pub(crate) fn is_known(words: &[String]) -> bool
-    ensures { result ≡ is_known (map string_bytes words.now) }
+/// The command that the words are, where they are a known list.
+pub(crate) fn find_command(words: &[String]) -> Option<Command>
+    ensures known { IfSome result (λ _. is_known (map string_bytes words.now) ≡ true) }
+    ensures unknown { IfNone result (is_known (map string_bytes words.now) ≡ false) }
 {
     match words {
-        [word] => word.as_str() == "eval",
-        _ => false,
+        [word] if word.as_str() == "eval" => Some(Command::Eval),
+        _ => None,
     }
-}
-
-fn kind_name(kind: TableErrorKind) -> &'static str
-    ensures { result.now ≡ kind_name kind }
-{
-    match kind {
-        TableErrorKind::UnknownLine => "UnknownLine",
-        TableErrorKind::UnknownTable => "UnknownTable",
-        TableErrorKind::TableTwice => "TableTwice",
-        TableErrorKind::BadNumber => "BadNumber",
-        TableErrorKind::TooLarge => "TooLarge",
-        TableErrorKind::RangeOrder => "RangeOrder",
-        TableErrorKind::ValueOutOfType => "ValueOutOfType",
-        TableErrorKind::BadName => "BadName",
-        TableErrorKind::NamesClash => "NamesClash",
-        TableErrorKind::SyntaxAscii => "SyntaxAscii",
-        TableErrorKind::ExtensionOrder => "ExtensionOrder",
-        TableErrorKind::StringOfOne => "StringOfOne",
-        TableErrorKind::StringTwice => "StringTwice",
-        TableErrorKind::ExtensionMissing => "ExtensionMissing",
-        TableErrorKind::NoEnd => "NoEnd",
-        TableErrorKind::AfterEnd => "AfterEnd",
-    }
-}
-
-/// The answer to a table text with a fault.
-pub(crate) fn table_fault_text(alloc: Global, fault: TableError) -> Result<String, AllocError>
-    ensures { IfOk result (λ text. string_bytes text ≡ table_fault_text fault) }
-{
-    let line = fault.line;
-    let kind = kind_name(fault.kind);
-    format!(in alloc; "tables line {line}: {kind}\n")
 }
