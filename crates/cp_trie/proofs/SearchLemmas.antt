@@ -1,5 +1,6 @@
 -- Where a binary search finds the run of a number.
-use Rattle.std.proofs.Common.{◌≡◌, ℕ, zero, suc, ◌+◌, ◌<◌, ◌≤◌, true, false, cond, nat_lt, Option, Some, None, List, [], ◌∷◌, length, get_or, refl, sym, ap, subst, ◌∙◌, arith}
+use Rattle.std.proofs.Common.{◌≡◌, ℕ, zero, suc, ◌+◌, ◌<◌, ◌≤◌, true, false, cond, nat_lt, Option, Some, None, List, [], ◌∷◌, length, get_or, refl, sym, ap, subst, ◌∙◌, inl, inr, arith}
+use Rattle.std.proofs.lemmas.Bool.{cases_lt}
 use Rattle.std.proofs.lemmas.Bool.Decides.{nat_tests}
 use denote.Ref.{Bor}
 use Rattle.std.specs.Option.{option_map}
@@ -26,11 +27,20 @@ ends_rise n (r ∷ rs) cover zero (suc j) d le h =
 ends_rise n (r ∷ rs) cover (suc i) zero d le h = absurd (omega arith)
 ends_rise n (r ∷ rs) cover (suc i) (suc j) d le h = ends_rise (r.range.end + 1) rs cover.3 i j d (omega arith) (omega arith)
 
-run_at-within : {V : Type 0} (r : CodePointMapRange V) (rs : List (CodePointMapRange V)) (c : ℕ) → r.range.start ≤ c → c ≤ r.range.end → run_at (r ∷ rs) c ≡ Some r
+pub run_at-within : {V : Type 0} (r : CodePointMapRange V) (rs : List (CodePointMapRange V)) (c : ℕ) → r.range.start ≤ c → c ≤ r.range.end → run_at (r ∷ rs) c ≡ Some r
 run_at-within r rs c low high = ap (λ b. cond b (Some r) (run_at rs c)) (in_range-within r.range c low high)
 
-run_at-behind : {V : Type 0} (r : CodePointMapRange V) (rs : List (CodePointMapRange V)) (c : ℕ) → r.range.end < c → run_at (r ∷ rs) c ≡ run_at rs c
+pub run_at-behind : {V : Type 0} (r : CodePointMapRange V) (rs : List (CodePointMapRange V)) (c : ℕ) → r.range.end < c → run_at (r ∷ rs) c ≡ run_at rs c
 run_at-behind r rs c h = ap (λ b. cond b (Some r) (run_at rs c)) (in_range-behind r.range c h)
+
+-- some run of a cover holds each code point from where it begins
+pub held_by : {V : Type 0} (n : ℕ) (rs : List (CodePointMapRange V)) (c : ℕ) → IsCover n rs → n ≤ c → c ≤ 0x10_FFFF → (r : CodePointMapRange V) × (run_at rs c ≡ Some r)
+held_by n [] c cover low high = absurd (omega arith)
+held_by {V} n (r ∷ rs) c cover low high =
+    elim (cases_lt r.range.end c) as (λ _. (x : CodePointMapRange V) × (run_at (r ∷ rs) c ≡ Some x)) [
+      | inl behind ↦ let rest = held_by (r.range.end + 1) rs c cover.3 (omega arith) high in (rest.0, run_at-behind r rs c behind ∙ rest.1)
+      | inr within ↦ (r, run_at-within r rs c (omega arith) within)
+    ]
 
 -- a number is held by the first run that does not end before it
 run_at-at : {V : Type 0} (n : ℕ) (rs : List (CodePointMapRange V)) (c k : ℕ) (r : CodePointMapRange V) → IsCover n rs → n ≤ c → k < length rs → r ≡ get_or rs k r → ((j : ℕ) (d : CodePointMapRange V) → j < k → (get_or rs j d).range.end < c) → c ≤ r.range.end → run_at rs c ≡ Some r

@@ -3,6 +3,8 @@ pub mod Faults
 pub mod Joined
 pub mod Map
 pub mod Mapped
+pub mod Pages
+pub mod Rows
 pub mod Runs
 pub mod ValueLaws
 pub mod Values

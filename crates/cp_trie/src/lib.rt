@@ -4,8 +4,11 @@
 mod convert;
 mod error;
 mod mapped;
+mod pages;
 mod ranges;
+mod rows;
 mod runs;
+mod table;
 #[cfg(test)]
 mod tests;
 mod trie;

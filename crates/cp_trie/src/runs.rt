@@ -98,7 +98,7 @@ fn joined_list<T: Copy + Eq>(
 ) -> Result<Vec<CodePointMapRange<T>>, AllocError>
     ensures { IfOk result (λ joined. joined.items ≡ join_of T.eq runs.now) }
 {
-    let mut joined = Vec::new(alloc);
+    let mut joined = Vec::with_capacity(alloc, runs.len())?;
     let Some((first, rest)) = runs.split_first() else {
         return Ok(joined);
     };

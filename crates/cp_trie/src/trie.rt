@@ -1,5 +1,5 @@
 //! The map: its runs, and what it answers.
-ghost use Rattle.std.specs.Prelude.{◌≡◌, ℕ, ◌<◌, List, None, IfOk};
+ghost use Rattle.std.specs.Prelude.{◌≡◌, ℕ, ◌+◌, ◌<◌, ◌≤◌, List, None, IfOk};
 ghost use Rattle.std.specs.Iterator.{IsFinite, Drains};
 ghost use Rattle.cp_invlist.specs.InversionList.{contains};
 ghost use Rattle.cp_trie.specs.Map.{value_at, has_value};
@@ -10,30 +10,36 @@ ghost use Rattle.cp_trie.specs.declared.ranges.CodePointMapRange.{CodePointMapRa
 
 use crate::error::TrieError;
 use crate::mapped::TrieRangesMapped;
+use crate::pages::Pages;
 use crate::ranges::{CodePointMapRange, TrieRanges};
 use crate::runs::{Runs, first_fault, joined};
 use crate::value::TrieValue;
-use cp_invlist::{CodePointInversionList, CodePointInversionListBuilder, NoMemory};
+use cp_invlist::{
+    CodePointInversionList, CodePointInversionListBuilder, LAST_CODE_POINT, NoMemory, Steps,
+};
 use std::alloc::{AllocError, Global};
-use std::marker::Model;
+use std::marker::{Brand, Model};
+use std::sync::ledger::{Blank, Ledger};
 
 /// A map from code points, surrogates included, to values, with one value for all numbers past 10FFFF. A contract
 /// sees it as its maximal runs and that value, and speaks of the value at each number.
 #[derive(Drop)]
 pub struct CodePointTrie<T: TrieValue> {
     runs: Runs<T>,
+    pages: Pages<T>,
     error_value: T,
 }
 
 impl<T: TrieValue> Model for CodePointTrie<T> {
     ghost use Rattle.cp_trie.specs.Map.{CodePointMap};
+    ghost use Rattle.cp_trie.specs.Pages.{StandFor};
     ghost use Rattle.cp_trie.specs.Runs.{value_in, AreMaximalRuns};
 
     ghost Value = { CodePointMap T };
 
     ghost view = { λ s. record { runs = s.runs; error_value = s.error_value } };
 
-    ghost invariant = { λ s. AreMaximalRuns T.eq (value_in s.runs s.error_value) s.runs };
+    ghost invariant = { λ s. AreMaximalRuns T.eq (value_in s.runs s.error_value) s.runs × StandFor s.pages s.runs };
 }
 
 impl<T: TrieValue> CodePointTrie<T> {
@@ -67,18 +73,46 @@ impl<T: TrieValue> CodePointTrie<T> {
         ensures past_end { IfOk result (λ map. map.error_value ≡ error_value) }
     {
         let runs = joined(alloc, runs)?;
-        Ok(CodePointTrie { runs, error_value })
+        let pages = Pages::new(alloc, runs.as_slice())?;
+        Ok(CodePointTrie {
+            runs,
+            pages,
+            error_value,
+        })
     }
 
-    /// The value of a number: past 10FFFF it is the error value. It is found by binary search.
+    /// The value of a number: past 10FFFF it is the error value. It is read from page tables.
     pub fn get32(&self, c: u32) -> T
         ensures value { result ≡ value_at self.now c }
         ensures past_end { 0x10_FFFF < c → result ≡ self.now.error_value }
     {
-        match self.runs.run_at(c) {
-            Some(run) => run.value,
-            None => self.error_value,
+        self.get32_over::<Brand>(c, Blank::new(1))
+    }
+
+    /// The same, where each read of an element of a table is one step: three, and none past 10FFFF.
+    pub fn get32_steps<L: Ledger>(&self, c: u32, steps: &mut Steps<L>) -> T
+        ensures value { result ≡ value_at self.now c }
+        ensures past_end { 0x10_FFFF < c → result ≡ self.now.error_value }
+        ensures at_most { steps.new ≤ steps.old + 4 }
+        ensures reads { c ≤ 0x10_FFFF → steps.new ≡ steps.old + 3 }
+        ensures none_past_end { 0x10_FFFF < c → steps.new ≡ steps.old }
+    {
+        if LAST_CODE_POINT < c {
+            return self.error_value;
         }
+        self.pages.value(c, steps)
+    }
+
+    /// The same, where the steps count in a blank ledger.
+    fn get32_over<L: Ledger>(&self, c: u32, blank: Blank) -> T
+        requires name { blank.name ≡ L.name }
+        requires parts { blank.parts ≡ L.parts }
+        requires some { 0 < blank.parts }
+        ensures value { result ≡ value_at self.now c }
+        ensures past_end { 0x10_FFFF < c → result ≡ self.now.error_value }
+    {
+        let mut steps = Steps::<L>::new(blank);
+        self.get32_steps(c, &mut steps)
     }
 
     /// The value of a character.
@@ -154,6 +188,7 @@ impl<T: TrieValue> CodePointTrie<T> {
     {
         Ok(CodePointTrie {
             runs: self.runs.copy(alloc)?,
+            pages: self.pages.copy(alloc)?,
             error_value: self.error_value,
         })
     }

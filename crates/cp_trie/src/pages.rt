@@ -1,0 +1,118 @@
+//! Page tables: three reads lead from a code point to its value.
+ghost use Rattle.std.specs.Prelude.{◌≡◌, ◌+◌, ◌<◌, ◌≤◌, None, Some, IsSome, IfOk, length};
+ghost use Rattle.cp_trie.specs.Faults.{first_fault as fault_of};
+ghost use Rattle.cp_trie.specs.Pages.{values_of, led_to, StandFor};
+ghost use Rattle.cp_trie.specs.Rows.{IsCut, taken, spelled};
+
+use crate::ranges::CodePointMapRange;
+use crate::rows::{ROW, Repeated, Rows};
+use crate::table::Table;
+use crate::value::TrieValue;
+use cp_invlist::Steps;
+use std::alloc::{AllocError, Global};
+use std::marker::Model;
+use std::sync::ledger::Ledger;
+
+/// The 272 places of the outer table lead to blocks of 64 page numbers, and a page number to a page of 64 values. A page
+/// inside one run is the page of its value, and equal pages and equal blocks are kept once.
+#[derive(Drop)]
+pub(crate) struct Pages<V> {
+    outer: Table<u16>,
+    blocks: Table<u16>,
+    values: Table<V>,
+}
+
+impl<V> Model for Pages<V> {
+    ghost use Rattle.cp_trie.specs.Pages.{PageTables};
+
+    ghost Value = { PageTables V };
+
+    ghost view = { λ s. record { outer = s.outer; blocks = s.blocks; values = s.values } };
+}
+
+impl<V: TrieValue> Pages<V> {
+    /// The tables of runs that cover 0 to 10FFFF in order. The time is that of the runs and of the pages with a boundary.
+    pub(crate) fn new(
+        alloc: Global,
+        runs: &[CodePointMapRange<V>],
+    ) -> Result<Pages<V>, AllocError>
+        requires { fault_of runs.now ≡ None }
+        ensures { IfOk result (λ pages. StandFor pages runs.now) }
+    {
+        let pages = pages_of(alloc, runs)?;
+        let blocks = blocks_of(alloc, &pages.numbers)?;
+        let outer = outer_of(alloc, &blocks.numbers)?;
+        Ok(Pages {
+            outer: Table::new(outer),
+            blocks: Table::new(blocks.shelf.values),
+            values: Table::new(pages.shelf.values),
+        })
+    }
+
+    /// The value that the tables lead to from a number, by three reads.
+    pub(crate) fn value<L: Ledger>(&self, c: u32, steps: &mut Steps<L>) -> V
+        requires { IsSome (led_to self.now c) }
+        ensures value { led_to self.now c ≡ Some result }
+        ensures cost { steps.new ≡ steps.old + 3 }
+    {
+        let c = c as usize;
+        let block = usize::from(self.outer.read(c / (ROW * ROW), steps));
+        let page = usize::from(self.blocks.read(block * ROW + c / ROW % ROW, steps));
+        self.values.read(page * ROW + c % ROW, steps)
+    }
+
+    /// The same tables.
+    pub(crate) fn copy(&self, alloc: Global) -> Result<Pages<V>, AllocError>
+        ensures { IfOk result (λ pages. pages ≡ self.now) }
+    {
+        Ok(Pages {
+            outer: self.outer.copy(alloc)?,
+            blocks: self.blocks.copy(alloc)?,
+            values: self.values.copy(alloc)?,
+        })
+    }
+}
+
+/// The values of the runs, cut into pages.
+fn pages_of<V: TrieValue>(
+    alloc: Global,
+    runs: &[CodePointMapRange<V>],
+) -> Result<Rows<V>, AllocError>
+    requires { fault_of runs.now ≡ None }
+    ensures cut { IfOk result (λ pages. IsCut pages) }
+    ensures taken { IfOk result (λ pages. taken pages ≡ values_of runs.now) }
+    ensures begun { IfOk result (λ pages. length pages.begun.values.items < 64) }
+{
+    let mut pages = Rows::new(alloc);
+    for run in runs {
+        let range = run.range;
+        pages.take(run.value, (range.end - range.start) as usize + 1)?;
+    }
+    Ok(pages)
+}
+
+/// The numbers of the pages, cut into blocks.
+fn blocks_of(alloc: Global, pages: &[Repeated]) -> Result<Rows<u16>, AllocError>
+    requires { length (spelled pages.now) ≤ 0x11_0000 }
+    ensures cut { IfOk result (λ blocks. IsCut blocks) }
+    ensures taken { IfOk result (λ blocks. taken blocks ≡ spelled pages.now) }
+    ensures begun { IfOk result (λ blocks. length blocks.begun.values.items < 64) }
+{
+    let mut blocks = Rows::new(alloc);
+    for page in pages {
+        blocks.take(page.number, page.count)?;
+    }
+    Ok(blocks)
+}
+
+/// The numbers of the blocks.
+fn outer_of(alloc: Global, blocks: &[Repeated]) -> Result<Vec<u16>, AllocError>
+    requires { length (spelled blocks.now) ≤ 0x11_0000 }
+    ensures { IfOk result (λ outer. outer.items ≡ spelled blocks.now) }
+{
+    let mut outer = Vec::new(alloc);
+    for block in blocks {
+        outer.resize(outer.len() + block.count, block.number)?;
+    }
+    Ok(outer)
+}

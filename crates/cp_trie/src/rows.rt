@@ -1,0 +1,202 @@
+//! Lists of values cut into rows of 64, where equal rows are kept once.
+ghost use Rattle.std.specs.Prelude.{◌≡◌, ◌+◌, ◌*◌, ◌-◌, ◌%◌, ◌<◌, ◌≤◌, [], ◌++◌, length, replicate, IfOk, OnOk};
+ghost use Rattle.cp_trie.specs.Rows.{row_of, spelled, laid, repeat, Extends, taken, IsCut};
+
+use crate::value::TrieValue;
+use std::alloc::{AllocError, Global};
+use std::collections::BTreeMap;
+
+/// How many values a row has.
+pub(crate) const ROW: usize = 64;
+
+/// The number of a row, and how often it comes one behind another.
+#[derive(Clone, Copy)]
+pub(crate) struct Repeated {
+    pub(crate) number: u16,
+    pub(crate) count: usize,
+}
+
+/// Rows one behind another, each kept once. The number of a row says how many stand in front of it.
+#[derive(Drop)]
+pub(crate) struct Shelf<V> {
+    pub(crate) values: Vec<V>,
+    /// For each fingerprint that a row has, the number of such a row.
+    by_fingerprint: BTreeMap<u64, u16>,
+}
+
+impl<V: TrieValue> Shelf<V> {
+    fn new(alloc: Global) -> Shelf<V>
+        ensures { result.values.items ≡ [] }
+    {
+        Shelf {
+            values: Vec::new(alloc),
+            by_fingerprint: BTreeMap::new(alloc),
+        }
+    }
+
+    /// The number of the row with these values. Where the row that has their fingerprint is not equal to them by `==`
+    /// in all 64 places, they are kept as a row of their own.
+    fn number_of(&mut self, row: &[V], fingerprint: u64) -> Result<u16, AllocError>
+        requires full { length row.now ≡ 64 }
+        requires whole { length self.old.values.items % 64 ≡ 0 }
+        requires room { length self.old.values.items < 0x40_0000 }
+        ensures row { IfOk result (λ n. row_of self.new.values.items n ≡ row.now) }
+        ensures within { IfOk result (λ n. n * 64 + 64 ≤ length self.new.values.items) }
+        ensures kept { OnOk result (Extends self.old.values.items self.new.values.items) }
+    {
+        let next = (self.values.len() / ROW) as u16;
+        let known = *self.by_fingerprint.entry(fingerprint)?.or_insert(next);
+        let start = usize::from(known) * ROW;
+        if let Some(kept) = self.values.get(start..start + ROW)
+            && kept == row
+        {
+            return Ok(known);
+        }
+        self.values.extend_from_slice(row)?;
+        Ok(next)
+    }
+}
+
+/// The row that is begun, with at most 64 values.
+#[derive(Drop)]
+pub(crate) struct Begun<V> {
+    pub(crate) values: Vec<V>,
+    /// The sum, without what passes 64 bits, of the numbers of the values, each times the weight of its place. So equal
+    /// rows have the same fingerprint.
+    fingerprint: u64,
+}
+
+impl<V: TrieValue> Begun<V> {
+    fn new(alloc: Global) -> Begun<V>
+        ensures { result.values.items ≡ [] }
+    {
+        Begun {
+            values: Vec::new(alloc),
+            fingerprint: 0,
+        }
+    }
+
+    /// Puts the value so many times behind the others.
+    fn push(&mut self, value: V, count: usize) -> Result<(), AllocError>
+        requires { length self.old.values.items + count ≤ 64 }
+        ensures { OnOk result (self.new.values.items ≡ self.old.values.items ++ replicate count value) }
+    {
+        let end = self.values.len() + count;
+        let weight = weight_of(end).wrapping_sub(weight_of(self.values.len()));
+        let added = u64::from(value.to_u32()).wrapping_mul(weight);
+        self.fingerprint = self.fingerprint.wrapping_add(added);
+        self.values.resize(end, value)
+    }
+
+    fn clear(&mut self)
+        ensures { self.new.values.items ≡ [] }
+    {
+        self.values.clear();
+        self.fingerprint = 0;
+    }
+}
+
+/// The weight of all places in front of this one: its bits mixed by two odd factors, so that sums of few numbers differ.
+fn weight_of(place: usize) -> u64 {
+    let mixed = (place as u64).wrapping_mul(0x9E37_79B9_7F4A_7C15);
+    (mixed ^ (mixed >> 32)).wrapping_mul(0xD6E8_FEB8_6659_FD93)
+}
+
+/// A list of values that is taken piece by piece: its whole rows, and the row that is begun.
+#[derive(Drop)]
+pub(crate) struct Rows<V> {
+    pub(crate) shelf: Shelf<V>,
+    pub(crate) numbers: Vec<Repeated>,
+    pub(crate) begun: Begun<V>,
+}
+
+impl<V: TrieValue> Rows<V> {
+    pub(crate) fn new(alloc: Global) -> Rows<V>
+        ensures cut { IsCut result }
+        ensures taken { taken result ≡ [] }
+        ensures begun { result.begun.values.items ≡ [] }
+    {
+        Rows {
+            shelf: Shelf::new(alloc),
+            numbers: Vec::new(alloc),
+            begun: Begun::new(alloc),
+        }
+    }
+
+    /// Takes the value so many times.
+    pub(crate) fn take(&mut self, value: V, count: usize) -> Result<(), AllocError>
+        requires cut { IsCut self.old }
+        requires begun { length self.old.begun.values.items < 64 }
+        requires room { length (taken self.old) + count ≤ 0x11_0000 }
+        ensures cut { OnOk result (IsCut self.new) }
+        ensures begun { OnOk result (length self.new.begun.values.items < 64) }
+        ensures taken { OnOk result (taken self.new ≡ taken self.old ++ replicate count value) }
+    {
+        let rest = self.complete(value, count)?;
+        if rest == 0 {
+            return Ok(());
+        }
+        self.take_rows(value, rest / ROW)?;
+        self.begun.push(value, rest % ROW)
+    }
+
+    /// Takes the value up to the end of the row that is begun, if one is, and says how often it is still to come.
+    fn complete(&mut self, value: V, count: usize) -> Result<usize, AllocError>
+        requires cut { IsCut self.old }
+        requires begun { length self.old.begun.values.items < 64 }
+        requires room { length (taken self.old) + count ≤ 0x11_0000 }
+        ensures cut { OnOk result (IsCut self.new) }
+        ensures rest { IfOk result (λ rest. rest ≤ count) }
+        ensures taken { IfOk result (λ rest. taken self.new ≡ taken self.old ++ replicate (count - rest) value) }
+        ensures begun { OnOk result (length self.new.begun.values.items < 64) }
+        ensures empty { IfOk result (λ rest. 0 < rest → self.new.begun.values.items ≡ []) }
+    {
+        let begun = self.begun.values.len();
+        if begun == 0 {
+            return Ok(count);
+        }
+        let first = count.min(ROW - begun);
+        self.begun.push(value, first)?;
+        if begun + first < ROW {
+            return Ok(0);
+        }
+        self.close(1)?;
+        Ok(count - first)
+    }
+
+    /// Takes so many rows of the value.
+    fn take_rows(&mut self, value: V, times: usize) -> Result<(), AllocError>
+        requires cut { IsCut self.old }
+        requires empty { self.old.begun.values.items ≡ [] }
+        requires room { length (taken self.old) + times * 64 ≤ 0x11_0000 }
+        ensures cut { OnOk result (IsCut self.new) }
+        ensures taken { OnOk result (taken self.new ≡ taken self.old ++ replicate (times * 64) value) }
+        ensures empty { OnOk result (self.new.begun.values.items ≡ []) }
+    {
+        if times == 0 {
+            return Ok(());
+        }
+        self.begun.push(value, ROW)?;
+        self.close(times)
+    }
+
+    /// Puts the row that is begun, and now whole, so many times behind the others.
+    fn close(&mut self, times: usize) -> Result<(), AllocError>
+        requires cut { IsCut self.old }
+        requires full { length self.old.begun.values.items ≡ 64 }
+        requires some { 0 < times }
+        requires room { 64 * (length (spelled self.old.numbers.items) + times) ≤ 0x11_0000 }
+        ensures cut { OnOk result (IsCut self.new) }
+        ensures laid { OnOk result (laid self.new ≡ laid self.old ++ repeat times self.old.begun.values.items) }
+        ensures empty { OnOk result (self.new.begun.values.items ≡ []) }
+    {
+        let fingerprint = self.begun.fingerprint;
+        let number = self.shelf.number_of(&self.begun.values, fingerprint)?;
+        self.numbers.push(Repeated {
+            number,
+            count: times,
+        })?;
+        self.begun.clear();
+        Ok(())
+    }
+}
