@@ -1,8 +1,8 @@
 -- Rows of 64 values, and lists that are cut into them.
 use Rattle.std.proofs.Common.{◌≡◌, ℕ, zero, suc, ◌+◌, ◌*◌, ◌-◌, ◌/◌, ◌%◌, ◌<◌, ◌≤◌, Result, List, [], ◌∷◌, ◌++◌, length, take, drop, replicate, refl, sym, ap, ap₂, ◌∙◌, append_assoc, arith, length-append, length-drop}
-use Rattle.std.proofs.lemmas.List.{append-nil, nil_from_length, take_all, take-append-le, drop-append-le, length-take-le, length-replicate, replicate-append-replicate}
+use Rattle.std.proofs.lemmas.List.{append-nil, nil_from_length, take_all, take-append-le, drop-append-le, length-take-le, length-replicate, replicate-append-replicate, take-replicate}
 use Rattle.std.proofs.Math.Nat.{suc-mul, zero-mul}
-use Rattle.std.proofs.Math.Seq.{drop-append_seam}
+use Rattle.std.proofs.Math.Seq.{drop-append_seam, take-append-add}
 use Rattle.std.specs.List.{slice_range}
 use Rattle.std.specs.Prelude.{OnOk, Ok, Err}
 use Rattle.cp_trie.specs.Rows.{row_of, AreWhole, rows_of, spelled, repeat, Extends, laid, taken, IsCut}
@@ -123,6 +123,12 @@ taken-rows old begun new rest row m k x none filled closed empty =
     ap₂ (λ a b. a ++ b) (closed ∙ (ap (λ l. old ++ repeat m l) whole ∙ ap (λ l. old ++ l) (repeat-replicate m k x))) empty
     ∙ (append-nil (old ++ replicate (m * k) x)
     ∙ ap (λ l. l ++ replicate (m * k) x) (sym (append-nil old) ∙ ap (λ l. old ++ l) (sym none)))
+
+-- a list that was filled up with copies of a value, and cut behind some of them
+pub take-filled : {V : Type 0} (xs : List V) (begun k n m : ℕ) (x : V) → begun ≡ length xs → k ≤ n → m ≡ n → take (begun + k) (take (begun + n) xs ++ replicate m x) ≡ xs ++ replicate k x
+take-filled xs begun k n m x size within filled =
+    ap₂ (λ i l. take (i + k) l) size (ap₂ (λ l i. l ++ replicate i x) (take_all (begun + n) xs (omega arith)) filled)
+    ∙ (take-append-add xs (replicate n x) k ∙ ap (λ l. xs ++ l) (take-replicate k n x within))
 
 -- what follows from two facts at Ok holds at Ok
 pub on_ok_both : {T E P Q R : Type 0} (r : Result T E) → (P → Q → R) → OnOk r P → OnOk r Q → OnOk r R

@@ -4,7 +4,7 @@ ghost use Rattle.cp_trie.specs.Rows.{row_of, spelled, laid, repeat, Extends, tak
 
 use crate::value::TrieValue;
 use std::alloc::{AllocError, Global};
-use std::collections::BTreeMap;
+use std::collections::HashMap;
 
 /// How many values a row has.
 pub(crate) const ROW: usize = 64;
@@ -21,7 +21,7 @@ pub(crate) struct Repeated {
 pub(crate) struct Shelf<V> {
     pub(crate) values: Vec<V>,
     /// For each fingerprint that a row has, the number of such a row.
-    by_fingerprint: BTreeMap<u64, u16>,
+    by_fingerprint: HashMap<u64, u16>,
 }
 
 impl<V: TrieValue> Shelf<V> {
@@ -30,7 +30,7 @@ impl<V: TrieValue> Shelf<V> {
     {
         Shelf {
             values: Vec::new(alloc),
-            by_fingerprint: BTreeMap::new(alloc),
+            by_fingerprint: HashMap::new(alloc),
         }
     }
 
@@ -57,12 +57,16 @@ impl<V: TrieValue> Shelf<V> {
     }
 }
 
+/// An odd factor that spreads a number over 64 bits.
+const SPREAD: u64 = 0x9E37_79B9_7F4A_7C15;
+
 /// The row that is begun, with at most 64 values.
 #[derive(Drop)]
 pub(crate) struct Begun<V> {
     pub(crate) values: Vec<V>,
-    /// The sum, without what passes 64 bits, of the numbers of the values, each times the weight of its place. So equal
-    /// rows have the same fingerprint.
+    /// The number of the last value.
+    last: u32,
+    /// A digest of the places where another value begins, and of the values there. So equal rows have the same.
     fingerprint: u64,
 }
 
@@ -72,6 +76,7 @@ impl<V: TrieValue> Begun<V> {
     {
         Begun {
             values: Vec::new(alloc),
+            last: 0,
             fingerprint: 0,
         }
     }
@@ -81,11 +86,23 @@ impl<V: TrieValue> Begun<V> {
         requires { length self.old.values.items + count ≤ 64 }
         ensures { OnOk result (self.new.values.items ≡ self.old.values.items ++ replicate count value) }
     {
-        let end = self.values.len() + count;
-        let weight = weight_of(end).wrapping_sub(weight_of(self.values.len()));
-        let added = u64::from(value.to_u32()).wrapping_mul(weight);
-        self.fingerprint = self.fingerprint.wrapping_add(added);
-        self.values.resize(end, value)
+        let begun = self.values.len();
+        self.mix(begun, value.to_u32());
+        // a fill of one length is faster than one that is as long as the piece
+        self.values.resize(begun + ROW, value)?;
+        self.values.truncate(begun + count);
+        Ok(())
+    }
+
+    /// Mixes the number of the value at a place into the fingerprint, where it is another than that before it.
+    fn mix(&mut self, place: usize, number: u32)
+        ensures { self.new.values ≡ self.old.values }
+    {
+        if place == 0 || number != self.last {
+            let spread = ((place as u64) << 32 | u64::from(number)).wrapping_mul(SPREAD);
+            self.fingerprint = self.fingerprint.wrapping_add(spread ^ (spread >> 32));
+            self.last = number;
+        }
     }
 
     fn clear(&mut self)
@@ -94,12 +111,6 @@ impl<V: TrieValue> Begun<V> {
         self.values.clear();
         self.fingerprint = 0;
     }
-}
-
-/// The weight of all places in front of this one: its bits mixed by two odd factors, so that sums of few numbers differ.
-fn weight_of(place: usize) -> u64 {
-    let mixed = (place as u64).wrapping_mul(0x9E37_79B9_7F4A_7C15);
-    (mixed ^ (mixed >> 32)).wrapping_mul(0xD6E8_FEB8_6659_FD93)
 }
 
 /// A list of values that is taken piece by piece: its whole rows, and the row that is begun.

@@ -102,15 +102,17 @@ fn joined_list<T: Copy + Eq>(
     let Some((first, rest)) = runs.split_first() else {
         return Ok(joined);
     };
-    let mut pending = *first;
+    let mut range = first.range;
+    let mut value = first.value;
     for run in rest {
-        if pending.value == run.value {
-            pending.range.end = run.range.end;
+        if value == run.value {
+            range.end = run.range.end;
         } else {
-            joined.push(pending)?;
-            pending = *run;
+            joined.push(CodePointMapRange { range, value })?;
+            range = run.range;
+            value = run.value;
         }
     }
-    joined.push(pending)?;
+    joined.push(CodePointMapRange { range, value })?;
     Ok(joined)
 }
