@@ -1,10 +1,10 @@
 -- Joining neighbours of equal value keeps the values and leaves the maximal runs, of which a map has one list.
-use Rattle.std.proofs.Common.{◌≡◌, ℕ, ◌+◌, ◌<◌, ◌≤◌, Bool, true, false, cond, ◌||◌, List, [], ◌∷◌, refl, sym, ap, ap₂, ◌∙◌, inl, inr, arith}
+use Rattle.std.proofs.Common.{◌≡◌, ℕ, suc, ◌+◌, ◌<◌, ◌≤◌, Bool, true, false, cond, ◌||◌, List, [], ◌∷◌, refl, sym, ap, ap₂, ◌∙◌, inl, inr, arith}
 use Rattle.std.proofs.lemmas.Bool.Decides.{nat_tests}
 use Rattle.std.proofs.lemmas.Bool.{cases_lt}
 use Rattle.cp_invlist.specs.Ranges.{in_range}
 use Rattle.cp_invlist.specs.declared.ranges.CodePointRange.{CodePointRange}
-use Rattle.cp_trie.specs.Joined.{up_to, joined_from, joined}
+use Rattle.cp_trie.specs.Joined.{up_to, joined_from, joined, AreApart}
 use Rattle.cp_trie.specs.Runs.{value_in, AreRunsFrom}
 use Rattle.cp_trie.specs.declared.ranges.CodePointMapRange.{CodePointMapRange}
 use Rattle.cp_trie.proofs.CoverLemmas.{IsCover, Spells, Spells-value_in}
@@ -117,3 +117,14 @@ IsCover-joined_from eq n r (s ∷ ss) cover =
 pub IsCover-joined : {V : Type 0} (eq : V → V → Bool) (n : ℕ) (rs : List (CodePointMapRange V)) → IsCover n rs → IsCover n (joined eq rs)
 IsCover-joined eq n [] cover = cover
 IsCover-joined eq n (r ∷ rs) cover = IsCover-joined_from eq n r rs cover
+
+joined_from-apart : {V : Type 0} (eq : V → V → Bool) (r : CodePointMapRange V) (ss : List (CodePointMapRange V)) → AreApart eq (r ∷ ss) → joined_from eq r ss ≡ r ∷ ss
+joined_from-apart eq r [] apart = refl
+joined_from-apart eq r (s ∷ ss) apart =
+    ap (λ b. cond b (joined_from eq (up_to r s) ss) (r ∷ joined_from eq s ss)) (apart 0 1 r refl (omega arith))
+    ∙ ap (λ l. r ∷ l) (joined_from-apart eq s ss (λ i j d next h. apart (suc i) (suc j) d (omega arith) (omega arith)))
+
+-- where no neighbours are equal, joining them changes nothing
+pub joined-apart : {V : Type 0} (eq : V → V → Bool) (rs : List (CodePointMapRange V)) → AreApart eq rs → joined eq rs ≡ rs
+joined-apart eq [] apart = refl
+joined-apart eq (r ∷ rs) apart = joined_from-apart eq r rs apart

@@ -33,7 +33,7 @@ impl<T: TrieValue> CodePointTrie<T> {
                 index: self.runs().len(),
             });
         };
-        Ok(CodePointTrie::from_cover(alloc, &runs, error_value)?)
+        Ok(CodePointTrie::from_cover(alloc, runs, error_value)?)
     }
 }
 

@@ -1,7 +1,7 @@
 //! The runs of a map.
-ghost use Rattle.std.specs.Prelude.{◌≡◌, None, IfOk};
+ghost use Rattle.std.specs.Prelude.{◌≡◌, None, IfOk, IsTrue};
 ghost use Rattle.cp_trie.specs.Faults.{first_fault as fault_of};
-ghost use Rattle.cp_trie.specs.Joined.{joined as join_of};
+ghost use Rattle.cp_trie.specs.Joined.{joined as join_of, AreApart};
 
 use crate::error::TrieError;
 use crate::ranges::CodePointMapRange;
@@ -78,17 +78,32 @@ pub(crate) fn first_fault<T: Copy>(runs: &[CodePointMapRange<T>]) -> Option<Trie
     }
 }
 
-/// The runs with neighbours of equal value joined.
+/// The runs with neighbours of equal value joined. Where none are equal, they are kept as they are.
 pub(crate) fn joined<T: Copy + Eq>(
     alloc: Global,
-    runs: &[CodePointMapRange<T>],
+    runs: Vec<CodePointMapRange<T>>,
 ) -> Result<Runs<T>, AllocError>
-    requires { fault_of runs.now ≡ None }
-    ensures { IfOk result (λ joined. joined ≡ join_of T.eq runs.now) }
+    requires { fault_of runs.items ≡ None }
+    ensures { IfOk result (λ joined. joined ≡ join_of T.eq runs.items) }
 {
+    if are_apart(&runs) {
+        return Ok(Runs { runs });
+    }
     Ok(Runs {
-        runs: joined_list(alloc, runs)?,
+        runs: joined_list(alloc, &runs)?,
     })
+}
+
+/// Whether no neighbours have an equal value.
+fn are_apart<T: Copy + Eq>(runs: &[CodePointMapRange<T>]) -> bool
+    ensures { IsTrue result → AreApart T.eq runs.now }
+{
+    for index in 1..runs.len() {
+        if runs[index - 1].value == runs[index].value {
+            return false;
+        }
+    }
+    true
 }
 
 /// The list of the runs with neighbours of equal value joined.

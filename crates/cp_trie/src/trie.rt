@@ -59,17 +59,17 @@ impl<T: TrieValue> CodePointTrie<T> {
         if let Some(fault) = first_fault(&runs) {
             return Err(fault);
         }
-        Ok(CodePointTrie::from_cover(alloc, &runs, error_value)?)
+        Ok(CodePointTrie::from_cover(alloc, runs, error_value)?)
     }
 
     /// The map of runs that cover 0 to 10FFFF in order.
     pub(crate) fn from_cover(
         alloc: Global,
-        runs: &[CodePointMapRange<T>],
+        runs: Vec<CodePointMapRange<T>>,
         error_value: T,
     ) -> Result<CodePointTrie<T>, AllocError>
-        requires { first_fault runs.now ≡ None }
-        ensures values { IfOk result (λ map. (c : ℕ) → value_at map c ≡ value_in runs.now error_value c) }
+        requires { first_fault runs.items ≡ None }
+        ensures values { IfOk result (λ map. (c : ℕ) → value_at map c ≡ value_in runs.items error_value c) }
         ensures past_end { IfOk result (λ map. map.error_value ≡ error_value) }
     {
         let runs = joined(alloc, runs)?;

@@ -30,7 +30,7 @@ from_cover-requires g c =
     let none : refused_from convert c.args.self.error_value 0 runs ≡ None = sym (c.loop-index.invariant.refused c.args.self.error_value) ∙ refused_from-none convert _ _ runs _ c.loop-index-test.false some in
     let items = converted_runs-all_done convert runs _ _ c.loop-index-test.false c.loop-index.invariant.done in
     let cover = IsCover-from_runs g.T.PartialEq.eq _ 0 runs c.runs-run-items.ensures.maximal in
-    rw (c.deref.ensures.value, items) (no_fault-from_IsCover 0 0 _ (IsCover-converted_runs convert _ 0 0 runs none cover))
+    rw (items) (no_fault-from_IsCover 0 0 _ (IsCover-converted_runs convert _ 0 0 runs none cover))
 
 pub returns-clause-values : goal.returns-clause-values
 returns-clause-values g c n =
@@ -40,7 +40,7 @@ returns-clause-values g c n =
     let none : refused_from convert c.args.self.error_value 0 runs ≡ None = sym (c.loop-index.invariant.refused c.args.self.error_value) ∙ refused_from-none convert _ _ runs _ c.loop-index-test.false some in
     let items = converted_runs-all_done convert runs _ _ c.loop-index-test.false c.loop-index.invariant.done in
     let values = value_in-converted_runs convert _ _ 0 runs n some none in
-    rw (c.in_ok-from_cover.ensures.values n, c.deref.ensures.value, items, ← c.runs-run-items.ensures.runs) values
+    rw (c.in_ok-from_cover.ensures.values n, items, ← c.runs-run-items.ensures.runs) values
 
 pub returns-clause-refusal : goal.returns-clause-refusal
 returns-clause-refusal g c rs maximal =
