@@ -13,6 +13,9 @@ use std::alloc::{AllocError, Global};
 use std::marker::Model;
 use std::sync::ledger::Ledger;
 
+/// How many runs a row with a boundary has in the maps of Unicode's properties, about: an expectation, no limit.
+const RUNS_A_ROW: usize = 8;
+
 /// The 272 places of the outer table lead to blocks of 64 page numbers, and a page number to a page of 64 values. A page
 /// inside one run is the page of its value, and equal pages and equal blocks are kept once.
 #[derive(Drop)]
@@ -83,7 +86,7 @@ fn pages_of<V: TrieValue>(
     ensures taken { IfOk result (λ pages. taken pages ≡ values_of runs.now) }
     ensures begun { IfOk result (λ pages. length pages.begun.values.items < 64) }
 {
-    let mut pages = Rows::new(alloc);
+    let mut pages = Rows::new(alloc, runs.len() / RUNS_A_ROW)?;
     for run in runs {
         let range = run.range;
         pages.take(run.value, (range.end - range.start) as usize + 1)?;
@@ -98,7 +101,7 @@ fn blocks_of(alloc: Global, pages: &[Repeated]) -> Result<Rows<u16>, AllocError>
     ensures taken { IfOk result (λ blocks. taken blocks ≡ spelled pages.now) }
     ensures begun { IfOk result (λ blocks. length blocks.begun.values.items < 64) }
 {
-    let mut blocks = Rows::new(alloc);
+    let mut blocks = Rows::new(alloc, pages.len() / RUNS_A_ROW)?;
     for page in pages {
         blocks.take(page.number, page.count)?;
     }

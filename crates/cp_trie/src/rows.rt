@@ -25,13 +25,14 @@ pub(crate) struct Shelf<V> {
 }
 
 impl<V: TrieValue> Shelf<V> {
-    fn new(alloc: Global) -> Shelf<V>
-        ensures { result.values.items ≡ [] }
+    /// No rows yet, where about so many are expected.
+    fn new(alloc: Global, expected: usize) -> Result<Shelf<V>, AllocError>
+        ensures { IfOk result (λ shelf. shelf.values.items ≡ []) }
     {
-        Shelf {
+        Ok(Shelf {
             values: Vec::new(alloc),
-            by_fingerprint: HashMap::new(alloc),
-        }
+            by_fingerprint: HashMap::with_capacity(alloc, expected)?,
+        })
     }
 
     /// The number of the row with these values. Where the row that has their fingerprint is not equal to them by `==`
@@ -82,6 +83,7 @@ impl<V: TrieValue> Begun<V> {
     }
 
     /// Puts the value so many times behind the others.
+    #[inline(always)]
     fn push(&mut self, value: V, count: usize) -> Result<(), AllocError>
         requires { length self.old.values.items + count ≤ 64 }
         ensures { OnOk result (self.new.values.items ≡ self.old.values.items ++ replicate count value) }
@@ -122,16 +124,17 @@ pub(crate) struct Rows<V> {
 }
 
 impl<V: TrieValue> Rows<V> {
-    pub(crate) fn new(alloc: Global) -> Rows<V>
-        ensures cut { IsCut result }
-        ensures taken { taken result ≡ [] }
-        ensures begun { result.begun.values.items ≡ [] }
+    /// Nothing taken yet, where about so many rows that differ are expected.
+    pub(crate) fn new(alloc: Global, expected: usize) -> Result<Rows<V>, AllocError>
+        ensures cut { IfOk result (λ rows. IsCut rows) }
+        ensures taken { IfOk result (λ rows. taken rows ≡ []) }
+        ensures begun { IfOk result (λ rows. rows.begun.values.items ≡ []) }
     {
-        Rows {
-            shelf: Shelf::new(alloc),
-            numbers: Vec::new(alloc),
+        Ok(Rows {
+            shelf: Shelf::new(alloc, expected)?,
+            numbers: Vec::with_capacity(alloc, expected)?,
             begun: Begun::new(alloc),
-        }
+        })
     }
 
     /// Takes the value so many times.
