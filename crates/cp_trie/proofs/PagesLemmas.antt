@@ -5,7 +5,9 @@ use Rattle.std.specs.List.{slice_get}
 use Rattle.std.proofs.lemmas.Bool.{cases_lt}
 use Rattle.std.proofs.lemmas.List.{length-replicate}
 use Rattle.cp_trie.specs.Rows.{row_of, AreWhole, rows_of}
-use Rattle.cp_trie.specs.Pages.{values_of, PageTables, page_of, led_to, StandFor}
+use Rattle.cp_trie.specs.PageTables.{PageTables}
+use Rattle.cp_trie.specs.Pages.{values_of, page_of, PlacesStandFor, StandFor}
+use Rattle.cp_trie.specs.declared.pages.Pages.TheVariants.{One}
 use Rattle.cp_trie.specs.Runs.{run_at}
 use Rattle.cp_trie.specs.declared.ranges.CodePointMapRange.{CodePointMapRange}
 use Rattle.cp_trie.proofs.ConversionLemmas.{left_from}
@@ -95,7 +97,7 @@ slice_get-values_of {V} n (r ∷ rs) i c cover place h =
 
 -- Where the pages hold the values of runs that cover, the blocks the numbers of the pages, and the outer places the numbers of the
 -- blocks, each place stands for the value of the run that holds it.
-pub stand_for : {V : Type 0} (pages : List V) (numbers blocks outer : List ℕ) (rs : List (CodePointMapRange V)) → AreWhole pages numbers → AreWhole blocks outer → rows_of pages numbers ≡ values_of rs → rows_of blocks outer ≡ numbers → IsCover 0 rs → StandFor (record { outer = outer; blocks = blocks; values = pages }) rs
+pub stand_for : {V : Type 0} (pages : List V) (numbers blocks outer : List ℕ) (rs : List (CodePointMapRange V)) → AreWhole pages numbers → AreWhole blocks outer → rows_of pages numbers ≡ values_of rs → rows_of blocks outer ≡ numbers → IsCover 0 rs → PlacesStandFor (record { outer = outer; blocks = blocks; values = pages }) rs
 stand_for {V} pages numbers blocks outer rs whole whole_blocks values same cover c h =
     let page_place : c / 64 ≡ c / 4096 * 64 + c / 64 % 64 = omega arith in
     let value_place : c ≡ c / 64 * 64 + c % 64 = omega arith in
@@ -105,3 +107,8 @@ stand_for {V} pages numbers blocks outer rs whole whole_blocks values same cover
     ∙ (sym (slice_get-rows_of pages numbers c (c / 64) (c % 64) whole value_place (omega arith))
     ∙ (ap (λ (l : List V). slice_get l c) values
     ∙ slice_get-values_of 0 rs c c cover (omega arith) h))
+
+-- the value of one run that covers stands for each code point
+pub stands_for-one : {V : Type 0} (r : CodePointMapRange V) → IsCover 0 (r ∷ []) → StandFor (One r.value) (r ∷ [])
+stands_for-one {V} r cover c h =
+    ap (λ (o : Option (CodePointMapRange V)). option_map (λ x. x.value) o) (sym (run_at-within r [] c (omega (arith, cover.0)) (omega (arith, cover.3))))

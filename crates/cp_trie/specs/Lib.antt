@@ -3,6 +3,7 @@ pub mod Faults
 pub mod Joined
 pub mod Map
 pub mod Mapped
+pub mod PageTables
 pub mod Pages
 pub mod Rows
 pub mod Runs

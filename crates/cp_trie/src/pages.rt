@@ -1,7 +1,7 @@
 //! Page tables: three reads lead from a code point to its value.
 ghost use Rattle.std.specs.Prelude.{◌≡◌, ◌+◌, ◌<◌, ◌≤◌, None, Some, IsSome, IfOk, length};
 ghost use Rattle.cp_trie.specs.Faults.{first_fault as fault_of};
-ghost use Rattle.cp_trie.specs.Pages.{values_of, led_to, StandFor};
+ghost use Rattle.cp_trie.specs.Pages.{values_of, value_by, led_to, PlacesStandFor, StandFor};
 ghost use Rattle.cp_trie.specs.Rows.{IsCut, taken, spelled};
 
 use crate::ranges::CodePointMapRange;
@@ -16,25 +16,18 @@ use std::sync::ledger::Ledger;
 /// How many runs a row with a boundary has in the maps of Unicode's properties, about: an expectation, no limit.
 const RUNS_A_ROW: usize = 8;
 
-/// The 272 places of the outer table lead to blocks of 64 page numbers, and a page number to a page of 64 values. A page
-/// inside one run is the page of its value, and equal pages and equal blocks are kept once.
+/// What the values of a map are read from.
 #[derive(Drop)]
-pub(crate) struct Pages<V> {
-    outer: Table<u16>,
-    blocks: Table<u16>,
-    values: Table<V>,
-}
-
-impl<V> Model for Pages<V> {
-    ghost use Rattle.cp_trie.specs.Pages.{PageTables};
-
-    ghost Value = { PageTables V };
-
-    ghost view = { λ s. record { outer = s.outer; blocks = s.blocks; values = s.values } };
+pub(crate) enum Pages<V> {
+    /// The value of all code points, where the map has one run.
+    One(V),
+    /// Page tables, where it has several.
+    Several(Tables<V>),
 }
 
 impl<V: TrieValue> Pages<V> {
-    /// The tables of runs that cover 0 to 10FFFF in order. The time is that of the runs and of the pages with a boundary.
+    /// What the values of runs that cover 0 to 10FFFF in order are read from. The time is that of the runs and of the
+    /// pages with a boundary.
     pub(crate) fn new(
         alloc: Global,
         runs: &[CodePointMapRange<V>],
@@ -42,20 +35,71 @@ impl<V: TrieValue> Pages<V> {
         requires { fault_of runs.now ≡ None }
         ensures { IfOk result (λ pages. StandFor pages runs.now) }
     {
+        if let [only] = runs {
+            return Ok(Pages::One(only.value));
+        }
+        Ok(Pages::Several(Tables::new(alloc, runs)?))
+    }
+
+    /// The value that stands at the place of a number, by at most three reads.
+    pub(crate) fn value<L: Ledger>(&self, c: u32, steps: &mut Steps<L>) -> V
+        requires { IsSome (led_to self.now c) }
+        ensures value { led_to self.now c ≡ Some result }
+        ensures cost { steps.new ≤ steps.old + 3 }
+    {
+        match self {
+            Pages::One(value) => *value,
+            Pages::Several(tables) => tables.value(c, steps),
+        }
+    }
+
+    /// The same.
+    pub(crate) fn copy(&self, alloc: Global) -> Result<Pages<V>, AllocError>
+        ensures { IfOk result (λ pages. pages ≡ self.now) }
+    {
+        match self {
+            Pages::One(value) => Ok(Pages::One(*value)),
+            Pages::Several(tables) => Ok(Pages::Several(tables.copy(alloc)?)),
+        }
+    }
+}
+
+/// The 272 places of the outer table lead to blocks of 64 page numbers, and a page number to a page of 64 values. A page
+/// inside one run is the page of its value, and equal pages and equal blocks are kept once.
+#[derive(Drop)]
+pub(crate) struct Tables<V> {
+    outer: Table<u16>,
+    blocks: Table<u16>,
+    values: Table<V>,
+}
+
+impl<V> Model for Tables<V> {
+    ghost use Rattle.cp_trie.specs.PageTables.{PageTables};
+
+    ghost Value = { PageTables V };
+
+    ghost view = { λ s. record { outer = s.outer; blocks = s.blocks; values = s.values } };
+}
+
+impl<V: TrieValue> Tables<V> {
+    fn new(alloc: Global, runs: &[CodePointMapRange<V>]) -> Result<Tables<V>, AllocError>
+        requires { fault_of runs.now ≡ None }
+        ensures { IfOk result (λ tables. PlacesStandFor tables runs.now) }
+    {
         let pages = pages_of(alloc, runs)?;
         let blocks = blocks_of(alloc, &pages.numbers)?;
         let outer = outer_of(alloc, &blocks.numbers)?;
-        Ok(Pages {
+        Ok(Tables {
             outer: Table::new(outer),
             blocks: Table::new(blocks.shelf.values),
             values: Table::new(pages.shelf.values),
         })
     }
 
-    /// The value that the tables lead to from a number, by three reads.
-    pub(crate) fn value<L: Ledger>(&self, c: u32, steps: &mut Steps<L>) -> V
-        requires { IsSome (led_to self.now c) }
-        ensures value { led_to self.now c ≡ Some result }
+    /// The value that the tables lead to from a number: one read of each.
+    fn value<L: Ledger>(&self, c: u32, steps: &mut Steps<L>) -> V
+        requires { IsSome (value_by self.now c) }
+        ensures value { value_by self.now c ≡ Some result }
         ensures cost { steps.new ≡ steps.old + 3 }
     {
         let c = c as usize;
@@ -65,10 +109,10 @@ impl<V: TrieValue> Pages<V> {
     }
 
     /// The same tables.
-    pub(crate) fn copy(&self, alloc: Global) -> Result<Pages<V>, AllocError>
-        ensures { IfOk result (λ pages. pages ≡ self.now) }
+    fn copy(&self, alloc: Global) -> Result<Tables<V>, AllocError>
+        ensures { IfOk result (λ tables. tables ≡ self.now) }
     {
-        Ok(Pages {
+        Ok(Tables {
             outer: self.outer.copy(alloc)?,
             blocks: self.blocks.copy(alloc)?,
             values: self.values.copy(alloc)?,

@@ -89,12 +89,11 @@ impl<T: TrieValue> CodePointTrie<T> {
         self.get32_over::<Brand>(c, Blank::new(1))
     }
 
-    /// The same, where each read of an element of a table is one step: three, and none past 10FFFF.
+    /// The same, where each read of an element of a table is one step: three at most, and none past 10FFFF.
     pub fn get32_steps<L: Ledger>(&self, c: u32, steps: &mut Steps<L>) -> T
         ensures value { result ≡ value_at self.now c }
         ensures past_end { 0x10_FFFF < c → result ≡ self.now.error_value }
-        ensures at_most { steps.new ≤ steps.old + 4 }
-        ensures reads { c ≤ 0x10_FFFF → steps.new ≡ steps.old + 3 }
+        ensures at_most { steps.new ≤ steps.old + 3 }
         ensures none_past_end { 0x10_FFFF < c → steps.new ≡ steps.old }
     {
         if LAST_CODE_POINT < c {

@@ -4,7 +4,7 @@ use Rattle.cp_trie.specs.Rows.{spelled}
 use Rattle.cp_trie.proofs.CoverLemmas.{IsCover, IsCover-from_no_fault}
 use Rattle.cp_trie.proofs.PagesLemmas.{length-values_of, stand_for}
 use Rattle.cp_trie.proofs.RowsLemmas.{laid-whole}
-use Rattle.cp_trie.proofs.pages.Pages.new.Goals as goal
+use Rattle.cp_trie.proofs.pages.Tables.new.Goals as goal
 
 pub blocks_of-requires : goal.blocks_of-requires
 blocks_of-requires g c =
