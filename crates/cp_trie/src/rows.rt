@@ -58,9 +58,6 @@ impl<V: TrieValue> Shelf<V> {
     }
 }
 
-/// How many values a short piece of a row has at most.
-const SHORT: usize = 16;
-
 /// An odd factor that spreads a number over 64 bits.
 const SPREAD: u64 = 0x9E37_79B9_7F4A_7C15;
 
@@ -93,23 +90,8 @@ impl<V: TrieValue> Begun<V> {
     {
         let begun = self.values.len();
         self.mix(begun, value.to_u32());
-        // fills of two lengths that are known are faster than one that is as long as the piece
-        if count <= SHORT {
-            self.fill(value, count, SHORT)
-        } else {
-            self.fill(value, count, ROW)
-        }
-    }
-
-    /// Fills up with so many copies of the value, and keeps so many of them.
-    #[inline(always)]
-    fn fill(&mut self, value: V, count: usize, copies: usize) -> Result<(), AllocError>
-        requires kept { count ≤ copies }
-        requires room { length self.old.values.items + copies ≤ 128 }
-        ensures { OnOk result (self.new.values.items ≡ self.old.values.items ++ replicate count value) }
-    {
-        let begun = self.values.len();
-        self.values.resize(begun + copies, value)?;
+        // a fill of one length that is known is faster than one that is as long as the piece
+        self.values.resize(begun + ROW, value)?;
         self.values.truncate(begun + count);
         Ok(())
     }
@@ -169,6 +151,9 @@ impl<V: TrieValue> Rows<V> {
             return Ok(());
         }
         self.take_rows(value, rest / ROW)?;
+        if rest % ROW == 0 {
+            return Ok(());
+        }
         self.begun.push(value, rest % ROW)
     }
 
