@@ -65,9 +65,7 @@ const SPREAD: u64 = 0x9E37_79B9_7F4A_7C15;
 #[derive(Drop)]
 pub(crate) struct Begun<V> {
     pub(crate) values: Vec<V>,
-    /// The number of the last value.
-    last: u32,
-    /// A digest of the places where another value begins, and of the values there. So equal rows have the same.
+    /// A digest of the places where pieces begin, and of the values there.
     fingerprint: u64,
 }
 
@@ -77,7 +75,6 @@ impl<V: TrieValue> Begun<V> {
     {
         Begun {
             values: Vec::new(alloc),
-            last: 0,
             fingerprint: 0,
         }
     }
@@ -89,22 +86,12 @@ impl<V: TrieValue> Begun<V> {
         ensures { OnOk result (self.new.values.items ≡ self.old.values.items ++ replicate count value) }
     {
         let begun = self.values.len();
-        self.mix(begun, value.to_u32());
+        let spread = ((begun as u64) << 32 | u64::from(value.to_u32())).wrapping_mul(SPREAD);
+        self.fingerprint = self.fingerprint.wrapping_add(spread ^ (spread >> 32));
         // a fill of one length that is known is faster than one that is as long as the piece
         self.values.resize(begun + ROW, value)?;
         self.values.truncate(begun + count);
         Ok(())
-    }
-
-    /// Mixes the number of the value at a place into the fingerprint, where it is another than that before it.
-    fn mix(&mut self, place: usize, number: u32)
-        ensures { self.new.values ≡ self.old.values }
-    {
-        if place == 0 || number != self.last {
-            let spread = ((place as u64) << 32 | u64::from(number)).wrapping_mul(SPREAD);
-            self.fingerprint = self.fingerprint.wrapping_add(spread ^ (spread >> 32));
-            self.last = number;
-        }
     }
 
     fn clear(&mut self)

@@ -1,12 +1,11 @@
-use Rattle.std.proofs.Common.{◌≡◌, ◌+◌, ◌-◌, length, vec_len, ap, ◌∙◌, arith}
+use Rattle.std.proofs.Common.{◌≡◌, ◌+◌, ◌-◌, length, vec_len, arith}
 use Rattle.cp_trie.proofs.RowsLemmas.{take-filled}
 use Rattle.cp_trie.proofs.rows.Begun.push.Goals as goal
 
 pub returns : goal.returns
 returns g c =
-    let values = c.mix.new.self.values in
+    let values = c.args.self.now.values in
     let begun = c.len-begun.result in
-    let same = ap (λ v. v.items) c.mix.ensures in
-    let size : begun ≡ length values.items = omega (arith, ap length same) in
-    let filled : begun + 64 - vec_len values ≡ 64 = omega (arith, ap vec_len c.mix.ensures) in
-    rw (c.truncate.ensures.items, c.in_ok-resize.ensures.items, ← same) (take-filled values.items begun c.args.count 64 (begun + 64 - vec_len values) c.args.value size (omega arith) filled)
+    let size : begun ≡ length values.items = omega arith in
+    let filled : begun + 64 - vec_len values ≡ 64 = omega arith in
+    rw (c.truncate.ensures.items, c.in_ok-resize.ensures.items) (take-filled values.items begun c.args.count 64 (begun + 64 - vec_len values) c.args.value size (omega arith) filled)
