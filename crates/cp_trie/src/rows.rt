@@ -125,6 +125,7 @@ impl<V: TrieValue> Rows<V> {
     }
 
     /// Takes the value so many times.
+    #[inline(always)]
     pub(crate) fn take(&mut self, value: V, count: usize) -> Result<(), AllocError>
         requires cut { IsCut self.old }
         requires begun { length self.old.begun.values.items < 64 }
@@ -133,10 +134,24 @@ impl<V: TrieValue> Rows<V> {
         ensures begun { OnOk result (length self.new.begun.values.items < 64) }
         ensures taken { OnOk result (taken self.new ≡ taken self.old ++ replicate count value) }
     {
-        let rest = self.complete(value, count)?;
-        if rest == 0 {
-            return Ok(());
+        if self.begun.values.len() + count < ROW {
+            return self.begun.push(value, count);
         }
+        self.take_across(value, count)
+    }
+
+    /// The same, where the row that is begun ends.
+    #[inline(never)]
+    fn take_across(&mut self, value: V, count: usize) -> Result<(), AllocError>
+        requires cut { IsCut self.old }
+        requires begun { length self.old.begun.values.items < 64 }
+        requires across { 64 ≤ length self.old.begun.values.items + count }
+        requires room { length (taken self.old) + count ≤ 0x11_0000 }
+        ensures cut { OnOk result (IsCut self.new) }
+        ensures begun { OnOk result (length self.new.begun.values.items < 64) }
+        ensures taken { OnOk result (taken self.new ≡ taken self.old ++ replicate count value) }
+    {
+        let rest = self.complete(value, count)?;
         self.take_rows(value, rest / ROW)?;
         if rest % ROW == 0 {
             return Ok(());
@@ -148,24 +163,21 @@ impl<V: TrieValue> Rows<V> {
     fn complete(&mut self, value: V, count: usize) -> Result<usize, AllocError>
         requires cut { IsCut self.old }
         requires begun { length self.old.begun.values.items < 64 }
+        requires across { 64 ≤ length self.old.begun.values.items + count }
         requires room { length (taken self.old) + count ≤ 0x11_0000 }
         ensures cut { OnOk result (IsCut self.new) }
         ensures rest { IfOk result (λ rest. rest ≤ count) }
         ensures taken { IfOk result (λ rest. taken self.new ≡ taken self.old ++ replicate (count - rest) value) }
-        ensures begun { OnOk result (length self.new.begun.values.items < 64) }
-        ensures empty { IfOk result (λ rest. 0 < rest → self.new.begun.values.items ≡ []) }
+        ensures empty { OnOk result (self.new.begun.values.items ≡ []) }
     {
         let begun = self.begun.values.len();
         if begun == 0 {
             return Ok(count);
         }
-        let first = count.min(ROW - begun);
-        self.begun.push(value, first)?;
-        if begun + first < ROW {
-            return Ok(0);
-        }
+        let missing = ROW - begun;
+        self.begun.push(value, missing)?;
         self.close(1)?;
-        Ok(count - first)
+        Ok(count - missing)
     }
 
     /// Takes so many rows of the value.

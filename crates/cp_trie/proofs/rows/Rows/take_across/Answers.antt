@@ -3,7 +3,7 @@ use Rattle.std.proofs.lemmas.List.{append-nil}
 use Rattle.std.proofs.lemmas.Result.{on_ok_weaker}
 use Rattle.cp_trie.specs.Rows.{laid, taken}
 use Rattle.cp_trie.proofs.RowsLemmas.{replicate-pieces}
-use Rattle.cp_trie.proofs.rows.Rows.take.Goals as goal
+use Rattle.cp_trie.proofs.rows.Rows.take_across.Goals as goal
 
 pub returns-clause-taken : goal.returns-clause-taken
 returns-clause-taken g c =
@@ -16,8 +16,8 @@ returns-clause-taken g c =
         size
     ) c.push.ensures
 
-pub returns-then-rest-eq0-2-clause-taken : goal.returns-then-rest-eq0-2-clause-taken
-returns-then-rest-eq0-2-clause-taken g c =
+pub returns-then-rest-eq0-clause-taken : goal.returns-then-rest-eq0-clause-taken
+returns-then-rest-eq0-clause-taken g c =
     let rest = c.in_ok-rest.rest in
     let size : c.args.count - rest + rest / 64 * 64 + 0 ≡ c.args.count = omega (arith, c.in_ok-rest.ensures.rest) in
     replicate-pieces (taken c.args.self.now) (taken c.complete.new.self) (taken c.take_rows.new.self) _ c.args.value (c.args.count - rest) (rest / 64 * 64) 0 c.args.count c.in_ok-rest.ensures.taken c.in_ok-take_rows.ensures.taken (sym (append-nil (taken c.take_rows.new.self))) size
