@@ -28,22 +28,13 @@ impl<T> Model for Runs<T> {
 }
 
 impl<T: Copy> Runs<T> {
-    ghost use Rattle.std.specs.Prelude.{◌≡◌, IfOk, option_map};
-    ghost use Rattle.cp_trie.specs.Runs.{run_at};
+    ghost use Rattle.std.specs.Prelude.{◌≡◌, IfOk};
 
     /// The runs in order.
     pub(crate) fn as_slice(&self) -> &[CodePointMapRange<T>]
         ensures { result.now ≡ self.now }
     {
         &self.runs
-    }
-
-    /// The run that holds the number, found by binary search. `None` for a number past 10FFFF.
-    pub(crate) fn run_at(&self, c: u32) -> Option<&CodePointMapRange<T>>
-        ensures { option_map (λ run. run.now) result ≡ run_at self.now c }
-    {
-        self.runs
-            .get(self.runs.partition_point(|run| run.range.end < c))
     }
 
     /// The same runs.
