@@ -65,7 +65,7 @@ const SPREAD: u64 = 0x9E37_79B9_7F4A_7C15;
 #[derive(Drop)]
 pub(crate) struct Begun<V> {
     pub(crate) values: Vec<V>,
-    /// A digest of the places where pieces begin, and of the values there.
+    /// A number made of the places where pieces begin, and of the values there.
     fingerprint: u64,
 }
 

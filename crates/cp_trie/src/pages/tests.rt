@@ -2,6 +2,7 @@ ghost use Rattle.std.specs.Prelude.{◌≡◌, ◌+◌, ◌<◌, ◌≤◌};
 
 use super::*;
 use crate::CodePointTrie;
+use crate::runs::first_fault;
 use cp_invlist::CodePointRange;
 use std::marker::Brand;
 use std::process::Abort;
@@ -30,6 +31,15 @@ fn runs_of(alloc: Global, starts: &[(u32, u32)]) -> Result<Vec<CodePointMapRange
     }
     runs.reverse();
     Ok(runs)
+}
+
+/// The page tables of the map.
+fn tables_of(alloc: Global, starts: &[(u32, u32)]) -> Result<Tables<u32>, Fail> {
+    let runs = runs_of(alloc, starts)?;
+    match first_fault(&runs) {
+        None => Ok(Tables::new(alloc, &runs)?),
+        Some(fault) => Err(fault)?,
+    }
 }
 
 /// What each number around these places answers is what the runs say.
@@ -96,8 +106,8 @@ fn pages_that_differ_in_their_first_value_alone_stay_apart(rt: HostRuntime) -> R
     let starts = [(0, 0), (0x40, 1), (0x41, 2), (0x80, 3), (0x81, 2), (0xC0, 1), (0xC1, 2)];
     let map = map_of(rt.alloc(), &starts)?;
     answers_at(&rt, &map, &starts);
-    let pages = pages_of(rt.alloc(), &runs_of(rt.alloc(), &starts)?)?;
-    assert_eq!(rt; pages.shelf.values.len(), 4 * ROW);
+    let tables = tables_of(rt.alloc(), &starts)?;
+    assert_eq!(rt; tables.values.len(), 4 * ROW);
     Ok(())
 }
 
@@ -111,11 +121,10 @@ fn equal_pages_and_equal_blocks_are_kept_once(rt: HostRuntime) -> Result<(), Fai
         starts.push((first.saturating_add(0x80), 7))?;
         starts.push((first.saturating_add(0x97), 5))?;
     }
-    let runs = runs_of(rt.alloc(), &starts)?;
-    let pages = pages_of(rt.alloc(), &runs)?;
-    assert_eq!(rt; pages.shelf.values.len(), 3 * ROW);
-    let blocks = blocks_of(rt.alloc(), &pages.numbers)?;
-    assert_eq!(rt; blocks.shelf.values.len(), ROW);
+    let tables = tables_of(rt.alloc(), &starts)?;
+    assert_eq!(rt; tables.values.len(), 3 * ROW);
+    assert_eq!(rt; tables.blocks.len(), ROW);
+    assert_eq!(rt; tables.outer.len(), 272);
     Ok(())
 }
 
