@@ -1,11 +1,10 @@
 -- Where page tables lead.
-use Rattle.std.proofs.Common.{◌≡◌, ℕ, zero, suc, ◌+◌, ◌*◌, ◌-◌, ◌/◌, ◌%◌, ◌<◌, ◌≤◌, Option, Some, None, List, [], ◌∷◌, ◌++◌, length, take, drop, replicate, get_or, refl, sym, ap, subst, ◌∙◌, inl, inr, arith, length-append}
+use Rattle.std.proofs.Common.{◌≡◌, ℕ, zero, suc, ◌+◌, ◌*◌, ◌-◌, ◌/◌, ◌%◌, ◌<◌, ◌≤◌, Option, Some, List, [], ◌∷◌, ◌++◌, length, take, drop, replicate, get_or, refl, sym, ap, subst, ◌∙◌, inl, inr, arith, length-append}
 use Rattle.std.specs.Prelude.{option_and_then, option_map}
 use Rattle.std.specs.List.{slice_get}
 use Rattle.std.proofs.lemmas.Bool.{cases_lt}
 use Rattle.std.proofs.lemmas.List.{length-replicate}
 use Rattle.cp_trie.specs.Rows.{row_of, AreWhole, rows_of}
-use Rattle.cp_trie.specs.PageTables.{PageTables}
 use Rattle.cp_trie.specs.Pages.{values_of, page_of, PlacesStandFor, StandFor}
 use Rattle.cp_trie.specs.declared.pages.Pages.TheVariants.{One}
 use Rattle.cp_trie.specs.Runs.{run_at}
@@ -76,7 +75,7 @@ room_for {V} front rs i r cover within read all =
     let here = subst P left place.1 in
     let size = r.range.end - r.range.start + 1 in
     let counted : length front + (size + length (values_of (drop (i + 1) rs))) ≡ length (values_of rs) =
-      omega (arith, length-append front (values_of (drop i rs)), ap length all, ap (λ (l : List (CodePointMapRange V)). length (values_of l)) left, length-append (replicate size r.value) (values_of (drop (i + 1) rs)), length-replicate size r.value) in
+    omega (arith, length-append front (values_of (drop i rs)), ap length all, ap (λ (l : List (CodePointMapRange V)). length (values_of l)) left, length-append (replicate size r.value) (values_of (drop (i + 1) rs)), length-replicate size r.value) in
     (omega (arith, here.0, here.1), omega (arith, length-values_of 0 rs cover))
 
 -- the value at a code point is that of the run that holds it
@@ -102,7 +101,7 @@ stand_for {V} pages numbers blocks outer rs whole whole_blocks values same cover
     let page_place : c / 64 ≡ c / 4096 * 64 + c / 64 % 64 = omega arith in
     let value_place : c ≡ c / 64 * 64 + c % 64 = omega arith in
     let page : page_of (record { outer = outer; blocks = blocks; values = pages }) c ≡ slice_get numbers (c / 64) =
-      sym (slice_get-rows_of blocks outer (c / 64) (c / 4096) (c / 64 % 64) whole_blocks page_place (omega arith)) ∙ ap (λ (l : List ℕ). slice_get l (c / 64)) same in
+    sym (slice_get-rows_of blocks outer (c / 64) (c / 4096) (c / 64 % 64) whole_blocks page_place (omega arith)) ∙ ap (λ (l : List ℕ). slice_get l (c / 64)) same in
     ap (λ (o : Option ℕ). option_and_then (λ n. slice_get pages (n * 64 + c % 64)) o) page
     ∙ (sym (slice_get-rows_of pages numbers c (c / 64) (c % 64) whole value_place (omega arith))
     ∙ (ap (λ (l : List V). slice_get l c) values

@@ -31,10 +31,7 @@ pub(crate) enum Pages<V> {
 impl<V: TrieValue> Pages<V> {
     /// What the values of runs that cover 0 to 10FFFF in order are read from. The time is that of the runs and of the
     /// pages with a boundary.
-    pub(crate) fn new(
-        alloc: Global,
-        runs: &[CodePointMapRange<V>],
-    ) -> Result<Pages<V>, AllocError>
+    pub(crate) fn new(alloc: Global, runs: &[CodePointMapRange<V>]) -> Result<Pages<V>, AllocError>
         requires { fault_of runs.now ≡ None }
         ensures { IfOk result (λ pages. StandFor pages runs.now) }
     {

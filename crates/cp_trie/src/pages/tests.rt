@@ -43,15 +43,15 @@ fn tables_of(alloc: Global, starts: &[(u32, u32)]) -> Result<Tables<u32>, Fail> 
 }
 
 /// What each number around these places answers is what the runs say.
-fn answers_at<R: Abort>(
-    rt: &R,
-    map: &CodePointTrie<u32>,
-    starts: &[(u32, u32)],
-) {
+fn answers_at<R: Abort>(rt: &R, map: &CodePointTrie<u32>, starts: &[(u32, u32)]) {
     let mut before = 0;
     for (start, value) in starts {
         if *start > 0 {
-            assert_eq!(rt; map.get32(start.saturating_sub(1)), before, "before {start}");
+            assert_eq!(rt;
+                map.get32(start.saturating_sub(1)),
+                before,
+                "before {start}"
+            );
         }
         assert_eq!(rt; map.get32(*start), *value, "at {start}");
         before = *value;
@@ -95,7 +95,14 @@ fn pages_that_differ_in_their_last_value_alone_stay_apart(rt: HostRuntime) -> Re
     ];
     let map = map_of(rt.alloc(), &starts)?;
     answers_at(&rt, &map, &starts);
-    for (c, value) in [(0x40, 0), (0x7E, 1), (0x7F, 2), (0xBF, 3), (0xFE, 1), (0xFF, 1)] {
+    for (c, value) in [
+        (0x40, 0),
+        (0x7E, 1),
+        (0x7F, 2),
+        (0xBF, 3),
+        (0xFE, 1),
+        (0xFF, 1),
+    ] {
         assert_eq!(rt; map.get32(c), value, "at {c}");
     }
     Ok(())
@@ -103,7 +110,15 @@ fn pages_that_differ_in_their_last_value_alone_stay_apart(rt: HostRuntime) -> Re
 
 #[test]
 fn pages_that_differ_in_their_first_value_alone_stay_apart(rt: HostRuntime) -> Result<(), Fail> {
-    let starts = [(0, 0), (0x40, 1), (0x41, 2), (0x80, 3), (0x81, 2), (0xC0, 1), (0xC1, 2)];
+    let starts = [
+        (0, 0),
+        (0x40, 1),
+        (0x41, 2),
+        (0x80, 3),
+        (0x81, 2),
+        (0xC0, 1),
+        (0xC1, 2),
+    ];
     let map = map_of(rt.alloc(), &starts)?;
     answers_at(&rt, &map, &starts);
     let tables = tables_of(rt.alloc(), &starts)?;
@@ -169,11 +184,7 @@ fn look_up<L: Ledger>(map: &CodePointTrie<u32>, c: u32, steps: &mut Steps<L>) ->
 }
 
 /// Digits, letters and surrogates with the numbers of their general categories, over a ledger of the caller's.
-fn look_up_categories<L: Ledger, R: Abort>(
-    rt: &R,
-    alloc: Global,
-    blank: Blank,
-) -> Result<(), Fail>
+fn look_up_categories<L: Ledger, R: Abort>(rt: &R, alloc: Global, blank: Blank) -> Result<(), Fail>
     requires name { blank.name ≡ L.name }
     requires parts { blank.parts ≡ L.parts }
     requires some { 0 < blank.parts }

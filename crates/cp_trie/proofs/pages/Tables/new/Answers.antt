@@ -1,4 +1,4 @@
-use Rattle.std.proofs.Common.{◌≡◌, ◌+◌, ◌*◌, length, ap, ◌∙◌, arith}
+use Rattle.std.proofs.Common.{◌≡◌, ◌*◌, length, ap, ◌∙◌, arith}
 use Rattle.cp_trie.specs.Pages.{values_of}
 use Rattle.cp_trie.specs.Rows.{spelled}
 use Rattle.cp_trie.proofs.CoverLemmas.{IsCover, IsCover-from_no_fault}

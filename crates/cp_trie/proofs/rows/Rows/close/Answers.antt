@@ -1,5 +1,5 @@
-use Rattle.std.proofs.Common.{◌≡◌, ◌++◌, ap, ◌∙◌, replicate, arith}
-use Rattle.cp_trie.specs.Rows.{spelled, repeat}
+use Rattle.std.proofs.Common.{◌≡◌, ◌++◌, ap, ◌∙◌, replicate}
+use Rattle.cp_trie.specs.Rows.{spelled}
 use Rattle.cp_trie.proofs.RowsLemmas.{spelled-append_one, rows_of-closed, AreWhole-closed, few-closed}
 use Rattle.cp_trie.proofs.rows.Rows.close.Goals as goal
 

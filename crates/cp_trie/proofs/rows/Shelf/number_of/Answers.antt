@@ -17,6 +17,6 @@ returns-clause-kept g c = record { more = []; behind = sym (append-nil c.args.se
 pub returns-2-clause-row : goal.returns-2-clause-row
 returns-2-clause-row g c =
     let same : c.in_default.self.values.items ≡ c.args.self.now.values.items =
-      elim c.in_default.branch [ in_default-via-in-None-1 w ↦ ap (λ s. s.values.items) w.self-is | in_default-via-in-Some+else-eq w ↦ ap (λ s. s.values.items) w.self-is ] in
+    elim c.in_default.branch [ in_default-via-in-None-1 w ↦ ap (λ s. s.values.items) w.self-is | in_default-via-in-Some+else-eq w ↦ ap (λ s. s.values.items) w.self-is ] in
     let rows : length c.args.self.now.values.items ≡ c.len.result / 64 * 64 = omega arith in
     rw (c.in_ok-extend_from_slice.ensures.items, same) (row_of-last c.args.self.now.values.items c.args.row.now (c.len.result / 64) rows c.requires.full)
