@@ -5,7 +5,7 @@ use Rattle.text_lines.specs.Fields.{fields}
 use Rattle.prop_data.specs.declared.error.TableErrorKind.TheVariants.{RangeOrder, SyntaxAscii, NoEnd}
 use Rattle.prop_data.specs.Line.{header, line_of, is_header_word}
 use Rattle.prop_data.specs.Numbers.{hex, hyphen_parts, range}
-use Rattle.prop_data.specs.SetTable.{set_number}
+use Rattle.prop_binary.specs.Tables.{properties}
 use Rattle.prop_data.specs.TableText.{row_fault, header_fault, at_line, table_fault, tables_in}
 
 lines-example : lines (0x61 ∷ 0x0D ∷ 0x0A ∷ 0x62 ∷ 0x0D ∷ []) ≡ codes "a" ∷ (0x62 ∷ 0x0D ∷ []) ∷ []
@@ -27,24 +27,29 @@ abbrev text : List (List ℕ)
 text = codes "set XID_Start" ∷ codes "41-5A" ∷ codes "61" ∷ codes "end" ∷ []
 
 table_fault-example : table_fault text ≡ None
-unfolding line_of is_header_word range hyphen_parts hex set_number header_fault row_fault
+unfolding line_of is_header_word range hyphen_parts hex properties header_fault row_fault
 table_fault-example = refl
 
-tables_in-example : (option_map (λ members. members 0x5A ∷ members 0x5B ∷ members 0x61 ∷ []) (tables_in text 68) ≡ Some (true ∷ false ∷ true ∷ [])) × (tables_in text 67 ≡ None)
-unfolding line_of is_header_word range hyphen_parts hex set_number
+tables_in-example : (option_map (λ members. members 0x5A ∷ members 0x5B ∷ members 0x61 ∷ []) ((tables_in text).sets 68) ≡ Some (true ∷ false ∷ true ∷ [])) × ((tables_in text).sets 67 ≡ None)
+unfolding line_of is_header_word range hyphen_parts hex properties
 tables_in-example = (refl, refl)
 
 -- the second row is not above the first
 table_fault-order : table_fault (codes "set XID_Start" ∷ codes "61" ∷ codes "41-5A" ∷ codes "end" ∷ []) ≡ Some (at_line 3 RangeOrder)
-unfolding line_of is_header_word range hyphen_parts hex set_number header_fault row_fault
+unfolding line_of is_header_word range hyphen_parts hex properties header_fault row_fault
 table_fault-order = refl
 
 -- the exclamation mark is no white space
 table_fault-ascii : table_fault (codes "set Pattern_White_Space" ∷ codes "20-21" ∷ codes "end" ∷ []) ≡ Some (at_line 2 SyntaxAscii)
-unfolding line_of is_header_word range hyphen_parts hex set_number header_fault row_fault
+unfolding line_of is_header_word range hyphen_parts hex properties header_fault row_fault
 table_fault-ascii = refl
 
 -- the missing `end` is told at the line behind the last
 table_fault-no_end : table_fault (codes "set XID_Start" ∷ codes "41" ∷ []) ≡ Some (at_line 3 NoEnd)
-unfolding line_of is_header_word range hyphen_parts hex set_number header_fault row_fault
+unfolding line_of is_header_word range hyphen_parts hex properties header_fault row_fault
 table_fault-no_end = refl
+
+-- no other set is tested so
+table_fault-other_set : table_fault (codes "set Dash" ∷ codes "2D" ∷ codes "end" ∷ []) ≡ None
+unfolding line_of is_header_word range hyphen_parts hex properties header_fault row_fault
+table_fault-other_set = refl

@@ -13,9 +13,9 @@ use Rattle.prop_data.specs.TableText.{table_fault}
 abbrev pub set_of : PropertyDatabase → ℕ → Option (List ℕ)
 set_of database t = get nat_cmp database.sets t
 
--- the members of each set table
+-- the tables of a database, the sets by their members
 abbrev pub tables_of : PropertyDatabase → Tables
-tables_of database t = option_map contains (set_of database t)
+tables_of database = record { sets = λ t. option_map contains (set_of database t) }
 
 -- the fault of the lines, where it is no want of memory
 abbrev pub IsFault : List (List ℕ) → LoadError → Type 0

@@ -2,6 +2,8 @@ pub mod SetTable
 pub mod Numbers
 pub mod Line
 pub mod Tables
+pub mod LinesAbove
+pub mod TableErrorKind
 pub mod TableText
 pub mod Database
 pub mod Loading

@@ -12,7 +12,8 @@ use Rattle.prop_data.specs.Database.{tables_of}
 use Rattle.prop_data.specs.Line.{Line, blank, header, row, closing, other}
 use Rattle.prop_data.specs.Numbers.{range}
 use Rattle.prop_data.specs.SetTable.{set_number}
-use Rattle.prop_data.specs.Tables.{Tables, holds, is_number}
+use Rattle.prop_data.specs.Tables.{Tables}
+use Rattle.prop_data.specs.LinesAbove.{holds, is_number}
 use Rattle.prop_data.specs.TableText.{Above, at_line, line_fault, row_fault}
 
 -- a line as the code keeps it
@@ -25,8 +26,8 @@ line_seen Other = other
 
 -- the tables, and the open one beside them
 abbrev pub tables_with : Option OpenTable → Tables → Tables
-tables_with None tables t = tables t
-tables_with (Some o) tables t = if nat_eq o.table t then Some (contains o.builder) else tables t
+tables_with None tables = tables
+tables_with (Some o) tables = record { sets = λ t. if nat_eq o.table t then Some (contains o.builder) else tables.sets t }
 
 -- what the loader keeps of the lines above
 abbrev pub kept : Loader → Above
@@ -39,13 +40,14 @@ kept l = record {
 
 -- the same tables, and an empty one under the number
 abbrev pub with_table : Option ℕ → Tables → Tables
-with_table None tables t = tables t
-with_table (Some n) tables t = if nat_eq n t then Some (λ c. false) else tables t
+with_table None tables = tables
+with_table (Some n) tables = record { sets = λ t. if nat_eq n t then Some (λ c. false) else tables.sets t }
 
 -- the same tables, and the range in one of them
 abbrev pub with_range : Option ℕ → Option (ℕ × ℕ) → Tables → Tables
-with_range table r tables t =
-    if is_number table t then option_map (λ members c. members c || holds r c) (tables t) else tables t
+with_range table r tables = record {
+  sets = λ t. if is_number table t then option_map (λ members c. members c || holds r c) (tables.sets t) else tables.sets t;
+}
 
 -- what a line without a fault makes of what stands above the next one
 abbrev pub after : Above → Line → Above

@@ -8,7 +8,8 @@ use Rattle.prop_data.specs.declared.error.TableError.{TableError}
 use Rattle.prop_data.specs.Line.{Line, blank, header, row, closing, other, line_of}
 use Rattle.prop_data.specs.Numbers.{range}
 use Rattle.prop_data.specs.SetTable.{set_number}
-use Rattle.prop_data.specs.Tables.{Tables, is_closed, table_above, last_above, tables_of_lines}
+use Rattle.prop_data.specs.Tables.{Tables}
+use Rattle.prop_data.specs.LinesAbove.{is_closed, table_above, last_above, tables_of_lines}
 
 -- what the tests of a line look at above it
 pub record Above : Type 0 where
@@ -20,12 +21,13 @@ pub record Above : Type 0 where
 abbrev pub above : List Line → Above
 above ls = record { closed = is_closed ls; table = table_above ls; last = last_above ls; tables = tables_of_lines ls }
 
--- The ASCII ranges that a syntax table must not hold: of Pattern_White_Space the visible characters, of the others all but
--- letters, digits and `_`.
+-- The ASCII ranges that a table must not hold: Pattern_White_Space (51) the visible characters, XID_Continue (67) and XID_Start
+-- (68) all but letters, digits and `_`. No other table is tested so.
 abbrev pub forbidden : ℕ → List (ℕ × ℕ)
 forbidden t =
     if nat_eq t 51 then (0x21, 0x7E) ∷ []
-    else (0x00, 0x2F) ∷ (0x3A, 0x40) ∷ (0x5B, 0x5E) ∷ (0x60, 0x60) ∷ (0x7B, 0x7F) ∷ []
+    else if nat_eq t 67 || nat_eq t 68 then (0x00, 0x2F) ∷ (0x3A, 0x40) ∷ (0x5B, 0x5E) ∷ (0x60, 0x60) ∷ (0x7B, 0x7F) ∷ []
+    else []
 
 abbrev pub overlaps : ℕ × ℕ → ℕ × ℕ → Bool
 overlaps r s = nat_le r.0 s.1 && nat_le s.0 r.1
@@ -46,7 +48,7 @@ row_fault (Some t) last (Some r) =
 
 unfoldable pub header_fault : Bool → Tables → Option ℕ → Option TableErrorKind
 header_fault closed tables None = Some UnknownTable
-header_fault closed tables (Some t) = if is_some (tables t) then Some TableTwice else if closed then Some AfterEnd else None
+header_fault closed tables (Some t) = if is_some (tables.sets t) then Some TableTwice else if closed then Some AfterEnd else None
 
 -- the first test that fails at a line
 abbrev pub line_fault : Above → Line → Option TableErrorKind

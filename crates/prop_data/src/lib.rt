@@ -7,7 +7,6 @@ mod line;
 mod loader;
 mod numbers;
 mod row;
-mod tables;
 #[cfg(test)]
 mod tests;
 

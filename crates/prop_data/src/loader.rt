@@ -12,7 +12,6 @@ use crate::error::{LoadError, TableError, TableErrorKind};
 use crate::line::{Line, read_line};
 use crate::numbers::range;
 use crate::row::row_fault;
-use crate::tables::syntax_table;
 use cp_invlist::{CodePointInversionListBuilder, NoMemory};
 use prop_binary::SetTable;
 use std::alloc::Global;
@@ -80,7 +79,7 @@ impl Loader {
 
     /// Whether a header of the table was read.
     fn has_table(&self, table: SetTable) -> bool
-        ensures { result ≡ is_some ((kept self.now).tables table) }
+        ensures { result ≡ is_some ((kept self.now).tables.sets table) }
     {
         if let Some(open_table) = &self.open_table {
             if open_table.table.number() == table.number() {
@@ -108,7 +107,7 @@ impl Loader {
     fn begin_table(&mut self, name: &[u8], number: usize) -> Result<(), LoadError>
         ensures { Takes (kept self.old) (header name.now) number result (kept self.new) }
     {
-        let Some(table) = syntax_table(name) else {
+        let Some(table) = SetTable::from_name(name) else {
             return Err(fault(number, TableErrorKind::UnknownTable));
         };
         if self.has_table(table) {

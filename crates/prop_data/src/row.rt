@@ -13,18 +13,21 @@ fn overlaps(range: CodePointRange, first: u32, last: u32) -> bool
     range.start <= last && first <= range.end
 }
 
-/// Whether the range holds an ASCII character that the pattern syntax needs.
+/// Whether the range holds an ASCII character that the table must not hold, since the pattern syntax needs it.
 fn holds_syntax(table: SetTable, range: CodePointRange) -> bool
     ensures { result ≡ list_any (overlaps (range.start, range.end)) (forbidden table) }
 {
-    if table.number() == SetTable::PATTERN_WHITE_SPACE.number() {
-        return overlaps(range, 0x21, 0x7E);
+    if table == SetTable::PATTERN_WHITE_SPACE {
+        overlaps(range, 0x21, 0x7E)
+    } else if table == SetTable::XID_CONTINUE || table == SetTable::XID_START {
+        overlaps(range, 0x00, 0x2F)
+            || overlaps(range, 0x3A, 0x40)
+            || overlaps(range, 0x5B, 0x5E)
+            || overlaps(range, 0x60, 0x60)
+            || overlaps(range, 0x7B, 0x7F)
+    } else {
+        false
     }
-    overlaps(range, 0x00, 0x2F)
-        || overlaps(range, 0x3A, 0x40)
-        || overlaps(range, 0x5B, 0x5E)
-        || overlaps(range, 0x60, 0x60)
-        || overlaps(range, 0x7B, 0x7F)
 }
 
 fn is_behind(last: Option<u32>, start: u32) -> bool

@@ -154,6 +154,24 @@ fn ascii_that_names_never_hold_is_told(rt: HostRuntime) -> Result<(), Fail> {
 }
 
 #[test]
+fn other_sets_may_hold_any_ascii(rt: HostRuntime) -> Result<(), Fail> {
+    let text =
+        "set Dash\n2D\nset Pattern_Syntax\n21-2F\nset ASCII_Hex_Digit\n30-39\nset White_Space\n20\nend";
+    let database = PropertyDatabase::from_text(rt.alloc(), text)?;
+    for (table, expected) in [
+        (SetTable::DASH, [0x2D, 0x2E].as_slice()),
+        (SetTable::PATTERN_SYNTAX, [0x21, 0x30].as_slice()),
+        (SetTable::ASCII_HEX_DIGIT, [0x30, 0x3A].as_slice()),
+        (SetTable::WHITE_SPACE, [0x20, 0x21].as_slice()),
+    ] {
+        let set = database.set(table).ok_or("no table")?;
+        assert_eq!(rt; set.get_inversion_list(), expected, "at {}", table.number());
+    }
+    assert!(rt; database.set(SetTable::EMOJI).is_none());
+    Ok(())
+}
+
+#[test]
 fn the_first_fault_is_told(rt: HostRuntime) {
     for (text, line, kind) in [
         ("set XID_Start\n4G\n110000\n", 2, TableErrorKind::BadNumber),
@@ -179,25 +197,6 @@ fn the_first_fault_is_told(rt: HostRuntime) {
 }
 
 #[test]
-fn tables_have_their_names_and_numbers(rt: HostRuntime) {
-    for (name, table, number) in [
-        ("Pattern_White_Space", SetTable::PATTERN_WHITE_SPACE, 51),
-        ("XID_Continue", SetTable::XID_CONTINUE, 67),
-        ("XID_Start", SetTable::XID_START, 68),
-    ] {
-        assert_eq!(rt;
-            SetTable::from_name(name.as_bytes()),
-            Some(table),
-            "at {name}"
-        );
-        assert_eq!(rt; table.number(), number, "at {name}");
-    }
-    for name in ["", "XID_Star", "XID_Starts", "xid_start", "XIDS"] {
-        assert_eq!(rt; SetTable::from_name(name.as_bytes()), None, "at {name}");
-    }
-}
-
-#[test]
 fn kinds_show_their_names(rt: HostRuntime) -> Result<(), Fail> {
     for (kind, name) in [
         (TableErrorKind::UnknownLine, "UnknownLine"),
@@ -219,6 +218,7 @@ fn kinds_show_their_names(rt: HostRuntime) -> Result<(), Fail> {
     ] {
         let text = format!(in rt.alloc(); "{kind}")?;
         assert_eq!(rt; text.as_str(), name);
+        assert_eq!(rt; kind.name(), name);
     }
     Ok(())
 }
