@@ -1,3 +1,6 @@
+pub mod MapBuilderLemmas
+pub mod RowLemmas
 pub mod AboveLemmas
+pub mod LoadingLemmas
 pub mod Reading
 mod Examples

@@ -5,12 +5,12 @@ use Rattle.text_lines.specs.Fields.{fields}
 use Rattle.prop_data.specs.declared.error.TableError.{TableError}
 use Rattle.prop_data.specs.declared.error.TableErrorKind.TheVariants.{NoEnd}
 use Rattle.prop_data.specs.Line.{Line, line_of}
-use Rattle.prop_data.specs.LinesAbove.{tables_of_lines}
+use Rattle.prop_data.specs.LinesAbove.{or_else, tables_of_lines}
 use Rattle.prop_data.specs.declared.error.LoadError.{LoadError}
 use Rattle.prop_data.specs.declared.error.LoadError.TheVariants.{Table, NoMemory}
 use Rattle.prop_data.specs.Database.{IsFault}
 use Rattle.prop_data.specs.Loading.{after, Takes}
-use Rattle.prop_data.specs.TableText.{Above, above, at_line, line_fault, first_fault, or_else, laid_on, lines_by_field, table_fault, tables_in}
+use Rattle.prop_data.specs.TableText.{Above, above, at_line, line_fault, first_fault, laid_on, lines_by_field, table_fault, tables_in}
 use Rattle.prop_data.proofs.AboveLemmas.{above-line}
 
 pub record StandsAt (text rest : List ℕ) (seen : Above) (number : ℕ) : Type 0 where

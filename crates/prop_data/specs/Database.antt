@@ -3,6 +3,7 @@ use Rattle.std.specs.Prelude.{◌≡◌, ℕ, List, Option, Some, option_map}
 use Rattle.std.specs.Ordering.{nat_cmp}
 use Rattle.std.specs.BTreeMap.{get}
 use Rattle.cp_invlist.specs.InversionList.{contains}
+use Rattle.cp_trie.specs.Map.{CodePointMap, value_at}
 use Rattle.prop_data.specs.declared.database.PropertyDatabase.{PropertyDatabase}
 use Rattle.prop_data.specs.declared.error.LoadError.{LoadError}
 use Rattle.prop_data.specs.declared.error.LoadError.TheVariants.{Table, NoMemory}
@@ -13,9 +14,16 @@ use Rattle.prop_data.specs.TableText.{table_fault}
 abbrev pub set_of : PropertyDatabase → ℕ → Option (List ℕ)
 set_of database t = get nat_cmp database.sets t
 
--- the tables of a database, the sets by their members
+-- the map of a map table, by the table's number
+abbrev pub map_of : PropertyDatabase → ℕ → Option (CodePointMap ℕ)
+map_of database t = get nat_cmp database.maps t
+
+-- the tables of a database: sets by their members, maps by their values
 abbrev pub tables_of : PropertyDatabase → Tables
-tables_of database = record { sets = λ t. option_map contains (set_of database t) }
+tables_of database = record {
+  sets = λ t. option_map contains (set_of database t);
+  maps = λ t. option_map value_at (map_of database t);
+}
 
 -- the fault of the lines, where it is no want of memory
 abbrev pub IsFault : List (List ℕ) → LoadError → Type 0

@@ -1,9 +1,11 @@
-pub mod SetTable
 pub mod Numbers
 pub mod Line
+pub mod Headers
+pub mod Rows
 pub mod Tables
 pub mod LinesAbove
 pub mod TableErrorKind
 pub mod TableText
+pub mod MapBuilder
 pub mod Database
 pub mod Loading

@@ -1,8 +1,8 @@
 -- What the lines above a line say, the nearest line first.
-use Rattle.std.specs.Prelude.{ℕ, Bool, true, false, ◌||◌, ◌&&◌, nat_le, nat_eq, List, [], ◌∷◌, Option, Some, None, option_map, if◌then◌else◌}
-use Rattle.prop_data.specs.Line.{Line, blank, header, row, closing, other}
-use Rattle.prop_data.specs.Numbers.{range}
-use Rattle.prop_data.specs.SetTable.{set_number}
+use Rattle.std.specs.Prelude.{ℕ, Bool, true, false, nat_eq, List, [], ◌∷◌, Option, Some, None, if◌then◌else◌}
+use Rattle.prop_data.specs.Headers.{Table, set_table, map_table, table_of}
+use Rattle.prop_data.specs.Line.{Row, Line, blank, header, row, closing, other}
+use Rattle.prop_data.specs.Rows.{last_of, members, value}
 use Rattle.prop_data.specs.Tables.{Tables}
 
 -- `end` stands above
@@ -10,59 +10,64 @@ abbrev pub is_closed : List Line → Bool
 is_closed [] = false
 is_closed (closing ∷ above) = true
 is_closed (blank ∷ above) = is_closed above
-is_closed (header name ∷ above) = is_closed above
-is_closed (row field ∷ above) = is_closed above
+is_closed (header h ∷ above) = is_closed above
+is_closed (row r ∷ above) = is_closed above
 is_closed (other ∷ above) = is_closed above
 
--- the table of the nearest header
-abbrev pub table_above : List Line → Option ℕ
-table_above [] = None
-table_above (header name ∷ above) = set_number name
-table_above (blank ∷ above) = table_above above
-table_above (row field ∷ above) = table_above above
-table_above (closing ∷ above) = table_above above
-table_above (other ∷ above) = table_above above
+-- a table with its rows, the nearest first
+abbrev pub Section : Type 0
+Section = Table × List Row
 
--- the last code point of the nearest row, where no header is nearer
-abbrev pub last_above : List Line → Option ℕ
-last_above [] = None
-last_above (row field ∷ above) = option_map (λ r. r.1) (range field)
-last_above (header name ∷ above) = None
-last_above (blank ∷ above) = last_above above
-last_above (closing ∷ above) = last_above above
-last_above (other ∷ above) = last_above above
+abbrev pub begins_with : Option Table → List Section → List Section
+begins_with None sections = sections
+begins_with (Some t) sections = (t, []) ∷ sections
 
-abbrev pub is_number : Option ℕ → ℕ → Bool
-is_number None t = false
-is_number (Some n) t = nat_eq n t
+abbrev pub with_row : Row → List Section → List Section
+with_row r [] = []
+with_row r (s ∷ sections) = (s.0, r ∷ s.1) ∷ sections
 
--- the range, where there is one, holds the number
-abbrev pub holds : Option (ℕ × ℕ) → ℕ → Bool
-holds None c = false
-holds (Some r) c = nat_le r.0 c && nat_le c r.1
+-- the tables with their rows, the nearest first
+abbrev pub sections : List Line → List Section
+sections [] = []
+sections (header h ∷ above) = begins_with (table_of h) (sections above)
+sections (row r ∷ above) = with_row r (sections above)
+sections (blank ∷ above) = sections above
+sections (closing ∷ above) = sections above
+sections (other ∷ above) = sections above
 
--- a header of this table stands there
-abbrev pub has_table : ℕ → List Line → Bool
-has_table t [] = false
-has_table t (header name ∷ above) = is_number (set_number name) t || has_table t above
-has_table t (blank ∷ above) = has_table t above
-has_table t (row field ∷ above) = has_table t above
-has_table t (closing ∷ above) = has_table t above
-has_table t (other ∷ above) = has_table t above
+-- the table that a row belongs to
+abbrev pub table_of_row : List Section → Option Table
+table_of_row [] = None
+table_of_row (s ∷ sections) = Some s.0
 
--- a row with this table's header as the nearest above it holds the number
-abbrev pub in_table : ℕ → List Line → ℕ → Bool
-in_table t [] c = false
-in_table t (row field ∷ above) c = in_table t above c || (is_number (table_above above) t && holds (range field) c)
-in_table t (header name ∷ above) c = in_table t above c
-in_table t (blank ∷ above) c = in_table t above c
-in_table t (closing ∷ above) c = in_table t above c
-in_table t (other ∷ above) c = in_table t above c
+-- the last code point of the row above in its table
+abbrev pub last_in_table : List Section → Option ℕ
+last_in_table [] = None
+last_in_table (s ∷ sections) = last_of s.1
 
--- the members of each set table that has a header there
-abbrev pub sets_of_lines : List Line → ℕ → Option (ℕ → Bool)
-sets_of_lines above t = if has_table t above then Some (in_table t above) else None
+abbrev pub or_else : {A : Type 0} → Option A → Option A → Option A
+or_else None other_one = other_one
+or_else (Some x) other_one = Some x
+
+-- what the nearest section says that says something
+abbrev pub found : {A : Type 0} → (Table → List Row → Option A) → List Section → Option A
+found says [] = None
+found says (s ∷ sections) = or_else (says s.0 s.1) (found says sections)
+
+-- the members of the set with this number
+abbrev pub set_at : ℕ → Table → List Row → Option (ℕ → Bool)
+set_at n (set_table t) rows = if nat_eq t n then Some (members rows) else None
+set_at n (map_table t default) rows = None
+
+-- the values of the map with this number
+abbrev pub map_at : ℕ → Table → List Row → Option (ℕ → ℕ)
+map_at n (map_table t default) rows = if nat_eq t n then Some (value t default rows) else None
+map_at n (set_table t) rows = None
+
+-- the tables that the sections mean
+abbrev pub tables_of_sections : List Section → Tables
+tables_of_sections ss = record { sets = λ n. found (set_at n) ss; maps = λ n. found (map_at n) ss }
 
 -- the tables that the lines mean
 abbrev pub tables_of_lines : List Line → Tables
-tables_of_lines above = record { sets = sets_of_lines above }
+tables_of_lines above = tables_of_sections (sections above)

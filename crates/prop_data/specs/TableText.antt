@@ -2,24 +2,30 @@
 use Rattle.std.specs.Prelude.{ℕ, ◌+◌, Bool, false, ◌||◌, ◌&&◌, nat_eq, nat_le, nat_lt, max, List, [], ◌∷◌, map, Option, Some, None, option_map, is_some, if◌then◌else◌}
 use Rattle.std.specs.List.{list_any}
 use Rattle.text_lines.specs.Fields.{fields}
+use Rattle.prop_values.specs.Tables.{accepts}
 use Rattle.prop_data.specs.declared.error.TableErrorKind.{TableErrorKind}
-use Rattle.prop_data.specs.declared.error.TableErrorKind.TheVariants.{UnknownLine, UnknownTable, TableTwice, BadNumber, TooLarge, RangeOrder, SyntaxAscii, NoEnd, AfterEnd}
+use Rattle.prop_data.specs.declared.error.TableErrorKind.TheVariants.{UnknownLine, UnknownTable, TableTwice, BadNumber, TooLarge, RangeOrder, ValueOutOfType, SyntaxAscii, NoEnd, AfterEnd}
 use Rattle.prop_data.specs.declared.error.TableError.{TableError}
-use Rattle.prop_data.specs.Line.{Line, blank, header, row, closing, other, line_of}
-use Rattle.prop_data.specs.Numbers.{range}
-use Rattle.prop_data.specs.SetTable.{set_number}
+use Rattle.prop_data.specs.Headers.{Table, set_table, map_table, set_number, map_number}
+use Rattle.prop_data.specs.Line.{Header, set_header, map_header, Row, Line, blank, header, row, closing, other, line_of}
+use Rattle.prop_data.specs.LinesAbove.{or_else, is_closed, sections, table_of_row, last_in_table, tables_of_lines}
+use Rattle.prop_data.specs.Numbers.{range, decimal_number}
 use Rattle.prop_data.specs.Tables.{Tables}
-use Rattle.prop_data.specs.LinesAbove.{is_closed, table_above, last_above, tables_of_lines}
 
 -- what the tests of a line look at above it
 pub record Above : Type 0 where
   pub closed : Bool
-  pub table : Option ℕ
+  pub table : Option Table
   pub last : Option ℕ
   pub tables : Tables
 
 abbrev pub above : List Line → Above
-above ls = record { closed = is_closed ls; table = table_above ls; last = last_above ls; tables = tables_of_lines ls }
+above ls = record {
+  closed = is_closed ls;
+  table = table_of_row (sections ls);
+  last = last_in_table (sections ls);
+  tables = tables_of_lines ls;
+}
 
 -- The ASCII ranges that a table must not hold: Pattern_White_Space (51) the visible characters, XID_Continue (67) and XID_Start
 -- (68) all but letters, digits and `_`. No other table is tested so.
@@ -37,30 +43,71 @@ abbrev pub is_behind : Option ℕ → ℕ → Bool
 is_behind None start = false
 is_behind (Some last) start = nat_le start last
 
-unfoldable pub row_fault : Option ℕ → Option ℕ → Option (ℕ × ℕ) → Option TableErrorKind
-row_fault None last r = Some UnknownLine
-row_fault (Some t) last None = Some BadNumber
-row_fault (Some t) last (Some r) =
+-- the tests of a range, where the last code point of the row before it is given
+unfoldable pub range_fault : Option ℕ → ℕ × ℕ → Option TableErrorKind
+range_fault last r =
     if nat_lt 0x10_FFFF (max r.0 r.1) then Some TooLarge
     else if nat_lt r.1 r.0 || is_behind last r.0 then Some RangeOrder
-    else if list_any (overlaps r) (forbidden t) then Some SyntaxAscii
     else None
 
-unfoldable pub header_fault : Bool → Tables → Option ℕ → Option TableErrorKind
-header_fault closed tables None = Some UnknownTable
-header_fault closed tables (Some t) = if is_some (tables.sets t) then Some TableTwice else if closed then Some AfterEnd else None
+unfoldable pub syntax_fault : ℕ → ℕ × ℕ → Option TableErrorKind
+syntax_fault t r = if list_any (overlaps r) (forbidden t) then Some SyntaxAscii else None
+
+-- the property of the map takes the number, which is at most 32 bits wide
+abbrev pub accepts_value : ℕ → ℕ → Bool
+accepts_value t n = nat_lt n 0x1_0000_0000 && accepts t n
+
+unfoldable pub value_fault : ℕ → ℕ → Option TableErrorKind
+value_fault t n = if accepts_value t n then None else Some ValueOutOfType
+
+-- the tests of a row of a set, by the range that it spells
+abbrev pub set_row_fault : ℕ → Option ℕ → Option (ℕ × ℕ) → Option TableErrorKind
+set_row_fault t last None = Some BadNumber
+set_row_fault t last (Some r) = or_else (range_fault last r) (syntax_fault t r)
+
+-- the tests of a row of a map, by the range and the value that it spells
+abbrev pub map_row_fault : ℕ → Option ℕ → Option (ℕ × ℕ) → Option ℕ → Option TableErrorKind
+map_row_fault t last None n = Some BadNumber
+map_row_fault t last (Some r) None = Some BadNumber
+map_row_fault t last (Some r) (Some n) = or_else (range_fault last r) (value_fault t n)
+
+-- the tests of a row below the header of a table
+abbrev pub row_fault : Option Table → Option ℕ → Row → Option TableErrorKind
+row_fault None last r = Some UnknownLine
+row_fault (Some (set_table t)) last (first, None) = set_row_fault t last (range first)
+row_fault (Some (set_table t)) last (first, Some second) = Some UnknownLine
+row_fault (Some (map_table t default)) last (first, None) = Some UnknownLine
+row_fault (Some (map_table t default)) last (first, Some second) = map_row_fault t last (range first) (decimal_number second)
+
+-- the tests of the header of a set, by the number that its name has
+abbrev pub set_header_fault : Tables → Option ℕ → Option TableErrorKind
+set_header_fault tables None = Some UnknownTable
+set_header_fault tables (Some t) = if is_some (tables.sets t) then Some TableTwice else None
+
+abbrev pub default_fault : ℕ → Option ℕ → Option TableErrorKind
+default_fault t None = Some BadNumber
+default_fault t (Some n) = value_fault t n
+
+-- the tests of the header of a map, by the number that its name has and the default that it spells
+abbrev pub map_header_fault : Tables → Option ℕ → Option ℕ → Option TableErrorKind
+map_header_fault tables None default = Some UnknownTable
+map_header_fault tables (Some t) default = if is_some (tables.maps t) then Some TableTwice else default_fault t default
+
+-- the tests of a header, wherever it stands
+abbrev pub header_fault : Tables → Header → Option TableErrorKind
+header_fault tables (set_header name) = set_header_fault tables (set_number name)
+header_fault tables (map_header name default) = map_header_fault tables (map_number name) (decimal_number default)
+
+abbrev pub after_end : Bool → Option TableErrorKind
+after_end closed = if closed then Some AfterEnd else None
 
 -- the first test that fails at a line
 abbrev pub line_fault : Above → Line → Option TableErrorKind
 line_fault seen blank = None
 line_fault seen other = Some UnknownLine
-line_fault seen closing = if seen.closed then Some AfterEnd else None
-line_fault seen (header name) = header_fault seen.closed seen.tables (set_number name)
-line_fault seen (row field) = if seen.closed then Some UnknownLine else row_fault seen.table seen.last (range field)
-
-abbrev pub or_else : {A : Type 0} → Option A → Option A → Option A
-or_else None other_one = other_one
-or_else (Some x) other_one = Some x
+line_fault seen closing = after_end seen.closed
+line_fault seen (header h) = or_else (header_fault seen.tables h) (after_end seen.closed)
+line_fault seen (row r) = if seen.closed then Some UnknownLine else row_fault seen.table seen.last r
 
 abbrev pub at_line : ℕ → TableErrorKind → TableError
 at_line n kind = record { line = n; kind = kind }

@@ -1,6 +1,8 @@
--- The tables that a table text means, and that a database holds.
+-- The tables that a table text means, and that a database holds, each kind by the numbers of its tables.
 use Rattle.std.specs.Prelude.{ℕ, Bool, Option}
 
 pub record Tables : Type 0 where
-  -- the members of each set table that is there, by its number
+  -- the members of each set
   pub sets : ℕ → Option (ℕ → Bool)
+  -- the number of the value at each code point, and past the last
+  pub maps : ℕ → Option (ℕ → ℕ)

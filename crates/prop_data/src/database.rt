@@ -1,8 +1,10 @@
 //! The database.
 use crate::error::LoadError;
-use crate::loader::Loader;
+use crate::load::Loader;
 use cp_invlist::{CodePointInversionList, NoMemory};
+use cp_trie::CodePointTrie;
 use prop_binary::SetTable;
+use prop_values::MapTable;
 use std::alloc::Global;
 use std::collections::BTreeMap;
 use text_lines::split_line;
@@ -11,13 +13,14 @@ use text_lines::split_line;
 #[derive(Drop)]
 pub struct PropertyDatabase {
     pub(crate) sets: BTreeMap<u8, CodePointInversionList>,
+    pub(crate) maps: BTreeMap<u8, CodePointTrie<u32>>,
 }
 
 impl PropertyDatabase {
     ghost use Rattle.std.specs.Prelude.{◌≡◌, ℕ, nat_eq, if◌then◌else◌, Some, None, OnOk, IfOk, IfErr};
     ghost use Rattle.std.specs.Option.{option_copied};
     ghost use Rattle.text_lines.specs.Lines.{lines};
-    ghost use Rattle.prop_data.specs.Database.{set_of, tables_of, IsFault};
+    ghost use Rattle.prop_data.specs.Database.{set_of, map_of, tables_of, IsFault};
     ghost use Rattle.prop_data.specs.TableText.{table_fault, tables_in};
 
     /// Reads a text of tables (its rules stand in docs/DEFINITIONS.md). The answer is the database
@@ -40,22 +43,40 @@ impl PropertyDatabase {
     }
 
     pub(crate) fn new(alloc: Global) -> PropertyDatabase
-        ensures { (t : ℕ) → set_of result t ≡ None }
+        ensures sets { (t : ℕ) → set_of result t ≡ None }
+        ensures maps { (t : ℕ) → map_of result t ≡ None }
     {
         PropertyDatabase {
             sets: BTreeMap::new(alloc),
+            maps: BTreeMap::new(alloc),
         }
     }
 
     /// Keeps the set as the table's.
-    pub(crate) fn insert(
+    pub(crate) fn insert_set(
         &mut self,
         table: SetTable,
         set: CodePointInversionList,
     ) -> Result<(), NoMemory>
-        ensures ok { OnOk result ((t : ℕ) → set_of self.new t ≡ (if nat_eq table t then Some set else set_of self.old t)) }
+        ensures sets { OnOk result ((t : ℕ) → set_of self.new t ≡ (if nat_eq table t then Some set else set_of self.old t)) }
+        ensures maps { OnOk result ((t : ℕ) → map_of self.new t ≡ map_of self.old t) }
     {
         match self.sets.insert(table.number(), set) {
+            Ok(_) => Ok(()),
+            Err(_) => Err(NoMemory),
+        }
+    }
+
+    /// Keeps the map as the table's.
+    pub(crate) fn insert_map(
+        &mut self,
+        table: MapTable,
+        map: CodePointTrie<u32>,
+    ) -> Result<(), NoMemory>
+        ensures maps { OnOk result ((t : ℕ) → map_of self.new t ≡ (if nat_eq table t then Some map else map_of self.old t)) }
+        ensures sets { OnOk result ((t : ℕ) → set_of self.new t ≡ set_of self.old t) }
+    {
+        match self.maps.insert(table.number(), map) {
             Ok(_) => Ok(()),
             Err(_) => Err(NoMemory),
         }
@@ -66,5 +87,12 @@ impl PropertyDatabase {
         ensures { option_copied result ≡ set_of self.now table }
     {
         self.sets.get(&table.number())
+    }
+
+    /// The map of a property's table, with the numbers of the values, `None` where the text has no such table.
+    pub fn map(&self, table: MapTable) -> Option<&CodePointTrie<u32>>
+        ensures { option_copied result ≡ map_of self.now table }
+    {
+        self.maps.get(&table.number())
     }
 }

@@ -113,3 +113,10 @@ impl From<NoMemory> for LoadError {
         LoadError::NoMemory
     }
 }
+
+/// The fault of a line.
+pub(crate) fn fault(line: usize, kind: TableErrorKind) -> LoadError
+    ensures { result ≡ LoadError.Table (record { line = line; kind = kind }) }
+{
+    LoadError::Table(TableError { line, kind })
+}

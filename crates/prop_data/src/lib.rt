@@ -4,12 +4,14 @@
 mod database;
 mod error;
 mod line;
-mod loader;
+mod load;
 mod numbers;
 mod row;
 #[cfg(test)]
 mod tests;
+mod value;
 
 pub use database::PropertyDatabase;
 pub use error::{LoadError, TableError, TableErrorKind};
 pub use prop_binary::SetTable;
+pub use prop_values::MapTable;

@@ -1,7 +1,7 @@
-//! The tests of a row.
+//! The tests of a row's range.
 ghost use Rattle.std.specs.Prelude.{◌≡◌, ℕ, None, Some, Bool, List, option_map};
 ghost use Rattle.std.specs.List.{list_any};
-ghost use Rattle.prop_data.specs.TableText.{overlaps, forbidden, row_fault, is_behind};
+ghost use Rattle.prop_data.specs.TableText.{overlaps, forbidden, range_fault, syntax_fault, is_behind};
 
 use crate::error::TableErrorKind;
 use cp_invlist::{CodePointRange, LAST_CODE_POINT};
@@ -39,21 +39,26 @@ fn is_behind(last: Option<u32>, start: u32) -> bool
     }
 }
 
-/// The first test that the range fails as a row of the table, where `last` is the last code point of
-/// the row above.
-#[tactic(auto, unfolding(crate::specs::TableText::row_fault))]
-pub(crate) fn row_fault(
-    table: SetTable,
-    last: Option<u32>,
-    range: CodePointRange,
-) -> Option<TableErrorKind>
-    ensures { result ≡ row_fault (Some table) last (Some (range.start, range.end)) }
+/// The first test that the range fails in a row of any table, where `last` is the last code point of the row above.
+#[tactic(auto, unfolding(crate::specs::TableText::range_fault))]
+pub(crate) fn range_fault(last: Option<u32>, range: CodePointRange) -> Option<TableErrorKind>
+    ensures { result ≡ range_fault last (range.start, range.end) }
 {
     if range.start.max(range.end) > LAST_CODE_POINT {
         Some(TableErrorKind::TooLarge)
     } else if range.end < range.start || is_behind(last, range.start) {
         Some(TableErrorKind::RangeOrder)
-    } else if holds_syntax(table, range) {
+    } else {
+        None
+    }
+}
+
+/// The fault of a range that holds an ASCII character which the table must not hold.
+#[tactic(auto, unfolding(crate::specs::TableText::syntax_fault))]
+pub(crate) fn syntax_fault(table: SetTable, range: CodePointRange) -> Option<TableErrorKind>
+    ensures { result ≡ syntax_fault table (range.start, range.end) }
+{
+    if holds_syntax(table, range) {
         Some(TableErrorKind::SyntaxAscii)
     } else {
         None

@@ -68,6 +68,18 @@ fn faults_of_lines_are_told(rt: HostRuntime) {
         ("set\nend\n", 1, TableErrorKind::UnknownLine),
         ("set XID_Start x\nend\n", 1, TableErrorKind::UnknownLine),
         ("map XID_Start\nend\n", 1, TableErrorKind::UnknownLine),
+        ("map Script\nend\n", 1, TableErrorKind::UnknownLine),
+        ("map Script 0 0\nend\n", 1, TableErrorKind::UnknownLine),
+        ("map Script 103\n41\nend\n", 2, TableErrorKind::UnknownLine),
+        ("set Dash\n2D 1\nend\n", 2, TableErrorKind::UnknownLine),
+        (
+            "map Script 103\nend\n41 25\n",
+            3,
+            TableErrorKind::UnknownLine,
+        ),
+        ("map script 103\nend\n", 1, TableErrorKind::UnknownTable),
+        ("end\nmap Script 103\n", 2, TableErrorKind::AfterEnd),
+        ("end\nmap Script x\n", 2, TableErrorKind::BadNumber),
         ("end end\n", 1, TableErrorKind::UnknownLine),
         ("set XID_Start\nend\n41\n", 3, TableErrorKind::UnknownLine),
         ("set xid_start\nend\n", 1, TableErrorKind::UnknownTable),
@@ -94,6 +106,74 @@ fn a_second_table_of_a_name_is_told(rt: HostRuntime) {
     ] {
         let expected = at(line, TableErrorKind::TableTwice);
         assert_eq!(rt; fault_of(rt.alloc(), text), expected, "at {text}");
+    }
+}
+
+#[test]
+fn maps_are_read(rt: HostRuntime) -> Result<(), Fail> {
+    let text =
+        "map Script 103\n41-5A 25\n61-7A 0025\n30FC 0\nset Dash\n2D\nmap General_Category 29\nmap Bidi_Mirroring_Glyph 0\n28 6291497\nend";
+    let database = PropertyDatabase::from_text(rt.alloc(), text)?;
+    for (table, code_point, expected) in [
+        (MapTable::SCRIPT, 0x40, 103),
+        (MapTable::SCRIPT, 0x41, 25),
+        (MapTable::SCRIPT, 0x5A, 25),
+        (MapTable::SCRIPT, 0x5B, 103),
+        (MapTable::SCRIPT, 0x7A, 25),
+        (MapTable::SCRIPT, 0x30FC, 0),
+        (MapTable::SCRIPT, 0x10_FFFF, 103),
+        (MapTable::SCRIPT, 0x11_0000, 103),
+        (MapTable::GENERAL_CATEGORY, 0, 29),
+        (MapTable::GENERAL_CATEGORY, 0x10_FFFF, 29),
+        (MapTable::GENERAL_CATEGORY, 0x11_0000, 0),
+        (MapTable::BIDI_MIRRORING_GLYPH, 0x28, 0x60_0029),
+    ] {
+        let map = database.map(table).ok_or("no table")?;
+        assert_eq!(rt;
+            map.get32(code_point),
+            expected,
+            "at {} {code_point}",
+            table.number()
+        );
+    }
+    assert!(rt; database.map(MapTable::BLOCK).is_none());
+    assert!(rt; database.set(SetTable::DASH).is_some());
+    Ok(())
+}
+
+#[test]
+fn faults_of_maps_are_told(rt: HostRuntime) {
+    for (text, line, kind) in [
+        ("map General_Category 30", 1, TableErrorKind::ValueOutOfType),
+        ("map Block 65536", 1, TableErrorKind::ValueOutOfType),
+        (
+            "map Bidi_Mirroring_Glyph 4294967296",
+            1,
+            TableErrorKind::ValueOutOfType,
+        ),
+        ("map Script 12345678901", 1, TableErrorKind::BadNumber),
+        ("map Script -1", 1, TableErrorKind::BadNumber),
+        (
+            "map Script 0\nset Dash\nmap Script 0",
+            3,
+            TableErrorKind::TableTwice,
+        ),
+        ("map Script 0\n41 2G", 2, TableErrorKind::BadNumber),
+        ("map Script 0\n4G 65536", 2, TableErrorKind::BadNumber),
+        ("map Script 0\n110000 65536", 2, TableErrorKind::TooLarge),
+        (
+            "map Script 0\n41 1\n41 65536",
+            3,
+            TableErrorKind::RangeOrder,
+        ),
+        ("map Script 0\n41 65536", 2, TableErrorKind::ValueOutOfType),
+        (
+            "map Line_Break 0\n41 256",
+            2,
+            TableErrorKind::ValueOutOfType,
+        ),
+    ] {
+        assert_eq!(rt; fault_of(rt.alloc(), text), at(line, kind), "at {text}");
     }
 }
 

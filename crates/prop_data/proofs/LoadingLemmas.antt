@@ -1,0 +1,47 @@
+-- An open table and the tables beside it.
+use Rattle.std.proofs.Common.{◌≡◌, ℕ, Bool, true, false, ◌||◌, nat_lt, nat_eq, Option, Some, None, option_map, cond, refl, ap, ◌∙◌}
+use mathlib.Core.Path.{fun_ext}
+use Rattle.cp_invlist.specs.InversionList.{contains}
+use Rattle.cp_trie.specs.Runs.{value_in}
+use Rattle.prop_values.specs.Tables.{default_number}
+use Rattle.prop_data.specs.declared.load.map.OpenMap.{OpenMap}
+use Rattle.prop_data.specs.declared.load.set.OpenSet.{OpenSet}
+use Rattle.prop_data.specs.declared.load.OpenTable.{OpenTable}
+use Rattle.prop_data.specs.declared.load.OpenTable.TheVariants.{Set, Map}
+use Rattle.prop_data.specs.Loading.{table_seen, last_seen, values_of, tables_with, tables_begun, tables_grown, with_set, with_map, IsNew}
+use Rattle.prop_data.specs.Headers.{set_table, map_table}
+use Rattle.prop_data.specs.Line.{Row}
+use Rattle.prop_data.specs.Numbers.{range}
+use Rattle.prop_data.specs.Rows.{holds, value_of, value_outside}
+use Rattle.prop_data.specs.Tables.{Tables}
+use Rattle.prop_data.proofs.AboveLemmas.{same_tables}
+
+-- an open table without rows
+pub tables_with-new : (o : OpenTable) (base tables : Tables) → IsNew o → base ≡ tables → tables_with (Some o) base ≡ tables_begun (Some (table_seen o)) tables
+tables_with-new (Set o) base tables new same = ap (λ b. with_set o.table (contains b) base) new.0 ∙ ap (with_set o.table (λ c. false)) same
+tables_with-new (Map o) base tables new same =
+    ap (λ rs. with_map o.table (λ c. cond (nat_lt 0x10_FFFF c) (default_number o.table) (value_in rs o.builder.default c)) base) new.0
+    ∙ ap (with_map o.table (value_outside o.table o.builder.default)) same
+
+pub last_seen-new : (o : OpenTable) → IsNew o → last_seen o ≡ None
+last_seen-new (Set o) new = new.1
+last_seen-new (Map o) new = new.1
+
+-- the table of a number, with a part more
+number_grown : {A : Type 0} (f : A → A) (b : Bool) (x new : A) (y : Option A) → new ≡ f x → cond b (Some new) y ≡ cond b (option_map f (cond b (Some x) y)) (cond b (Some x) y)
+number_grown f true x new y is = ap Some is
+number_grown f false x new y is = refl
+
+-- a set with a row more
+pub set_grown : (old new : OpenSet) (r : Row) → new.table ≡ old.table → ((c : ℕ) → contains new.builder c ≡ (contains old.builder c || holds (range r.0) c)) →
+    (tables : Tables) → tables_with (Some (Set new)) tables ≡ tables_grown (Some (set_table old.table)) r (tables_with (Some (Set old)) tables)
+set_grown old new r same adds tables = same_tables _ _ (λ t.
+    ap (λ n. cond (nat_eq n t) (Some (contains new.builder)) (tables.sets t)) same
+    ∙ number_grown (λ (m : ℕ → Bool) (c : ℕ). m c || holds (range r.0) c) (nat_eq old.table t) (contains old.builder) (contains new.builder) (tables.sets t) (fun_ext adds)) (λ t. refl)
+
+-- a map with a row more
+pub map_grown : (old new : OpenMap) (r : Row) → new.table ≡ old.table → ((c : ℕ) → values_of new c ≡ cond (holds (range r.0) c) (value_of r.1) (values_of old c)) →
+    (tables : Tables) → tables_with (Some (Map new)) tables ≡ tables_grown (Some (map_table old.table old.builder.default)) r (tables_with (Some (Map old)) tables)
+map_grown old new r same adds tables = same_tables _ _ (λ t. refl) (λ t.
+    ap (λ n. cond (nat_eq n t) (Some (values_of new)) (tables.maps t)) same
+    ∙ number_grown (λ (v : ℕ → ℕ) (c : ℕ). cond (holds (range r.0) c) (value_of r.1) (v c)) (nat_eq old.table t) (values_of old) (values_of new) (tables.maps t) (fun_ext adds))
