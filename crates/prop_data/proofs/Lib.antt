@@ -1,5 +1,6 @@
 pub mod MapBuilderLemmas
 pub mod RowLemmas
+pub mod NameLemmas
 pub mod AboveLemmas
 pub mod LoadingLemmas
 pub mod Reading

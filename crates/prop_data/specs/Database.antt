@@ -4,6 +4,7 @@ use Rattle.std.specs.Ordering.{nat_cmp}
 use Rattle.std.specs.BTreeMap.{get}
 use Rattle.cp_invlist.specs.InversionList.{contains}
 use Rattle.cp_trie.specs.Map.{CodePointMap, value_at}
+use Rattle.prop_names.specs.Names.{Names}
 use Rattle.prop_data.specs.declared.database.PropertyDatabase.{PropertyDatabase}
 use Rattle.prop_data.specs.declared.error.LoadError.{LoadError}
 use Rattle.prop_data.specs.declared.error.LoadError.TheVariants.{Table, NoMemory}
@@ -18,11 +19,16 @@ set_of database t = get nat_cmp database.sets t
 abbrev pub map_of : PropertyDatabase → ℕ → Option (CodePointMap ℕ)
 map_of database t = get nat_cmp database.maps t
 
+-- the names of a table of names, by the table's number
+abbrev pub names_of : PropertyDatabase → ℕ → Option Names
+names_of database t = get nat_cmp database.names t
+
 -- the tables of a database: sets by their members, maps by their values
 abbrev pub tables_of : PropertyDatabase → Tables
 tables_of database = record {
   sets = λ t. option_map contains (set_of database t);
   maps = λ t. option_map value_at (map_of database t);
+  names = λ t. names_of database t;
 }
 
 -- the fault of the lines, where it is no want of memory

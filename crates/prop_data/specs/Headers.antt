@@ -3,8 +3,8 @@ use Rattle.std.specs.Prelude.{ℕ, List, Option, option_map, option_and_then}
 use Rattle.std.specs.List.{position}
 use Rattle.std.specs.Str.{bytes_eq}
 use Rattle.prop_binary.specs.Tables.{set_table_names}
-use Rattle.prop_values.specs.Tables.{map_table_names}
-use Rattle.prop_data.specs.Line.{Header, set_header, map_header}
+use Rattle.prop_values.specs.Tables.{map_table_names, names_table_names}
+use Rattle.prop_data.specs.Line.{Header, set_header, map_header, names_header}
 use Rattle.prop_data.specs.Numbers.{decimal_number}
 
 -- the number of the set table with this name
@@ -15,12 +15,19 @@ set_number name = position (λ known. bytes_eq known name) set_table_names
 abbrev pub map_number : List ℕ → Option ℕ
 map_number name = position (λ known. bytes_eq known name) map_table_names
 
+-- the number of the table of names with this name
+abbrev pub names_number : List ℕ → Option ℕ
+names_number name = position (λ known. bytes_eq known name) names_table_names
+
 pub data Table : Type 0 where
   -- the number of a set
   set_table : ℕ → Table
   -- the number of a map, and its default
   map_table : ℕ → ℕ → Table
+  -- the number of a table of names
+  names_table : ℕ → Table
 
 abbrev pub table_of : Header → Option Table
 table_of (set_header name) = option_map set_table (set_number name)
 table_of (map_header name default) = option_and_then (λ t. option_map (map_table t) (decimal_number default)) (map_number name)
+table_of (names_header name) = option_map names_table (names_number name)

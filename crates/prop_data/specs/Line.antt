@@ -9,6 +9,8 @@ pub data Header : Type 0 where
   set_header : List ℕ → Header
   -- `map NAME DEFAULT`
   map_header : List ℕ → List ℕ → Header
+  -- `names NAME`
+  names_header : List ℕ → Header
 
 -- the one or two fields of a row
 abbrev pub Row : Type 0
@@ -44,6 +46,7 @@ line_of_one field = if is_end field then closing else if is_header_word field th
 unfoldable pub line_of_two : List ℕ → List ℕ → Line
 line_of_two first second =
     if bytes_eq first (codes "set") then header (set_header second)
+    else if bytes_eq first (codes "names") then header (names_header second)
     else if is_end first || is_header_word first then other
     else row (first, Some second)
 

@@ -1,8 +1,9 @@
 -- What the lines above a line say, the nearest line first.
 use Rattle.std.specs.Prelude.{ℕ, Bool, true, false, nat_eq, List, [], ◌∷◌, Option, Some, None, if◌then◌else◌}
-use Rattle.prop_data.specs.Headers.{Table, set_table, map_table, table_of}
+use Rattle.prop_names.specs.Names.{Names}
+use Rattle.prop_data.specs.Headers.{Table, set_table, map_table, names_table, table_of}
 use Rattle.prop_data.specs.Line.{Row, Line, blank, header, row, closing, other}
-use Rattle.prop_data.specs.Rows.{last_of, members, value}
+use Rattle.prop_data.specs.Rows.{last_of, members, value, names_in}
 use Rattle.prop_data.specs.Tables.{Tables}
 
 -- `end` stands above
@@ -43,7 +44,7 @@ table_of_row (s ∷ sections) = Some s.0
 -- the last code point of the row above in its table
 abbrev pub last_in_table : List Section → Option ℕ
 last_in_table [] = None
-last_in_table (s ∷ sections) = last_of s.1
+last_in_table (s ∷ sections) = last_of s.0 s.1
 
 abbrev pub or_else : {A : Type 0} → Option A → Option A → Option A
 or_else None other_one = other_one
@@ -58,15 +59,23 @@ found says (s ∷ sections) = or_else (says s.0 s.1) (found says sections)
 abbrev pub set_at : ℕ → Table → List Row → Option (ℕ → Bool)
 set_at n (set_table t) rows = if nat_eq t n then Some (members rows) else None
 set_at n (map_table t default) rows = None
+set_at n (names_table t) rows = None
 
 -- the values of the map with this number
 abbrev pub map_at : ℕ → Table → List Row → Option (ℕ → ℕ)
 map_at n (map_table t default) rows = if nat_eq t n then Some (value t default rows) else None
 map_at n (set_table t) rows = None
+map_at n (names_table t) rows = None
+
+-- the names of the table of names with this number
+abbrev pub names_at : ℕ → Table → List Row → Option Names
+names_at n (names_table t) rows = if nat_eq t n then Some (names_in rows) else None
+names_at n (set_table t) rows = None
+names_at n (map_table t default) rows = None
 
 -- the tables that the sections mean
 abbrev pub tables_of_sections : List Section → Tables
-tables_of_sections ss = record { sets = λ n. found (set_at n) ss; maps = λ n. found (map_at n) ss }
+tables_of_sections ss = record { sets = λ n. found (set_at n) ss; maps = λ n. found (map_at n) ss; names = λ n. found (names_at n) ss }
 
 -- the tables that the lines mean
 abbrev pub tables_of_lines : List Line → Tables

@@ -1,12 +1,13 @@
 -- What the loader keeps of the lines that it has read, and what a line makes of it.
-use Rattle.std.specs.Prelude.{◌≡◌, ℕ, Bool, true, false, ◌||◌, nat_eq, nat_lt, [], Option, Some, None, option_map, option_and_then, Result, Ok, Err, if◌then◌else◌}
+use Rattle.std.specs.Prelude.{◌≡◌, ℕ, Bool, true, false, ◌||◌, nat_eq, nat_lt, [], ◌∷◌, Option, Some, None, option_map, option_and_then, Result, Ok, Err, if◌then◌else◌}
 use Rattle.std.specs.Option.{option_copied}
 use Rattle.cp_invlist.specs.InversionList.{contains}
 use Rattle.cp_trie.specs.Runs.{value_in}
+use Rattle.prop_names.specs.Names.{Names as NamesTable, with_name}
 use Rattle.prop_values.specs.Tables.{default_number}
 use Rattle.prop_data.specs.declared.database.PropertyDatabase.{PropertyDatabase}
 use Rattle.prop_data.specs.declared.line.Header.{Header as CodeHeader}
-use Rattle.prop_data.specs.declared.line.Header.TheVariants.{Set as SetHeader, Map as MapHeader}
+use Rattle.prop_data.specs.declared.line.Header.TheVariants.{Set as SetHeader, Map as MapHeader, Names as NamesHeader}
 use Rattle.prop_data.specs.declared.line.Row.{Row as CodeRow}
 use Rattle.prop_data.specs.declared.line.Line.{Line as CodeLine}
 use Rattle.prop_data.specs.declared.line.Line.TheVariants.{Blank, Header as HeaderLine, Row as RowLine, Closing, Other}
@@ -15,19 +16,20 @@ use Rattle.prop_data.specs.declared.error.LoadError.TheVariants.{Table as TableF
 use Rattle.prop_data.specs.declared.error.TableErrorKind.TheVariants.{NoEnd}
 use Rattle.prop_data.specs.declared.load.Loader.{Loader}
 use Rattle.prop_data.specs.declared.load.OpenTable.{OpenTable}
-use Rattle.prop_data.specs.declared.load.OpenTable.TheVariants.{Set, Map}
+use Rattle.prop_data.specs.declared.load.OpenTable.TheVariants.{Set, Map, Names}
 use Rattle.prop_data.specs.declared.load.map.OpenMap.{OpenMap}
 use Rattle.prop_data.specs.Database.{tables_of}
-use Rattle.prop_data.specs.Headers.{Table, set_table, map_table, table_of}
-use Rattle.prop_data.specs.Line.{Header, set_header, map_header, Row, Line, blank, header, row, closing, other}
+use Rattle.prop_data.specs.Headers.{Table, set_table, map_table, names_table, table_of}
+use Rattle.prop_data.specs.Line.{Header, set_header, map_header, names_header, Row, Line, blank, header, row, closing, other}
 use Rattle.prop_data.specs.Numbers.{range}
-use Rattle.prop_data.specs.Rows.{holds, end_of, value_of, value_outside}
+use Rattle.prop_data.specs.Rows.{holds, last_of, value_of, text_of, value_outside}
 use Rattle.prop_data.specs.Tables.{Tables}
 use Rattle.prop_data.specs.TableText.{Above, at_line, line_fault, header_fault, row_fault}
 
 abbrev pub header_seen : CodeHeader → Header
 header_seen (SetHeader name) = set_header name.now
 header_seen (MapHeader name default) = map_header name.now default.now
+header_seen (NamesHeader name) = names_header name.now
 
 abbrev pub row_seen : CodeRow → Row
 row_seen r = (r.first.now, option_copied r.second)
@@ -48,11 +50,13 @@ values_of o c = if nat_lt 0x10_FFFF c then default_number o.table else value_in 
 abbrev pub table_seen : OpenTable → Table
 table_seen (Set o) = set_table o.table
 table_seen (Map o) = map_table o.table o.builder.default
+table_seen (Names o) = names_table o.table
 
 -- the last code point of its row above
 abbrev pub last_seen : OpenTable → Option ℕ
 last_seen (Set o) = o.last
 last_seen (Map o) = o.builder.last
+last_seen (Names o) = None
 
 abbrev pub with_set : ℕ → (ℕ → Bool) → Tables → Tables
 with_set n members tables = record tables { sets = λ t. if nat_eq n t then Some members else tables.sets t }
@@ -60,11 +64,15 @@ with_set n members tables = record tables { sets = λ t. if nat_eq n t then Some
 abbrev pub with_map : ℕ → (ℕ → ℕ) → Tables → Tables
 with_map n values tables = record tables { maps = λ t. if nat_eq n t then Some values else tables.maps t }
 
+abbrev pub with_names : ℕ → NamesTable → Tables → Tables
+with_names n names tables = record tables { names = λ t. if nat_eq n t then Some names else tables.names t }
+
 -- the tables, and the open one beside them
 abbrev pub tables_with : Option OpenTable → Tables → Tables
 tables_with None tables = tables
 tables_with (Some (Set o)) tables = with_set o.table (contains o.builder) tables
 tables_with (Some (Map o)) tables = with_map o.table (values_of o) tables
+tables_with (Some (Names o)) tables = with_names o.table o.builder tables
 
 -- what the loader keeps of the lines above
 abbrev pub kept : Loader → Above
@@ -80,6 +88,7 @@ abbrev pub tables_begun : Option Table → Tables → Tables
 tables_begun None tables = tables
 tables_begun (Some (set_table n)) tables = with_set n (λ c. false) tables
 tables_begun (Some (map_table n default)) tables = with_map n (value_outside n default) tables
+tables_begun (Some (names_table n)) tables = with_names n [] tables
 
 -- the same tables, and a row in one of them
 abbrev pub tables_grown : Option Table → Row → Tables → Tables
@@ -90,6 +99,14 @@ tables_grown (Some (set_table n)) r tables = record tables {
 tables_grown (Some (map_table n default)) r tables = record tables {
   maps = λ t. if nat_eq n t then option_map (λ values c. if holds (range r.0) c then value_of r.1 else values c) (tables.maps t) else tables.maps t;
 }
+tables_grown (Some (names_table n)) r tables = record tables {
+  names = λ t. if nat_eq n t then option_map (λ names. with_name names (text_of r.1) (value_of (Some r.0))) (tables.names t) else tables.names t;
+}
+
+-- the last code point of a row that is a range
+abbrev pub last_after : Option Table → Row → Option ℕ
+last_after None r = None
+last_after (Some t) r = last_of t (r ∷ [])
 
 -- what a line without a fault makes of what stands above the next one
 abbrev pub after : Above → Line → Above
@@ -97,7 +114,7 @@ after a blank = a
 after a other = a
 after a closing = record a { closed = true }
 after a (header h) = record { closed = a.closed; table = table_of h; last = None; tables = tables_begun (table_of h) a.tables }
-after a (row r) = record a { last = end_of r.0; tables = tables_grown a.table r a.tables }
+after a (row r) = record a { last = last_after a.table r; tables = tables_grown a.table r a.tables }
 
 -- A line was taken, or its fault was told, or memory was refused.
 abbrev pub Takes : Above → Line → ℕ → Result (Unit {0}) LoadError → Above → Type 0
@@ -109,6 +126,7 @@ Takes old line n (Err NoMemory) new = Unit {0}
 abbrev pub IsNew : OpenTable → Type 0
 IsNew (Set o) = (o.builder ≡ []) × (o.last ≡ None)
 IsNew (Map o) = (o.builder.runs.items ≡ []) × (o.builder.last ≡ None)
+IsNew (Names o) = o.builder ≡ []
 
 -- A table was begun, or the fault of its header was told, or memory was refused.
 abbrev pub Begins : Tables → Header → ℕ → Result OpenTable LoadError → Type 0
@@ -116,14 +134,15 @@ Begins tables h n (Ok o) = (header_fault tables h ≡ None) × (table_of h ≡ S
 Begins tables h n (Err (TableFault fault)) = option_map (at_line n) (header_fault tables h) ≡ Some fault
 Begins tables h n (Err NoMemory) = Unit {0}
 
--- An open table took a row, or the row's fault was told, or memory was refused.
+-- An open table beside others took a row, or the row's fault was told, or memory was refused.
 abbrev pub TakesRow : OpenTable → Row → ℕ → Result (Unit {0}) LoadError → OpenTable → Type 0
 TakesRow old r n (Ok _) new =
-    (row_fault (Some (table_seen old)) (last_seen old) r ≡ None)
+    ((tables : Tables) → row_fault (tables_with (Some old) tables) (Some (table_seen old)) (last_seen old) r ≡ None)
     × (table_seen new ≡ table_seen old)
-    × (last_seen new ≡ end_of r.0)
+    × (last_seen new ≡ last_after (Some (table_seen old)) r)
     × ((tables : Tables) → tables_with (Some new) tables ≡ tables_grown (Some (table_seen old)) r (tables_with (Some old) tables))
-TakesRow old r n (Err (TableFault fault)) new = option_map (at_line n) (row_fault (Some (table_seen old)) (last_seen old) r) ≡ Some fault
+TakesRow old r n (Err (TableFault fault)) new =
+    (tables : Tables) → option_map (at_line n) (row_fault (tables_with (Some old) tables) (Some (table_seen old)) (last_seen old) r) ≡ Some fault
 TakesRow old r n (Err NoMemory) new = Unit {0}
 
 -- the open table was moved into the database

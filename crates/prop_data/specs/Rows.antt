@@ -1,6 +1,8 @@
 -- What the rows of a table mean, the nearest row first.
 use Rattle.std.specs.Prelude.{ℕ, Bool, false, ◌||◌, ◌&&◌, nat_le, nat_lt, List, [], ◌∷◌, Option, Some, None, unwrap_or, option_map, option_and_then, if◌then◌else◌}
 use Rattle.prop_values.specs.Tables.{default_number}
+use Rattle.prop_names.specs.Names.{Names, with_name}
+use Rattle.prop_data.specs.Headers.{Table, set_table, map_table, names_table}
 use Rattle.prop_data.specs.Line.{Row}
 use Rattle.prop_data.specs.Numbers.{range, decimal_number}
 
@@ -13,19 +15,25 @@ holds (Some r) c = nat_le r.0 c && nat_le c r.1
 abbrev pub end_of : List ℕ → Option ℕ
 end_of field = option_map (λ r. r.1) (range field)
 
--- the last code point of the nearest row
-abbrev pub last_of : List Row → Option ℕ
-last_of [] = None
-last_of (r ∷ rows) = end_of r.0
+-- the last code point of the nearest row, where a table's rows are ranges
+abbrev pub last_of : Table → List Row → Option ℕ
+last_of t [] = None
+last_of (set_table n) (r ∷ rows) = end_of r.0
+last_of (map_table n default) (r ∷ rows) = end_of r.0
+last_of (names_table n) (r ∷ rows) = None
 
 -- the members of a set: the numbers that a row holds
 abbrev pub members : List Row → ℕ → Bool
 members [] c = false
 members (r ∷ rows) c = members rows c || holds (range r.0) c
 
--- the number that a second field spells
+-- the number that a field spells
 abbrev pub value_of : Option (List ℕ) → ℕ
 value_of field = unwrap_or (option_and_then decimal_number field) 0
+
+-- the text that a field is
+abbrev pub text_of : Option (List ℕ) → List ℕ
+text_of field = unwrap_or field []
 
 -- the value of a map where no row holds the number: the default of the header, and past the last code point that of the property
 abbrev pub value_outside : ℕ → ℕ → ℕ → ℕ
@@ -35,3 +43,8 @@ value_outside table default c = if nat_lt 0x10_FFFF c then default_number table 
 abbrev pub value : ℕ → ℕ → List Row → ℕ → ℕ
 value table default [] c = value_outside table default c
 value table default (r ∷ rows) c = if holds (range r.0) c then value_of r.1 else value table default rows c
+
+-- the names of a table of names: the second fields, each with the number that the first spells
+abbrev pub names_in : List Row → Names
+names_in [] = []
+names_in (r ∷ rows) = with_name (names_in rows) (text_of r.1) (value_of (Some r.0))

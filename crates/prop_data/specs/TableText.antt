@@ -1,13 +1,16 @@
 -- The first fault of a table text, and the tables that it means.
-use Rattle.std.specs.Prelude.{ℕ, ◌+◌, Bool, false, ◌||◌, ◌&&◌, nat_eq, nat_le, nat_lt, max, List, [], ◌∷◌, map, Option, Some, None, option_map, is_some, if◌then◌else◌}
-use Rattle.std.specs.List.{list_any}
+use Rattle.std.specs.Prelude.{ℕ, ◌+◌, Bool, false, ◌||◌, ◌&&◌, nat_eq, nat_le, nat_lt, not, ◌==◌, unwrap_or, max, List, [], ◌∷◌, map, Option, Some, None, option_map, is_some, if◌then◌else◌}
+use Rattle.std.specs.List.{list_any, list_all}
+use Rattle.std.specs.Char.{is_ascii_alphanumeric}
 use Rattle.text_lines.specs.Fields.{fields}
-use Rattle.prop_values.specs.Tables.{accepts}
+use Rattle.prop_names.specs.Folding.{stored_folding}
+use Rattle.prop_names.specs.Names.{Names, value_of_folding}
+use Rattle.prop_values.specs.Tables.{accepts, accepts_name_of}
 use Rattle.prop_data.specs.declared.error.TableErrorKind.{TableErrorKind}
-use Rattle.prop_data.specs.declared.error.TableErrorKind.TheVariants.{UnknownLine, UnknownTable, TableTwice, BadNumber, TooLarge, RangeOrder, ValueOutOfType, SyntaxAscii, NoEnd, AfterEnd}
+use Rattle.prop_data.specs.declared.error.TableErrorKind.TheVariants.{UnknownLine, UnknownTable, TableTwice, BadNumber, TooLarge, RangeOrder, ValueOutOfType, BadName, NamesClash, SyntaxAscii, NoEnd, AfterEnd}
 use Rattle.prop_data.specs.declared.error.TableError.{TableError}
-use Rattle.prop_data.specs.Headers.{Table, set_table, map_table, set_number, map_number}
-use Rattle.prop_data.specs.Line.{Header, set_header, map_header, Row, Line, blank, header, row, closing, other, line_of}
+use Rattle.prop_data.specs.Headers.{Table, set_table, map_table, names_table, set_number, map_number, names_number}
+use Rattle.prop_data.specs.Line.{Header, set_header, map_header, names_header, Row, Line, blank, header, row, closing, other, line_of}
 use Rattle.prop_data.specs.LinesAbove.{or_else, is_closed, sections, table_of_row, last_in_table, tables_of_lines}
 use Rattle.prop_data.specs.Numbers.{range, decimal_number}
 use Rattle.prop_data.specs.Tables.{Tables}
@@ -71,13 +74,48 @@ map_row_fault t last None n = Some BadNumber
 map_row_fault t last (Some r) None = Some BadNumber
 map_row_fault t last (Some r) (Some n) = or_else (range_fault last r) (value_fault t n)
 
+-- an ASCII letter or digit, `_` or a hyphen
+abbrev pub is_name_character : ℕ → Bool
+is_name_character c = is_ascii_alphanumeric c || (c == 0x5F || c == 0x2D)
+
+abbrev pub is_name : List ℕ → Bool
+is_name text = list_all is_name_character text
+
+-- the table of names takes the number, which is at most 16 bits wide
+abbrev pub accepts_name : ℕ → ℕ → Bool
+accepts_name t n = nat_lt n 0x1_0000 && accepts_name_of t n
+
+-- there is a value, and it is another one
+abbrev pub is_other : Option ℕ → ℕ → Bool
+is_other None n = false
+is_other (Some v) n = not (nat_eq v n)
+
+-- the names that fold as this one have another value
+abbrev pub clashes : Names → List ℕ → ℕ → Bool
+clashes names text n = is_other (value_of_folding names (stored_folding text)) n
+
+-- the tests of a name and its value, below other names
+abbrev pub name_fault : ℕ → Names → ℕ → List ℕ → Option TableErrorKind
+name_fault t names n text =
+    if not (accepts_name t n) then Some ValueOutOfType
+    else if not (is_name text) then Some BadName
+    else if clashes names text n then Some NamesClash
+    else None
+
+-- the tests of a row of a table of names, by the value that it spells
+abbrev pub names_row_fault : ℕ → Names → Option ℕ → List ℕ → Option TableErrorKind
+names_row_fault t names None text = Some BadNumber
+names_row_fault t names (Some n) text = name_fault t names n text
+
 -- the tests of a row below the header of a table
-abbrev pub row_fault : Option Table → Option ℕ → Row → Option TableErrorKind
-row_fault None last r = Some UnknownLine
-row_fault (Some (set_table t)) last (first, None) = set_row_fault t last (range first)
-row_fault (Some (set_table t)) last (first, Some second) = Some UnknownLine
-row_fault (Some (map_table t default)) last (first, None) = Some UnknownLine
-row_fault (Some (map_table t default)) last (first, Some second) = map_row_fault t last (range first) (decimal_number second)
+abbrev pub row_fault : Tables → Option Table → Option ℕ → Row → Option TableErrorKind
+row_fault tables None last r = Some UnknownLine
+row_fault tables (Some (set_table t)) last (first, None) = set_row_fault t last (range first)
+row_fault tables (Some (set_table t)) last (first, Some second) = Some UnknownLine
+row_fault tables (Some (map_table t default)) last (first, None) = Some UnknownLine
+row_fault tables (Some (map_table t default)) last (first, Some second) = map_row_fault t last (range first) (decimal_number second)
+row_fault tables (Some (names_table t)) last (first, None) = Some UnknownLine
+row_fault tables (Some (names_table t)) last (first, Some second) = names_row_fault t (unwrap_or (tables.names t) []) (decimal_number first) second
 
 -- the tests of the header of a set, by the number that its name has
 abbrev pub set_header_fault : Tables → Option ℕ → Option TableErrorKind
@@ -93,10 +131,16 @@ abbrev pub map_header_fault : Tables → Option ℕ → Option ℕ → Option Ta
 map_header_fault tables None default = Some UnknownTable
 map_header_fault tables (Some t) default = if is_some (tables.maps t) then Some TableTwice else default_fault t default
 
+-- the tests of the header of a table of names, by the number that its name has
+abbrev pub names_header_fault : Tables → Option ℕ → Option TableErrorKind
+names_header_fault tables None = Some UnknownTable
+names_header_fault tables (Some t) = if is_some (tables.names t) then Some TableTwice else None
+
 -- the tests of a header, wherever it stands
 abbrev pub header_fault : Tables → Header → Option TableErrorKind
 header_fault tables (set_header name) = set_header_fault tables (set_number name)
 header_fault tables (map_header name default) = map_header_fault tables (map_number name) (decimal_number default)
+header_fault tables (names_header name) = names_header_fault tables (names_number name)
 
 abbrev pub after_end : Bool → Option TableErrorKind
 after_end closed = if closed then Some AfterEnd else None
@@ -107,7 +151,7 @@ line_fault seen blank = None
 line_fault seen other = Some UnknownLine
 line_fault seen closing = after_end seen.closed
 line_fault seen (header h) = or_else (header_fault seen.tables h) (after_end seen.closed)
-line_fault seen (row r) = if seen.closed then Some UnknownLine else row_fault seen.table seen.last r
+line_fault seen (row r) = if seen.closed then Some UnknownLine else row_fault seen.tables seen.table seen.last r
 
 abbrev pub at_line : ℕ → TableErrorKind → TableError
 at_line n kind = record { line = n; kind = kind }

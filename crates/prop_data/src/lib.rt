@@ -5,6 +5,7 @@ mod database;
 mod error;
 mod line;
 mod load;
+mod name;
 mod numbers;
 mod row;
 #[cfg(test)]
@@ -14,4 +15,5 @@ mod value;
 pub use database::PropertyDatabase;
 pub use error::{LoadError, TableError, TableErrorKind};
 pub use prop_binary::SetTable;
-pub use prop_values::MapTable;
+pub use prop_names::PropertyValueNameToEnumMap;
+pub use prop_values::{MapTable, NamesTable};

@@ -13,6 +13,8 @@ pub(crate) enum Header<'a> {
     Set { name: &'a [u8] },
     /// `map NAME DEFAULT`
     Map { name: &'a [u8], default: &'a [u8] },
+    /// `names NAME`
+    Names { name: &'a [u8] },
 }
 
 /// The one or two fields of a row.
@@ -78,6 +80,8 @@ fn line_of_two<'a>(first: &'a [u8], second: &'a [u8]) -> Line<'a>
 {
     if first == b"set".as_slice() {
         Line::Header(Header::Set { name: second })
+    } else if first == b"names".as_slice() {
+        Line::Header(Header::Names { name: second })
     } else if is_end(first) || is_header_word(first) {
         Line::Other
     } else {

@@ -1,13 +1,14 @@
 //! Reads the lines of a table text one by one.
 ghost use Rattle.std.specs.Prelude.{◌≡◌, ℕ, [], None, true, OnOk, IfOk, IfErr};
 ghost use Rattle.text_lines.specs.Fields.{fields};
-ghost use Rattle.prop_data.specs.Line.{line_of, set_header, map_header, header as header_line, row as row_line, closing};
+ghost use Rattle.prop_data.specs.Line.{line_of, set_header, map_header, names_header, header as header_line, row as row_line, closing};
 ghost use Rattle.prop_data.specs.Loading.{kept, header_seen, row_seen, Takes, TakesRow, TakesFinished, Begins, NoEndFault};
 ghost use Rattle.prop_data.specs.Database.{tables_of};
 ghost use Rattle.prop_data.specs.TableText.{above};
 
 mod map;
 mod map_builder;
+mod names;
 mod set;
 
 use crate::database::PropertyDatabase;
@@ -17,8 +18,9 @@ use crate::numbers::decimal_number;
 use crate::value::accepted;
 use cp_invlist::NoMemory;
 use map::OpenMap;
+use names::OpenNames;
 use prop_binary::SetTable;
-use prop_values::MapTable;
+use prop_values::{MapTable, NamesTable};
 use set::OpenSet;
 use std::alloc::Global;
 
@@ -27,6 +29,7 @@ use std::alloc::Global;
 pub(crate) enum OpenTable {
     Set(OpenSet),
     Map(OpenMap),
+    Names(OpenNames),
 }
 
 impl OpenTable {
@@ -37,6 +40,7 @@ impl OpenTable {
         match self {
             OpenTable::Set(open) => open.add_row(row, number),
             OpenTable::Map(open) => open.add_row(row, number),
+            OpenTable::Names(open) => open.add_row(row, number),
         }
     }
 
@@ -47,6 +51,7 @@ impl OpenTable {
         match self {
             OpenTable::Set(open) => open.finish(database),
             OpenTable::Map(open) => open.finish(alloc, database),
+            OpenTable::Names(open) => open.finish(alloc, database),
         }
     }
 }
@@ -130,6 +135,19 @@ impl Loader {
         Ok(OpenTable::Map(OpenMap::new(self.alloc, table, default)))
     }
 
+    /// The table of names of a header, without rows.
+    fn begin_names(&self, name: &[u8], number: usize) -> Result<OpenTable, LoadError>
+        ensures { Begins (tables_of self.now.database) (names_header name.now) number result }
+    {
+        let Some(table) = NamesTable::from_name(name) else {
+            return Err(fault(number, TableErrorKind::UnknownTable));
+        };
+        if self.database.names(table).is_some() {
+            return Err(fault(number, TableErrorKind::TableTwice));
+        }
+        Ok(OpenTable::Names(OpenNames::new(self.alloc, table)))
+    }
+
     /// The table of a header, without rows.
     fn begin(&self, header: Header<'_>, number: usize) -> Result<OpenTable, LoadError>
         ensures { Begins (tables_of self.now.database) (header_seen header.entry) number result }
@@ -137,6 +155,7 @@ impl Loader {
         match header {
             Header::Set { name } => self.begin_set(name, number),
             Header::Map { name, default } => self.begin_map(name, default, number),
+            Header::Names { name } => self.begin_names(name, number),
         }
     }
 

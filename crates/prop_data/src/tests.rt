@@ -178,6 +178,87 @@ fn faults_of_maps_are_told(rt: HostRuntime) {
 }
 
 #[test]
+fn names_are_found(rt: HostRuntime) -> Result<(), Fail> {
+    let text =
+        "names Script\n25 Latn\n25 Latin\n20 Hira\n7 A-b\n5 _\n25 latin\nnames General_Category_Mask\n65534 L\nend";
+    let database = PropertyDatabase::from_text(rt.alloc(), text)?;
+    let scripts = database.names(NamesTable::SCRIPT).ok_or("no table")?;
+    for (name, strict, loose) in [
+        ("Latn", Some(25), Some(25)),
+        ("latn", None, Some(25)),
+        ("la-TN", None, Some(25)),
+        (" L_A\u{b}t i\tn\r\n", None, Some(25)),
+        ("Hira", Some(20), Some(20)),
+        ("A-b", Some(7), None),
+        ("a-b", None, None),
+        ("_", Some(5), Some(5)),
+        ("-- ", None, Some(5)),
+        ("", None, Some(5)),
+        ("Lat", None, None),
+        ("Latini", None, None),
+        ("\u{e9}", None, None),
+    ] {
+        assert_eq!(rt;
+            scripts.get_strict_u16(name.as_bytes()),
+            strict,
+            "at {name}"
+        );
+        assert_eq!(rt; scripts.get_loose_u16(name.as_bytes()), loose, "at {name}");
+    }
+    assert_eq!(rt; scripts.get_strict_u16(b"\xFF"), None);
+    assert_eq!(rt; scripts.get_loose_u16(b"\xFF"), None);
+    let groups = database
+        .names(NamesTable::GENERAL_CATEGORY_MASK)
+        .ok_or("no table")?;
+    assert_eq!(rt; groups.get_loose_u16(b"l"), Some(65534));
+    assert!(rt; database.names(NamesTable::BLOCK).is_none());
+    Ok(())
+}
+
+#[test]
+fn faults_of_names_are_told(rt: HostRuntime) {
+    for (text, line, kind) in [
+        ("names", 1, TableErrorKind::UnknownLine),
+        ("names Script 0", 1, TableErrorKind::UnknownLine),
+        ("names Script\n25", 2, TableErrorKind::UnknownLine),
+        (
+            "names Bidi_Mirroring_Glyph",
+            1,
+            TableErrorKind::UnknownTable,
+        ),
+        ("names script", 1, TableErrorKind::UnknownTable),
+        ("names Script\nnames Script", 2, TableErrorKind::TableTwice),
+        ("end\nnames Script", 2, TableErrorKind::AfterEnd),
+        ("names Script\n2A Latn", 2, TableErrorKind::BadNumber),
+        (
+            "names Script\n65536 La.tn",
+            2,
+            TableErrorKind::ValueOutOfType,
+        ),
+        ("names Line_Break\n256 A", 2, TableErrorKind::ValueOutOfType),
+        (
+            "names General_Category\n30 A",
+            2,
+            TableErrorKind::ValueOutOfType,
+        ),
+        ("names Script\n25 La.tin", 2, TableErrorKind::BadName),
+        ("names Script\n25 Lat\u{ef}n", 2, TableErrorKind::BadName),
+        (
+            "names Script\n25 Latin\n20 LA_TIN",
+            3,
+            TableErrorKind::NamesClash,
+        ),
+        (
+            "names Script\n25 A\n20 B\n25 C\n21 _b",
+            5,
+            TableErrorKind::NamesClash,
+        ),
+    ] {
+        assert_eq!(rt; fault_of(rt.alloc(), text), at(line, kind), "at {text}");
+    }
+}
+
+#[test]
 fn misspelled_rows_are_told(rt: HostRuntime) -> Result<(), Fail> {
     let alloc = rt.alloc();
     for row in ["0000041", "41-", "-41", "4G", "41-42-43", "U+41", "ends"] {

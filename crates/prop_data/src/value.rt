@@ -1,8 +1,8 @@
 //! Numbers of values.
 ghost use Rattle.std.specs.Prelude.{◌≡◌, Some, None, if◌then◌else◌};
-ghost use Rattle.prop_data.specs.TableText.{accepts_value};
+ghost use Rattle.prop_data.specs.TableText.{accepts_value, accepts_name};
 
-use prop_values::MapTable;
+use prop_values::{MapTable, NamesTable};
 
 /// The number, where the property of the table takes it.
 pub(crate) fn accepted(table: MapTable, number: u64) -> Option<u32>
@@ -12,6 +12,21 @@ pub(crate) fn accepted(table: MapTable, number: u64) -> Option<u32>
         return None;
     }
     let number = number as u32;
+    if table.accepts(number) {
+        Some(number)
+    } else {
+        None
+    }
+}
+
+/// The number, where the table of names takes it.
+pub(crate) fn accepted_name(table: NamesTable, number: u64) -> Option<u16>
+    ensures { result ≡ (if accepts_name table number then Some number else None) }
+{
+    if number > u64::from(u16::MAX) {
+        return None;
+    }
+    let number = number as u16;
     if table.accepts(number) {
         Some(number)
     } else {

@@ -128,11 +128,11 @@ unfolding is_sole line_of_one line_of_two is_header_word properties range hyphen
 letter_as_white_space = faulty_tables (at_line 3 SyntaxAscii) refl
 
 line_that_is_none : Evaluates (codes "end\nhello\n") (codes "err bad line\n") SomeErr
-unfolding is_sole line_of is_header_word script_line
+unfolding is_sole line_of_one line_of_two is_header_word script_line
 line_that_is_none = script refl (codes "err bad line\n") true (answers (codes "err bad line\n") [] true false (refl, refl) ends)
 
 absent_tables : Evaluates (codes "end\npat [a]\n") (codes "err error: internal error\n") SomeErr
-unfolding is_sole line_of is_header_word script_line
+unfolding is_sole line_of_one line_of_two is_header_word script_line
 absent_tables = script refl (codes "err error: internal error\n") true (answers (codes "err error: internal error\n") [] true false (fault (absent_table refl)) ends)
 
 -- what `[a-z0]` denotes, and its maximal ranges

@@ -1,7 +1,8 @@
 use Rattle.std.proofs.Common.{ℕ, Option, Some, option_map, cond, refl, ap, sym, ◌∙◌}
 use Rattle.std.specs.Option.{option_copied}
 use Rattle.prop_data.specs.Headers.{map_table}
-use Rattle.prop_data.specs.Loading.{row_seen, values_of}
+use Rattle.prop_data.specs.declared.load.OpenTable.TheVariants.{Map}
+use Rattle.prop_data.specs.Loading.{tables_with, row_seen, values_of}
 use Rattle.prop_data.specs.Numbers.{range}
 use Rattle.prop_data.specs.Rows.{holds, value_of}
 use Rattle.prop_data.specs.TableText.{range_fault, row_fault}
@@ -18,7 +19,8 @@ returns c =
     let is = c.in-Some-range.ensures in
     let number_is = c.in-Some-decimal_number.ensures in
     let takes = accepted-some _ _ _ c.in-Some-accepted.ensures in (
-      ap (λ s. row_fault (Some (map_table old.table old.builder.default)) old.builder.last (first, s)) second_is
+      λ tables.
+          ap (λ s. row_fault (tables_with (Some (Map old)) tables) (Some (map_table old.table old.builder.default)) old.builder.last (first, s)) second_is
           ∙ map_row_fault-none _ _ _ _ _ _ is number_is range_fine takes.1,
       ap (map_table old.table) c.in_ok-add.ensures.default,
       c.in_ok-add.ensures.last ∙ ap (option_map (λ (x : ℕ × ℕ). x.1)) is,

@@ -2,7 +2,8 @@ use Rattle.std.proofs.Common.{ℕ, ◌||◌, Some, option_map, refl, ap, sym, �
 use Rattle.std.specs.Option.{option_copied}
 use Rattle.cp_invlist.specs.InversionList.{contains}
 use Rattle.prop_data.specs.Headers.{set_table}
-use Rattle.prop_data.specs.Loading.{row_seen}
+use Rattle.prop_data.specs.declared.load.OpenTable.TheVariants.{Set}
+use Rattle.prop_data.specs.Loading.{tables_with, row_seen}
 use Rattle.prop_data.specs.Rows.{holds}
 use Rattle.prop_data.specs.TableText.{row_fault}
 use Rattle.prop_data.proofs.LoadingLemmas.{set_grown}
@@ -14,7 +15,8 @@ returns c =
     let range_fine = sym c.range_fault.ensures ∙ c.in_default-range_fault.is in
     let syntax_fine = sym c.syntax_fault.ensures ∙ c.in_default-syntax_fault.is in
     let is = c.in-Some.ensures in (
-      ap (λ s. row_fault (Some (set_table c.args.self.now.table)) c.args.self.now.last (c.args.row.first.now, s)) (ap option_copied c.in-None.is)
+      λ tables.
+          ap (λ s. row_fault (tables_with (Some (Set c.args.self.now)) tables) (Some (set_table c.args.self.now.table)) c.args.self.now.last (c.args.row.first.now, s)) (ap option_copied c.in-None.is)
           ∙ set_row_fault-none _ _ _ _ is range_fine syntax_fine,
       refl,
       ap (option_map (λ (x : ℕ × ℕ). x.1)) is,
