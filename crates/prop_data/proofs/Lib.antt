@@ -3,5 +3,6 @@ pub mod RowLemmas
 pub mod NameLemmas
 pub mod AboveLemmas
 pub mod LoadingLemmas
+pub mod DatabaseLemmas
 pub mod Reading
 mod Examples

@@ -7,5 +7,6 @@ pub mod LinesAbove
 pub mod TableErrorKind
 pub mod TableText
 pub mod MapBuilder
+pub mod Changes
 pub mod Database
 pub mod Loading

@@ -11,6 +11,10 @@ pub data Header : Type 0 where
   map_header : List ℕ → List ℕ → Header
   -- `names NAME`
   names_header : List ℕ → Header
+  -- `long NAME`
+  long_header : List ℕ → Header
+  -- `short NAME`
+  short_header : List ℕ → Header
 
 -- the one or two fields of a row
 abbrev pub Row : Type 0
@@ -47,6 +51,8 @@ unfoldable pub line_of_two : List ℕ → List ℕ → Line
 line_of_two first second =
     if bytes_eq first (codes "set") then header (set_header second)
     else if bytes_eq first (codes "names") then header (names_header second)
+    else if bytes_eq first (codes "long") then header (long_header second)
+    else if bytes_eq first (codes "short") then header (short_header second)
     else if is_end first || is_header_word first then other
     else row (first, Some second)
 

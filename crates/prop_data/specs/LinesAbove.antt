@@ -1,9 +1,9 @@
 -- What the lines above a line say, the nearest line first.
 use Rattle.std.specs.Prelude.{ℕ, Bool, true, false, nat_eq, List, [], ◌∷◌, Option, Some, None, if◌then◌else◌}
 use Rattle.prop_names.specs.Names.{Names}
-use Rattle.prop_data.specs.Headers.{Table, set_table, map_table, names_table, table_of}
+use Rattle.prop_data.specs.Headers.{Table, set_table, map_table, names_table, long_table, short_table, table_of}
 use Rattle.prop_data.specs.Line.{Row, Line, blank, header, row, closing, other}
-use Rattle.prop_data.specs.Rows.{last_of, members, value, names_in}
+use Rattle.prop_data.specs.Rows.{last_of, members, value, names_in, texts_in, is_subtags}
 use Rattle.prop_data.specs.Tables.{Tables}
 
 -- `end` stands above
@@ -60,22 +60,50 @@ abbrev pub set_at : ℕ → Table → List Row → Option (ℕ → Bool)
 set_at n (set_table t) rows = if nat_eq t n then Some (members rows) else None
 set_at n (map_table t default) rows = None
 set_at n (names_table t) rows = None
+set_at n (long_table t) rows = None
+set_at n (short_table t) rows = None
 
 -- the values of the map with this number
 abbrev pub map_at : ℕ → Table → List Row → Option (ℕ → ℕ)
 map_at n (map_table t default) rows = if nat_eq t n then Some (value t default rows) else None
 map_at n (set_table t) rows = None
 map_at n (names_table t) rows = None
+map_at n (long_table t) rows = None
+map_at n (short_table t) rows = None
 
 -- the names of the table of names with this number
 abbrev pub names_at : ℕ → Table → List Row → Option Names
 names_at n (names_table t) rows = if nat_eq t n then Some (names_in rows) else None
 names_at n (set_table t) rows = None
 names_at n (map_table t default) rows = None
+names_at n (long_table t) rows = None
+names_at n (short_table t) rows = None
+
+-- the long names of the table with this number
+abbrev pub long_at : ℕ → Table → List Row → Option (ℕ → Option (List ℕ))
+long_at n (long_table t) rows = if nat_eq t n then Some (texts_in false rows) else None
+long_at n (set_table t) rows = None
+long_at n (map_table t default) rows = None
+long_at n (names_table t) rows = None
+long_at n (short_table t) rows = None
+
+-- the short names of the table with this number
+abbrev pub short_at : ℕ → Table → List Row → Option (ℕ → Option (List ℕ))
+short_at n (short_table t) rows = if nat_eq t n then Some (texts_in (is_subtags t) rows) else None
+short_at n (set_table t) rows = None
+short_at n (map_table t default) rows = None
+short_at n (names_table t) rows = None
+short_at n (long_table t) rows = None
 
 -- the tables that the sections mean
 abbrev pub tables_of_sections : List Section → Tables
-tables_of_sections ss = record { sets = λ n. found (set_at n) ss; maps = λ n. found (map_at n) ss; names = λ n. found (names_at n) ss }
+tables_of_sections ss = record {
+  sets = λ n. found (set_at n) ss;
+  maps = λ n. found (map_at n) ss;
+  names = λ n. found (names_at n) ss;
+  long = λ n. found (long_at n) ss;
+  short = λ n. found (short_at n) ss;
+}
 
 -- the tables that the lines mean
 abbrev pub tables_of_lines : List Line → Tables

@@ -1,13 +1,14 @@
 -- What the loader keeps of the lines that it has read, and what a line makes of it.
-use Rattle.std.specs.Prelude.{◌≡◌, ℕ, Bool, true, false, ◌||◌, nat_eq, nat_lt, [], ◌∷◌, Option, Some, None, option_map, option_and_then, Result, Ok, Err, if◌then◌else◌}
+use Rattle.std.specs.Prelude.{◌≡◌, ℕ, Bool, true, false, ◌||◌, nat_eq, nat_lt, List, [], ◌∷◌, Option, Some, None, option_map, option_and_then, Result, Ok, Err, if◌then◌else◌}
 use Rattle.std.specs.Option.{option_copied}
 use Rattle.cp_invlist.specs.InversionList.{contains}
 use Rattle.cp_trie.specs.Runs.{value_in}
-use Rattle.prop_names.specs.Names.{Names as NamesTable, with_name}
+use Rattle.prop_names.specs.Names.{with_name}
+use Rattle.prop_names.specs.ValueNames.{text_at}
 use Rattle.prop_values.specs.Tables.{default_number}
 use Rattle.prop_data.specs.declared.database.PropertyDatabase.{PropertyDatabase}
 use Rattle.prop_data.specs.declared.line.Header.{Header as CodeHeader}
-use Rattle.prop_data.specs.declared.line.Header.TheVariants.{Set as SetHeader, Map as MapHeader, Names as NamesHeader}
+use Rattle.prop_data.specs.declared.line.Header.TheVariants.{Set as SetHeader, Map as MapHeader, Names as NamesHeader, Long as LongHeader, Short as ShortHeader}
 use Rattle.prop_data.specs.declared.line.Row.{Row as CodeRow}
 use Rattle.prop_data.specs.declared.line.Line.{Line as CodeLine}
 use Rattle.prop_data.specs.declared.line.Line.TheVariants.{Blank, Header as HeaderLine, Row as RowLine, Closing, Other}
@@ -16,20 +17,25 @@ use Rattle.prop_data.specs.declared.error.LoadError.TheVariants.{Table as TableF
 use Rattle.prop_data.specs.declared.error.TableErrorKind.TheVariants.{NoEnd}
 use Rattle.prop_data.specs.declared.load.Loader.{Loader}
 use Rattle.prop_data.specs.declared.load.OpenTable.{OpenTable}
-use Rattle.prop_data.specs.declared.load.OpenTable.TheVariants.{Set, Map, Names}
+use Rattle.prop_data.specs.declared.load.OpenTable.TheVariants.{Set, Map, Names, Texts}
+use Rattle.prop_data.specs.declared.load.texts.Length.{Length}
+use Rattle.prop_data.specs.declared.load.texts.Length.TheVariants.{Long, Short}
 use Rattle.prop_data.specs.declared.load.map.OpenMap.{OpenMap}
 use Rattle.prop_data.specs.Database.{tables_of}
-use Rattle.prop_data.specs.Headers.{Table, set_table, map_table, names_table, table_of}
-use Rattle.prop_data.specs.Line.{Header, set_header, map_header, names_header, Row, Line, blank, header, row, closing, other}
+use Rattle.prop_data.specs.Headers.{Table, set_table, map_table, names_table, long_table, short_table, table_of}
+use Rattle.prop_data.specs.Line.{Header, set_header, map_header, names_header, long_header, short_header, Row, Line, blank, header, row, closing, other}
 use Rattle.prop_data.specs.Numbers.{range}
-use Rattle.prop_data.specs.Rows.{holds, last_of, value_of, text_of, value_outside}
+use Rattle.prop_data.specs.Rows.{holds, last_of, value_of, text_of, value_outside, as_kept, is_subtags}
+use Rattle.prop_data.specs.Changes.{with_set, with_map, with_names, with_texts}
 use Rattle.prop_data.specs.Tables.{Tables}
-use Rattle.prop_data.specs.TableText.{Above, at_line, line_fault, header_fault, row_fault}
+use Rattle.prop_data.specs.TableText.{Above, at_line, line_fault, header_fault, row_fault, no_text}
 
 abbrev pub header_seen : CodeHeader → Header
 header_seen (SetHeader name) = set_header name.now
 header_seen (MapHeader name default) = map_header name.now default.now
 header_seen (NamesHeader name) = names_header name.now
+header_seen (LongHeader name) = long_header name.now
+header_seen (ShortHeader name) = short_header name.now
 
 abbrev pub row_seen : CodeRow → Row
 row_seen r = (r.first.now, option_copied r.second)
@@ -46,26 +52,29 @@ line_seen Other = other
 abbrev pub values_of : OpenMap → ℕ → ℕ
 values_of o c = if nat_lt 0x10_FFFF c then default_number o.table else value_in o.builder.runs.items o.builder.default c
 
+-- a table of names of this length
+abbrev pub table_of_length : Length → ℕ → Table
+table_of_length Long t = long_table t
+table_of_length Short t = short_table t
+
+-- the names of this length are subtags
+abbrev pub has_subtags : Length → ℕ → Bool
+has_subtags Long t = false
+has_subtags Short t = is_subtags t
+
 -- the table that is open
 abbrev pub table_seen : OpenTable → Table
 table_seen (Set o) = set_table o.table
 table_seen (Map o) = map_table o.table o.builder.default
 table_seen (Names o) = names_table o.table
+table_seen (Texts o) = table_of_length o.length o.table
 
 -- the last code point of its row above
 abbrev pub last_seen : OpenTable → Option ℕ
 last_seen (Set o) = o.last
 last_seen (Map o) = o.builder.last
 last_seen (Names o) = None
-
-abbrev pub with_set : ℕ → (ℕ → Bool) → Tables → Tables
-with_set n members tables = record tables { sets = λ t. if nat_eq n t then Some members else tables.sets t }
-
-abbrev pub with_map : ℕ → (ℕ → ℕ) → Tables → Tables
-with_map n values tables = record tables { maps = λ t. if nat_eq n t then Some values else tables.maps t }
-
-abbrev pub with_names : ℕ → NamesTable → Tables → Tables
-with_names n names tables = record tables { names = λ t. if nat_eq n t then Some names else tables.names t }
+last_seen (Texts o) = None
 
 -- the tables, and the open one beside them
 abbrev pub tables_with : Option OpenTable → Tables → Tables
@@ -73,6 +82,7 @@ tables_with None tables = tables
 tables_with (Some (Set o)) tables = with_set o.table (contains o.builder) tables
 tables_with (Some (Map o)) tables = with_map o.table (values_of o) tables
 tables_with (Some (Names o)) tables = with_names o.table o.builder tables
+tables_with (Some (Texts o)) tables = with_texts o.length o.table (text_at o.texts) tables
 
 -- what the loader keeps of the lines above
 abbrev pub kept : Loader → Above
@@ -89,6 +99,12 @@ tables_begun None tables = tables
 tables_begun (Some (set_table n)) tables = with_set n (λ c. false) tables
 tables_begun (Some (map_table n default)) tables = with_map n (value_outside n default) tables
 tables_begun (Some (names_table n)) tables = with_names n [] tables
+tables_begun (Some (long_table n)) tables = with_texts Long n no_text tables
+tables_begun (Some (short_table n)) tables = with_texts Short n no_text tables
+
+-- the names with one more
+abbrev pub with_text : Bool → Row → (ℕ → Option (List ℕ)) → ℕ → Option (List ℕ)
+with_text is_subtag r texts n = if nat_eq (value_of (Some r.0)) n then Some (as_kept is_subtag (text_of r.1)) else texts n
 
 -- the same tables, and a row in one of them
 abbrev pub tables_grown : Option Table → Row → Tables → Tables
@@ -101,6 +117,12 @@ tables_grown (Some (map_table n default)) r tables = record tables {
 }
 tables_grown (Some (names_table n)) r tables = record tables {
   names = λ t. if nat_eq n t then option_map (λ names. with_name names (text_of r.1) (value_of (Some r.0))) (tables.names t) else tables.names t;
+}
+tables_grown (Some (long_table n)) r tables = record tables {
+  long = λ t. if nat_eq n t then option_map (with_text false r) (tables.long t) else tables.long t;
+}
+tables_grown (Some (short_table n)) r tables = record tables {
+  short = λ t. if nat_eq n t then option_map (with_text (is_subtags n) r) (tables.short t) else tables.short t;
 }
 
 -- the last code point of a row that is a range
@@ -127,6 +149,7 @@ abbrev pub IsNew : OpenTable → Type 0
 IsNew (Set o) = (o.builder ≡ []) × (o.last ≡ None)
 IsNew (Map o) = (o.builder.runs.items ≡ []) × (o.builder.last ≡ None)
 IsNew (Names o) = o.builder ≡ []
+IsNew (Texts o) = (n : ℕ) → text_at o.texts n ≡ None
 
 -- A table was begun, or the fault of its header was told, or memory was refused.
 abbrev pub Begins : Tables → Header → ℕ → Result OpenTable LoadError → Type 0

@@ -1,8 +1,9 @@
 -- What the rows of a table mean, the nearest row first.
-use Rattle.std.specs.Prelude.{ℕ, Bool, false, ◌||◌, ◌&&◌, nat_le, nat_lt, List, [], ◌∷◌, Option, Some, None, unwrap_or, option_map, option_and_then, if◌then◌else◌}
+use Rattle.std.specs.Prelude.{ℕ, Bool, false, ◌||◌, ◌&&◌, nat_eq, nat_le, nat_lt, List, [], ◌∷◌, Option, Some, None, unwrap_or, option_map, option_and_then, if◌then◌else◌}
+use Rattle.prop_values.specs.Subtag.{in_subtag_case}
 use Rattle.prop_values.specs.Tables.{default_number}
 use Rattle.prop_names.specs.Names.{Names, with_name}
-use Rattle.prop_data.specs.Headers.{Table, set_table, map_table, names_table}
+use Rattle.prop_data.specs.Headers.{Table, set_table, map_table, names_table, long_table, short_table}
 use Rattle.prop_data.specs.Line.{Row}
 use Rattle.prop_data.specs.Numbers.{range, decimal_number}
 
@@ -21,6 +22,8 @@ last_of t [] = None
 last_of (set_table n) (r ∷ rows) = end_of r.0
 last_of (map_table n default) (r ∷ rows) = end_of r.0
 last_of (names_table n) (r ∷ rows) = None
+last_of (long_table n) (r ∷ rows) = None
+last_of (short_table n) (r ∷ rows) = None
 
 -- the members of a set: the numbers that a row holds
 abbrev pub members : List Row → ℕ → Bool
@@ -48,3 +51,16 @@ value table default (r ∷ rows) c = if holds (range r.0) c then value_of r.1 el
 abbrev pub names_in : List Row → Names
 names_in [] = []
 names_in (r ∷ rows) = with_name (names_in rows) (text_of r.1) (value_of (Some r.0))
+
+-- how a name is kept: a script's short name as the subtag that its four letters spell (RFC 5646, section 2.1.1)
+abbrev pub as_kept : Bool → List ℕ → List ℕ
+as_kept is_subtag text = if is_subtag then in_subtag_case text else text
+
+-- the name of each number: the second field of the row whose first field spells it
+abbrev pub texts_in : Bool → List Row → ℕ → Option (List ℕ)
+texts_in is_subtag [] n = None
+texts_in is_subtag (r ∷ rows) n = if nat_eq (value_of (Some r.0)) n then Some (as_kept is_subtag (text_of r.1)) else texts_in is_subtag rows n
+
+-- the short names of scripts are subtags
+abbrev pub is_subtags : ℕ → Bool
+is_subtags table = nat_eq table 4

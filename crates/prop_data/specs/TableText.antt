@@ -5,14 +5,16 @@ use Rattle.std.specs.Char.{is_ascii_alphanumeric}
 use Rattle.text_lines.specs.Fields.{fields}
 use Rattle.prop_names.specs.Folding.{stored_folding}
 use Rattle.prop_names.specs.Names.{Names, value_of_folding}
+use Rattle.prop_values.specs.Subtag.{is_four_letters, in_subtag_case}
 use Rattle.prop_values.specs.Tables.{accepts, accepts_name_of}
 use Rattle.prop_data.specs.declared.error.TableErrorKind.{TableErrorKind}
 use Rattle.prop_data.specs.declared.error.TableErrorKind.TheVariants.{UnknownLine, UnknownTable, TableTwice, BadNumber, TooLarge, RangeOrder, ValueOutOfType, BadName, NamesClash, SyntaxAscii, NoEnd, AfterEnd}
 use Rattle.prop_data.specs.declared.error.TableError.{TableError}
-use Rattle.prop_data.specs.Headers.{Table, set_table, map_table, names_table, set_number, map_number, names_number}
-use Rattle.prop_data.specs.Line.{Header, set_header, map_header, names_header, Row, Line, blank, header, row, closing, other, line_of}
+use Rattle.prop_data.specs.Headers.{Table, set_table, map_table, names_table, long_table, short_table, set_number, map_number, names_number, text_number}
+use Rattle.prop_data.specs.Line.{Header, set_header, map_header, names_header, long_header, short_header, Row, Line, blank, header, row, closing, other, line_of}
 use Rattle.prop_data.specs.LinesAbove.{or_else, is_closed, sections, table_of_row, last_in_table, tables_of_lines}
 use Rattle.prop_data.specs.Numbers.{range, decimal_number}
+use Rattle.prop_data.specs.Rows.{is_subtags}
 use Rattle.prop_data.specs.Tables.{Tables}
 
 -- what the tests of a line look at above it
@@ -107,6 +109,29 @@ abbrev pub names_row_fault : ℕ → Names → Option ℕ → List ℕ → Optio
 names_row_fault t names None text = Some BadNumber
 names_row_fault t names (Some n) text = name_fault t names n text
 
+-- a name that may stand in a table of one name for each value, as it is kept
+abbrev pub kept_of : Bool → List ℕ → Option (List ℕ)
+kept_of is_subtag text =
+    if not (is_name text) then None
+    else if is_subtag then (if is_four_letters text then Some (in_subtag_case text) else None)
+    else Some text
+
+abbrev pub kept_fault : Bool → Option (List ℕ) → Option TableErrorKind
+kept_fault is_there None = Some BadName
+kept_fault is_there (Some kept) = if is_there then Some NamesClash else None
+
+-- the tests of a name and its value, where other values have names
+abbrev pub text_fault : Bool → ℕ → (ℕ → Option (List ℕ)) → ℕ → List ℕ → Option TableErrorKind
+text_fault is_subtag t texts n text = if accepts_value t n then kept_fault (is_some (texts n)) (kept_of is_subtag text) else Some ValueOutOfType
+
+-- the tests of a row of a table of one name for each value, by the value that it spells
+abbrev pub text_row_fault : Bool → ℕ → (ℕ → Option (List ℕ)) → Option ℕ → List ℕ → Option TableErrorKind
+text_row_fault is_subtag t texts None text = Some BadNumber
+text_row_fault is_subtag t texts (Some n) text = text_fault is_subtag t texts n text
+
+abbrev pub no_text : ℕ → Option (List ℕ)
+no_text n = None
+
 -- the tests of a row below the header of a table
 abbrev pub row_fault : Tables → Option Table → Option ℕ → Row → Option TableErrorKind
 row_fault tables None last r = Some UnknownLine
@@ -116,6 +141,10 @@ row_fault tables (Some (map_table t default)) last (first, None) = Some UnknownL
 row_fault tables (Some (map_table t default)) last (first, Some second) = map_row_fault t last (range first) (decimal_number second)
 row_fault tables (Some (names_table t)) last (first, None) = Some UnknownLine
 row_fault tables (Some (names_table t)) last (first, Some second) = names_row_fault t (unwrap_or (tables.names t) []) (decimal_number first) second
+row_fault tables (Some (long_table t)) last (first, None) = Some UnknownLine
+row_fault tables (Some (long_table t)) last (first, Some second) = text_row_fault false t (unwrap_or (tables.long t) no_text) (decimal_number first) second
+row_fault tables (Some (short_table t)) last (first, None) = Some UnknownLine
+row_fault tables (Some (short_table t)) last (first, Some second) = text_row_fault (is_subtags t) t (unwrap_or (tables.short t) no_text) (decimal_number first) second
 
 -- the tests of the header of a set, by the number that its name has
 abbrev pub set_header_fault : Tables → Option ℕ → Option TableErrorKind
@@ -136,11 +165,18 @@ abbrev pub names_header_fault : Tables → Option ℕ → Option TableErrorKind
 names_header_fault tables None = Some UnknownTable
 names_header_fault tables (Some t) = if is_some (tables.names t) then Some TableTwice else None
 
+-- the tests of the header of a table of one name for each value, by the number that its name has
+abbrev pub text_header_fault : (ℕ → Option (ℕ → Option (List ℕ))) → Option ℕ → Option TableErrorKind
+text_header_fault texts None = Some UnknownTable
+text_header_fault texts (Some t) = if is_some (texts t) then Some TableTwice else None
+
 -- the tests of a header, wherever it stands
 abbrev pub header_fault : Tables → Header → Option TableErrorKind
 header_fault tables (set_header name) = set_header_fault tables (set_number name)
 header_fault tables (map_header name default) = map_header_fault tables (map_number name) (decimal_number default)
 header_fault tables (names_header name) = names_header_fault tables (names_number name)
+header_fault tables (long_header name) = text_header_fault tables.long (text_number name)
+header_fault tables (short_header name) = text_header_fault tables.short (text_number name)
 
 abbrev pub after_end : Bool → Option TableErrorKind
 after_end closed = if closed then Some AfterEnd else None

@@ -4,6 +4,7 @@
 mod database;
 mod error;
 mod line;
+mod linear;
 mod load;
 mod name;
 mod numbers;
@@ -15,5 +16,8 @@ mod value;
 pub use database::PropertyDatabase;
 pub use error::{LoadError, TableError, TableErrorKind};
 pub use prop_binary::SetTable;
-pub use prop_names::PropertyValueNameToEnumMap;
+pub use prop_names::{
+    PropertyEnumToValueNameLinearMap, PropertyEnumToValueNameLookup,
+    PropertyEnumToValueNameSparseMap, PropertyScriptToIcuScriptMap, PropertyValueNameToEnumMap,
+};
 pub use prop_values::{MapTable, NamesTable};

@@ -15,6 +15,10 @@ pub(crate) enum Header<'a> {
     Map { name: &'a [u8], default: &'a [u8] },
     /// `names NAME`
     Names { name: &'a [u8] },
+    /// `long NAME`
+    Long { name: &'a [u8] },
+    /// `short NAME`
+    Short { name: &'a [u8] },
 }
 
 /// The one or two fields of a row.
@@ -82,6 +86,10 @@ fn line_of_two<'a>(first: &'a [u8], second: &'a [u8]) -> Line<'a>
         Line::Header(Header::Set { name: second })
     } else if first == b"names".as_slice() {
         Line::Header(Header::Names { name: second })
+    } else if first == b"long".as_slice() {
+        Line::Header(Header::Long { name: second })
+    } else if first == b"short".as_slice() {
+        Line::Header(Header::Short { name: second })
     } else if is_end(first) || is_header_word(first) {
         Line::Other
     } else {

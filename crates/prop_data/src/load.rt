@@ -1,7 +1,7 @@
 //! Reads the lines of a table text one by one.
 ghost use Rattle.std.specs.Prelude.{◌≡◌, ℕ, [], None, true, OnOk, IfOk, IfErr};
 ghost use Rattle.text_lines.specs.Fields.{fields};
-ghost use Rattle.prop_data.specs.Line.{line_of, set_header, map_header, names_header, header as header_line, row as row_line, closing};
+ghost use Rattle.prop_data.specs.Line.{line_of, set_header, map_header, names_header, long_header, short_header, header as header_line, row as row_line, closing};
 ghost use Rattle.prop_data.specs.Loading.{kept, header_seen, row_seen, Takes, TakesRow, TakesFinished, Begins, NoEndFault};
 ghost use Rattle.prop_data.specs.Database.{tables_of};
 ghost use Rattle.prop_data.specs.TableText.{above};
@@ -10,6 +10,7 @@ mod map;
 mod map_builder;
 mod names;
 mod set;
+mod texts;
 
 use crate::database::PropertyDatabase;
 use crate::error::{LoadError, TableErrorKind, fault};
@@ -23,6 +24,8 @@ use prop_binary::SetTable;
 use prop_values::{MapTable, NamesTable};
 use set::OpenSet;
 use std::alloc::Global;
+pub(crate) use texts::Length;
+use texts::{OpenTexts, text_table};
 
 /// A table whose rows are being read.
 #[derive(Drop)]
@@ -30,6 +33,7 @@ pub(crate) enum OpenTable {
     Set(OpenSet),
     Map(OpenMap),
     Names(OpenNames),
+    Texts(OpenTexts),
 }
 
 impl OpenTable {
@@ -41,6 +45,7 @@ impl OpenTable {
             OpenTable::Set(open) => open.add_row(row, number),
             OpenTable::Map(open) => open.add_row(row, number),
             OpenTable::Names(open) => open.add_row(row, number),
+            OpenTable::Texts(open) => open.add_row(row, number),
         }
     }
 
@@ -52,6 +57,7 @@ impl OpenTable {
             OpenTable::Set(open) => open.finish(database),
             OpenTable::Map(open) => open.finish(alloc, database),
             OpenTable::Names(open) => open.finish(alloc, database),
+            OpenTable::Texts(open) => open.finish(database),
         }
     }
 }
@@ -148,6 +154,32 @@ impl Loader {
         Ok(OpenTable::Names(OpenNames::new(self.alloc, table)))
     }
 
+    /// The table of long names of a header, without rows.
+    fn begin_long(&self, name: &[u8], number: usize) -> Result<OpenTable, LoadError>
+        ensures { Begins (tables_of self.now.database) (long_header name.now) number result }
+    {
+        let Some(table) = text_table(name) else {
+            return Err(fault(number, TableErrorKind::UnknownTable));
+        };
+        if self.database.has_long(table) {
+            return Err(fault(number, TableErrorKind::TableTwice));
+        }
+        Ok(OpenTable::Texts(OpenTexts::new(self.alloc, table, Length::Long)))
+    }
+
+    /// The table of short names of a header, without rows.
+    fn begin_short(&self, name: &[u8], number: usize) -> Result<OpenTable, LoadError>
+        ensures { Begins (tables_of self.now.database) (short_header name.now) number result }
+    {
+        let Some(table) = text_table(name) else {
+            return Err(fault(number, TableErrorKind::UnknownTable));
+        };
+        if self.database.has_short(table) {
+            return Err(fault(number, TableErrorKind::TableTwice));
+        }
+        Ok(OpenTable::Texts(OpenTexts::new(self.alloc, table, Length::Short)))
+    }
+
     /// The table of a header, without rows.
     fn begin(&self, header: Header<'_>, number: usize) -> Result<OpenTable, LoadError>
         ensures { Begins (tables_of self.now.database) (header_seen header.entry) number result }
@@ -156,6 +188,8 @@ impl Loader {
             Header::Set { name } => self.begin_set(name, number),
             Header::Map { name, default } => self.begin_map(name, default, number),
             Header::Names { name } => self.begin_names(name, number),
+            Header::Long { name } => self.begin_long(name, number),
+            Header::Short { name } => self.begin_short(name, number),
         }
     }
 

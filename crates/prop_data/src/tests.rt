@@ -259,6 +259,111 @@ fn faults_of_names_are_told(rt: HostRuntime) {
 }
 
 #[test]
+fn long_and_short_names_are_found(rt: HostRuntime) -> Result<(), Fail> {
+    let text =
+        "long Script\n25 Latin\n0 Common\nlong Canonical_Combining_Class\n230 Above\nshort Script\n25 lATN\nshort Canonical_Combining_Class\n230 A\nshort Block\n65535 X-y\nend";
+    let database = PropertyDatabase::from_text(rt.alloc(), text)?;
+    let long = database.long_linear(MapTable::SCRIPT).ok_or("no table")?;
+    for (number, name) in [
+        (25, Some("Latin")),
+        (0, Some("Common")),
+        (1, None),
+        (65561, None),
+    ] {
+        assert_eq!(rt; long.get(number), name, "at {number}");
+    }
+    let above = database.long_ccc().ok_or("no table")?;
+    assert_eq!(rt; above.get(230), Some("Above"));
+    assert_eq!(rt; above.get(0), None);
+    let subtags = database.short_script().ok_or("no table")?;
+    assert_eq!(rt; subtags.get(25), Some("Latn"));
+    assert_eq!(rt; subtags.get_script(25).ok_or("no subtag")?.as_str(), "Latn");
+    assert!(rt; subtags.get_script(38).is_none());
+    assert_eq!(rt; database.short_ccc().ok_or("no table")?.get(230), Some("A"));
+    let blocks = database.short_linear(MapTable::BLOCK).ok_or("no table")?;
+    assert_eq!(rt; blocks.get(65535), Some("X-y"));
+    assert!(rt; database.short_linear(MapTable::SCRIPT).is_none());
+    assert!(rt;
+        database
+            .short_linear(MapTable::CANONICAL_COMBINING_CLASS)
+            .is_none()
+    );
+    assert!(rt;
+        database
+            .long_linear(MapTable::CANONICAL_COMBINING_CLASS)
+            .is_none()
+    );
+    assert!(rt; database.long_linear(MapTable::BLOCK).is_none());
+    Ok(())
+}
+
+#[test]
+fn names_by_number_may_be_absent(rt: HostRuntime) -> Result<(), Fail> {
+    let database = PropertyDatabase::from_text(rt.alloc(), "long Block\nend")?;
+    assert!(rt; database.long_ccc().is_none());
+    assert!(rt; database.short_ccc().is_none());
+    assert!(rt; database.short_script().is_none());
+    assert!(rt; database.short_linear(MapTable::BLOCK).is_none());
+    assert_eq!(rt;
+        database
+            .long_linear(MapTable::BLOCK)
+            .ok_or("no table")?
+            .get(0),
+        None
+    );
+    let names = vec![in rt.alloc(); String::new(rt.alloc()), String::from_str(rt.alloc(), "a")?]?;
+    let listed = PropertyEnumToValueNameLinearMap::from_names(names);
+    for (number, name) in [(0, None), (1, Some("a")), (2, None), (u32::MAX, None)] {
+        assert_eq!(rt; listed.get(number), name, "at {number}");
+    }
+    Ok(())
+}
+
+#[test]
+fn faults_of_long_and_short_names_are_told(rt: HostRuntime) {
+    for (text, line, kind) in [
+        ("long", 1, TableErrorKind::UnknownLine),
+        ("short Script 0", 1, TableErrorKind::UnknownLine),
+        ("long Script\n25", 2, TableErrorKind::UnknownLine),
+        ("long Bidi_Mirroring_Glyph", 1, TableErrorKind::UnknownTable),
+        (
+            "short General_Category_Mask",
+            1,
+            TableErrorKind::UnknownTable,
+        ),
+        ("long Script\nlong Script", 2, TableErrorKind::TableTwice),
+        ("short Script\nshort Script", 2, TableErrorKind::TableTwice),
+        (
+            "long Canonical_Combining_Class\nset Dash\nlong Canonical_Combining_Class",
+            3,
+            TableErrorKind::TableTwice,
+        ),
+        ("end\nlong Script", 2, TableErrorKind::AfterEnd),
+        ("short Script\n2A Latn", 2, TableErrorKind::BadNumber),
+        (
+            "short Script\n65536 Latin",
+            2,
+            TableErrorKind::ValueOutOfType,
+        ),
+        ("long Script\n25 La.tin", 2, TableErrorKind::BadName),
+        ("short Script\n25 Latin", 2, TableErrorKind::BadName),
+        ("short Script\n25 La7n", 2, TableErrorKind::BadName),
+        (
+            "long Script\n25 Latin\n25 Latin",
+            3,
+            TableErrorKind::NamesClash,
+        ),
+        (
+            "short Script\n25 Latn\n20 Hira\n25 Latn",
+            4,
+            TableErrorKind::NamesClash,
+        ),
+    ] {
+        assert_eq!(rt; fault_of(rt.alloc(), text), at(line, kind), "at {text}");
+    }
+}
+
+#[test]
 fn misspelled_rows_are_told(rt: HostRuntime) -> Result<(), Fail> {
     let alloc = rt.alloc();
     for row in ["0000041", "41-", "-41", "4G", "41-42-43", "U+41", "ends"] {

@@ -5,7 +5,13 @@ mod builder;
 mod folding;
 mod list;
 mod map;
+mod texts;
+mod value_names;
 
 pub use builder::NamesBuilder;
 pub use folding::{ascii_text, stored_folding};
 pub use map::PropertyValueNameToEnumMap;
+pub use value_names::{
+    PropertyEnumToValueNameLinearMap, PropertyEnumToValueNameLookup,
+    PropertyEnumToValueNameSparseMap, PropertyScriptToIcuScriptMap,
+};
