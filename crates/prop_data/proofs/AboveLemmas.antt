@@ -10,7 +10,7 @@ use Rattle.prop_data.specs.Loading.{last_after, with_text, tables_begun, tables_
 use Rattle.prop_data.specs.Numbers.{range, decimal_number}
 use Rattle.prop_data.specs.Rows.{last_of, holds, value_of, text_of, members, value, names_in, texts_in, is_subtags}
 use Rattle.prop_data.specs.Tables.{Tables}
-use Rattle.prop_data.specs.TableText.{Above, above, header_fault, set_header_fault, map_header_fault, names_header_fault, text_header_fault, default_fault, line_fault, after_end}
+use Rattle.prop_data.specs.LineFault.{Above, above, header_fault, set_header_fault, map_header_fault, names_header_fault, text_header_fault, default_fault, line_fault, after_end}
 
 pub same_above : (a b : Above) → a.closed ≡ b.closed → a.table ≡ b.table → a.last ≡ b.last → a.tables ≡ b.tables → a ≡ b
 same_above a b closed table last tables =

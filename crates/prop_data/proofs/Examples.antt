@@ -6,7 +6,8 @@ use Rattle.prop_data.specs.declared.error.TableErrorKind.TheVariants.{RangeOrder
 use Rattle.prop_data.specs.Line.{set_header, header, line_of, line_of_one, line_of_two, line_of_three, is_header_word}
 use Rattle.prop_data.specs.Numbers.{spelled, hyphen_parts, range}
 use Rattle.prop_binary.specs.Tables.{properties}
-use Rattle.prop_data.specs.TableText.{range_fault, syntax_fault, value_fault, at_line, table_fault, tables_in}
+use Rattle.prop_data.specs.LineFault.{range_fault, syntax_fault, value_fault}
+use Rattle.prop_data.specs.TableText.{at_line, table_fault, tables_in}
 
 lines-example : lines (0x61 ∷ 0x0D ∷ 0x0A ∷ 0x62 ∷ 0x0D ∷ []) ≡ codes "a" ∷ (0x62 ∷ 0x0D ∷ []) ∷ []
 lines-example = refl

@@ -1,6 +1,7 @@
 pub mod MapBuilderLemmas
 pub mod RowLemmas
 pub mod NameLemmas
+pub mod TestsLemmas
 pub mod AboveLemmas
 pub mod LoadingLemmas
 pub mod DatabaseLemmas

@@ -20,7 +20,7 @@ use Rattle.prop_data.specs.Line.{Row}
 use Rattle.prop_data.specs.Numbers.{range}
 use Rattle.prop_data.specs.Rows.{holds, value_of, text_of, value_outside, is_subtags}
 use Rattle.prop_data.specs.Tables.{Tables}
-use Rattle.prop_data.specs.TableText.{no_text}
+use Rattle.prop_data.specs.LineFault.{no_text}
 use Rattle.prop_data.proofs.AboveLemmas.{same_tables}
 
 tables_with-new_texts : (l : Length) (t : ℕ) (texts : ℕ → Option (List ℕ)) (base tables : Tables) → ((n : ℕ) → texts n ≡ None) → base ≡ tables →

@@ -15,7 +15,7 @@ use Rattle.prop_data.specs.Changes.{with_names, with_texts}
 use Rattle.prop_data.specs.Line.{Row}
 use Rattle.prop_data.specs.Numbers.{decimal_number}
 use Rattle.prop_data.specs.Tables.{Tables}
-use Rattle.prop_data.specs.TableText.{is_name_character, is_name, accepts_name, is_other, clashes, name_fault, row_fault, names_row_fault, accepts_value, kept_of, text_fault, text_row_fault, no_text}
+use Rattle.prop_data.specs.LineFault.{is_name_character, is_name, accepts_name, is_other, clashes, name_fault, row_fault, names_row_fault, accepts_value, kept_of, text_fault, text_row_fault, no_text}
 
 own_table : (t : ℕ) → nat_eq t t ≡ true
 own_table t = grind (arith, nat_tests)

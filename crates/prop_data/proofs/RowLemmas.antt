@@ -6,7 +6,7 @@ use Rattle.prop_data.specs.declared.error.TableErrorKind.TheVariants.{ValueOutOf
 use Rattle.prop_data.specs.LinesAbove.{or_else}
 use Rattle.prop_data.specs.MapBuilder.{next_of}
 use Rattle.prop_data.specs.Rows.{holds}
-use Rattle.prop_data.specs.TableText.{is_behind, range_fault, syntax_fault, value_fault, accepts_value, set_row_fault, map_row_fault}
+use Rattle.prop_data.specs.LineFault.{is_behind, range_fault, syntax_fault, value_fault, accepts_value, set_row_fault, map_row_fault}
 
 -- a range that passes its tests
 pub record InOrder (last : Option ℕ) (r : ℕ × ℕ) : Type 0 where

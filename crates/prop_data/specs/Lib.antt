@@ -5,6 +5,8 @@ pub mod Rows
 pub mod Tables
 pub mod LinesAbove
 pub mod TableErrorKind
+pub mod LineFault
+pub mod Tests
 pub mod TableText
 pub mod MapBuilder
 pub mod Changes

@@ -28,7 +28,8 @@ use Rattle.prop_data.specs.Numbers.{range}
 use Rattle.prop_data.specs.Rows.{holds, last_of, value_of, text_of, value_outside, as_kept, is_subtags}
 use Rattle.prop_data.specs.Changes.{with_set, with_map, with_names, with_texts}
 use Rattle.prop_data.specs.Tables.{Tables}
-use Rattle.prop_data.specs.TableText.{Above, at_line, line_fault, header_fault, row_fault, no_text}
+use Rattle.prop_data.specs.LineFault.{Above, line_fault, header_fault, row_fault, no_text}
+use Rattle.prop_data.specs.TableText.{at_line}
 
 abbrev pub header_seen : CodeHeader → Header
 header_seen (SetHeader name) = set_header name.now

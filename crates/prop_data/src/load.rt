@@ -4,7 +4,7 @@ ghost use Rattle.text_lines.specs.Fields.{fields};
 ghost use Rattle.prop_data.specs.Line.{line_of, set_header, map_header, names_header, long_header, short_header, header as header_line, row as row_line, closing};
 ghost use Rattle.prop_data.specs.Loading.{kept, header_seen, row_seen, Takes, TakesRow, TakesFinished, Begins, NoEndFault};
 ghost use Rattle.prop_data.specs.Database.{tables_of};
-ghost use Rattle.prop_data.specs.TableText.{above};
+ghost use Rattle.prop_data.specs.LineFault.{above};
 
 mod map;
 mod map_builder;
@@ -122,7 +122,7 @@ impl Loader {
     }
 
     /// The map of a header, without rows.
-    #[tactic(auto, unfolding(crate::specs::TableText::value_fault))]
+    #[tactic(auto, unfolding(crate::specs::LineFault::value_fault))]
     fn begin_map(&self, name: &[u8], default: &[u8], number: usize) -> Result<OpenTable, LoadError>
         ensures { Begins (tables_of self.now.database) (map_header name.now default.now) number result }
     {

@@ -1,7 +1,7 @@
 //! The characters of names.
 ghost use Rattle.std.specs.Prelude.{◌≡◌, IfOk, option_map};
 ghost use Rattle.std.specs.String.{string_bytes};
-ghost use Rattle.prop_data.specs.TableText.{is_name_character, is_name, kept_of};
+ghost use Rattle.prop_data.specs.LineFault.{is_name_character, is_name, kept_of};
 
 use cp_invlist::NoMemory;
 use prop_names::ascii_text;

@@ -1,7 +1,7 @@
 //! The tests of a row's range.
 ghost use Rattle.std.specs.Prelude.{◌≡◌, ℕ, None, Some, Bool, List, option_map};
 ghost use Rattle.std.specs.List.{list_any};
-ghost use Rattle.prop_data.specs.TableText.{overlaps, forbidden, range_fault, syntax_fault, is_behind};
+ghost use Rattle.prop_data.specs.LineFault.{overlaps, forbidden, range_fault, syntax_fault, is_behind};
 
 use crate::error::TableErrorKind;
 use cp_invlist::{CodePointRange, LAST_CODE_POINT};
@@ -40,7 +40,7 @@ fn is_behind(last: Option<u32>, start: u32) -> bool
 }
 
 /// The first test that the range fails in a row of any table, where `last` is the last code point of the row above.
-#[tactic(auto, unfolding(crate::specs::TableText::range_fault))]
+#[tactic(auto, unfolding(crate::specs::LineFault::range_fault))]
 pub(crate) fn range_fault(last: Option<u32>, range: CodePointRange) -> Option<TableErrorKind>
     ensures { result ≡ range_fault last (range.start, range.end) }
 {
@@ -54,7 +54,7 @@ pub(crate) fn range_fault(last: Option<u32>, range: CodePointRange) -> Option<Ta
 }
 
 /// The fault of a range that holds an ASCII character which the table must not hold.
-#[tactic(auto, unfolding(crate::specs::TableText::syntax_fault))]
+#[tactic(auto, unfolding(crate::specs::LineFault::syntax_fault))]
 pub(crate) fn syntax_fault(table: SetTable, range: CodePointRange) -> Option<TableErrorKind>
     ensures { result ≡ syntax_fault table (range.start, range.end) }
 {

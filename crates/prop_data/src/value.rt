@@ -1,6 +1,6 @@
 //! Numbers of values.
 ghost use Rattle.std.specs.Prelude.{◌≡◌, Some, None, if◌then◌else◌};
-ghost use Rattle.prop_data.specs.TableText.{accepts_value, accepts_name};
+ghost use Rattle.prop_data.specs.LineFault.{accepts_value, accepts_name};
 
 use prop_values::{MapTable, NamesTable};
 

@@ -13,7 +13,8 @@ use Rattle.text_lines.specs.Fields.{is_sole}
 use Rattle.prop_data.specs.Line.{line_of_one, line_of_two, is_header_word}
 use Rattle.prop_data.specs.Numbers.{range, hyphen_parts, spelled}
 use Rattle.prop_binary.specs.Tables.{properties}
-use Rattle.prop_data.specs.TableText.{table_fault, at_line, range_fault, syntax_fault}
+use Rattle.prop_data.specs.LineFault.{range_fault, syntax_fault}
+use Rattle.prop_data.specs.TableText.{table_fault, at_line}
 use Rattle.uset_parse.specs.declared.error.ParseErrorKind.TheVariants.{Unimplemented}
 use Rattle.uset_tool.specs.Answer.{AreStrings, range_text, string_text, read_text, fault_text, bad_line_text, read, fault, ends, answers}
 use Rattle.uset_tool.specs.Script.{silent, pattern, bad, script_line}

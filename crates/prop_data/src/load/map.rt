@@ -34,7 +34,7 @@ impl OpenMap {
     }
 
     /// Takes a row.
-    #[tactic(auto, unfolding(crate::specs::TableText::range_fault, crate::specs::TableText::value_fault))]
+    #[tactic(auto, unfolding(crate::specs::LineFault::range_fault, crate::specs::LineFault::value_fault))]
     pub(crate) fn add_row(&mut self, row: Row<'_>, number: usize) -> Result<(), LoadError>
         ensures { TakesRow (OpenTable.Map self.old) (row_seen row.entry) number result (OpenTable.Map self.new) }
     {

@@ -1,6 +1,6 @@
 //! The table of names whose rows are being read.
 ghost use Rattle.std.specs.Prelude.{◌≡◌, [], OnOk};
-ghost use Rattle.prop_data.specs.TableText.{is_other};
+ghost use Rattle.prop_data.specs.LineFault.{is_other};
 ghost use Rattle.prop_data.specs.Loading.{TakesRow, TakesFinished, row_seen};
 
 use crate::database::PropertyDatabase;

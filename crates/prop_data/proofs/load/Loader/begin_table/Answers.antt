@@ -1,7 +1,7 @@
 use Rattle.std.proofs.Common.{ap, sym, ◌∙◌}
 use Rattle.prop_data.specs.LinesAbove.{or_else}
 use Rattle.prop_data.specs.Loading.{header_seen, kept, tables_begun}
-use Rattle.prop_data.specs.TableText.{header_fault, after_end}
+use Rattle.prop_data.specs.LineFault.{header_fault, after_end}
 use Rattle.prop_data.proofs.AboveLemmas.{same_above}
 use Rattle.prop_data.proofs.LoadingLemmas.{last_seen-new, tables_with-new}
 use Rattle.prop_data.proofs.load.Loader.begin_table.Goals as goal

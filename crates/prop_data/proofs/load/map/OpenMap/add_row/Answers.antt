@@ -5,7 +5,7 @@ use Rattle.prop_data.specs.declared.load.OpenTable.TheVariants.{Map}
 use Rattle.prop_data.specs.Loading.{tables_with, row_seen, values_of}
 use Rattle.prop_data.specs.Numbers.{range}
 use Rattle.prop_data.specs.Rows.{holds, value_of}
-use Rattle.prop_data.specs.TableText.{range_fault, row_fault}
+use Rattle.prop_data.specs.LineFault.{range_fault, row_fault}
 use Rattle.prop_data.proofs.LoadingLemmas.{map_grown}
 use Rattle.prop_data.proofs.RowLemmas.{range_fault-none, map_row_fault-none, accepted-some, values-grown}
 use Rattle.prop_data.proofs.load.map.OpenMap.add_row.Goals as goal

@@ -3,7 +3,8 @@ use Rattle.std.specs.Option.{option_copied}
 use Rattle.prop_names.specs.Names.{value_of_folding, with_name}
 use Rattle.prop_data.specs.Loading.{row_seen}
 use Rattle.prop_data.specs.Rows.{text_of}
-use Rattle.prop_data.specs.TableText.{at_line, is_other, clashes}
+use Rattle.prop_data.specs.LineFault.{is_other, clashes}
+use Rattle.prop_data.specs.TableText.{at_line}
 use Rattle.prop_data.proofs.LoadingLemmas.{names_grown}
 use Rattle.prop_data.proofs.NameLemmas.{names_row, name_fault-none, name_fault-clash, accepted_name-some}
 use Rattle.prop_data.proofs.load.names.OpenNames.add_row.Goals as goal

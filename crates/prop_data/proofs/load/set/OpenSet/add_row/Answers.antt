@@ -5,7 +5,7 @@ use Rattle.prop_data.specs.Headers.{set_table}
 use Rattle.prop_data.specs.declared.load.OpenTable.TheVariants.{Set}
 use Rattle.prop_data.specs.Loading.{tables_with, row_seen}
 use Rattle.prop_data.specs.Rows.{holds}
-use Rattle.prop_data.specs.TableText.{row_fault}
+use Rattle.prop_data.specs.LineFault.{row_fault}
 use Rattle.prop_data.proofs.LoadingLemmas.{set_grown}
 use Rattle.prop_data.proofs.RowLemmas.{range_fault-none, set_row_fault-none, in_code_points-holds}
 use Rattle.prop_data.proofs.load.set.OpenSet.add_row.Goals as goal

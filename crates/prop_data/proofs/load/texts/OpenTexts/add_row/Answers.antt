@@ -5,7 +5,8 @@ use Rattle.prop_names.specs.ValueNames.{text_at}
 use Rattle.prop_data.specs.Loading.{row_seen, has_subtags, table_of_length, with_text}
 use Rattle.prop_data.specs.Changes.{with_texts}
 use Rattle.prop_data.specs.Rows.{as_kept, text_of, value_of}
-use Rattle.prop_data.specs.TableText.{at_line, kept_of}
+use Rattle.prop_data.specs.LineFault.{kept_of}
+use Rattle.prop_data.specs.TableText.{at_line}
 use Rattle.prop_data.proofs.LoadingLemmas.{texts_grown}
 use Rattle.prop_data.proofs.NameLemmas.{text_row, text_fault-none, text_fault-bad_name, text_fault-clash, accepted-taken, kept_of-as_kept, last_after-texts}
 use Rattle.prop_data.proofs.load.texts.OpenTexts.add_row.Goals as goal
