@@ -2,11 +2,12 @@
 use Rattle.std.specs.Prelude.{◌≡◌, ℕ, true, false, List, [], ◌∷◌, codes, Some, None, option_map, refl}
 use Rattle.text_lines.specs.Lines.{lines}
 use Rattle.text_lines.specs.Fields.{fields}
-use Rattle.prop_data.specs.declared.error.TableErrorKind.TheVariants.{RangeOrder, SyntaxAscii, NoEnd}
-use Rattle.prop_data.specs.Line.{header, line_of, is_header_word}
-use Rattle.prop_data.specs.Numbers.{hex, hyphen_parts, range}
-use Rattle.prop_data.specs.SetTable.{set_number}
-use Rattle.prop_data.specs.TableText.{row_fault, header_fault, at_line, table_fault, tables_in}
+use Rattle.prop_data.specs.declared.error.TableErrorKind.TheVariants.{RangeOrder, ValueOutOfType, SyntaxAscii, NoEnd}
+use Rattle.prop_data.specs.Line.{set_header, header, line_of, line_of_one, line_of_two, line_of_three, is_header_word}
+use Rattle.prop_data.specs.Numbers.{spelled, hyphen_parts, range}
+use Rattle.prop_binary.specs.Tables.{properties}
+use Rattle.prop_data.specs.LineFault.{range_fault, syntax_fault, value_fault}
+use Rattle.prop_data.specs.TableText.{at_line, table_fault, tables_in}
 
 lines-example : lines (0x61 ∷ 0x0D ∷ 0x0A ∷ 0x62 ∷ 0x0D ∷ []) ≡ codes "a" ∷ (0x62 ∷ 0x0D ∷ []) ∷ []
 lines-example = refl
@@ -14,12 +15,12 @@ lines-example = refl
 fields-example : fields (codes " set XID_Start # 1") ≡ codes "set" ∷ codes "XID_Start" ∷ []
 fields-example = refl
 
-line_of-example : line_of (fields (codes "set XID_Start")) ≡ header (codes "XID_Start")
-unfolding line_of
+line_of-example : line_of (fields (codes "set XID_Start")) ≡ header (set_header (codes "XID_Start"))
+unfolding line_of_two
 line_of-example = refl
 
 range-example : range (codes "41-5a") ≡ Some (0x41, 0x5A)
-unfolding range hyphen_parts hex
+unfolding range hyphen_parts spelled
 range-example = refl
 
 -- a table of two rows
@@ -27,24 +28,46 @@ abbrev text : List (List ℕ)
 text = codes "set XID_Start" ∷ codes "41-5A" ∷ codes "61" ∷ codes "end" ∷ []
 
 table_fault-example : table_fault text ≡ None
-unfolding line_of is_header_word range hyphen_parts hex set_number header_fault row_fault
+unfolding line_of_one line_of_two line_of_three is_header_word range hyphen_parts spelled properties range_fault syntax_fault value_fault
 table_fault-example = refl
 
-tables_in-example : (option_map (λ members. members 0x5A ∷ members 0x5B ∷ members 0x61 ∷ []) (tables_in text 68) ≡ Some (true ∷ false ∷ true ∷ [])) × (tables_in text 67 ≡ None)
-unfolding line_of is_header_word range hyphen_parts hex set_number
+tables_in-example : (option_map (λ members. members 0x5A ∷ members 0x5B ∷ members 0x61 ∷ []) ((tables_in text).sets 68) ≡ Some (true ∷ false ∷ true ∷ [])) × ((tables_in text).sets 67 ≡ None)
+unfolding line_of_one line_of_two is_header_word range hyphen_parts spelled properties
 tables_in-example = (refl, refl)
 
 -- the second row is not above the first
 table_fault-order : table_fault (codes "set XID_Start" ∷ codes "61" ∷ codes "41-5A" ∷ codes "end" ∷ []) ≡ Some (at_line 3 RangeOrder)
-unfolding line_of is_header_word range hyphen_parts hex set_number header_fault row_fault
+unfolding line_of_one line_of_two line_of_three is_header_word range hyphen_parts spelled properties range_fault syntax_fault value_fault
 table_fault-order = refl
 
 -- the exclamation mark is no white space
 table_fault-ascii : table_fault (codes "set Pattern_White_Space" ∷ codes "20-21" ∷ codes "end" ∷ []) ≡ Some (at_line 2 SyntaxAscii)
-unfolding line_of is_header_word range hyphen_parts hex set_number header_fault row_fault
+unfolding line_of_one line_of_two line_of_three is_header_word range hyphen_parts spelled properties range_fault syntax_fault value_fault
 table_fault-ascii = refl
 
 -- the missing `end` is told at the line behind the last
 table_fault-no_end : table_fault (codes "set XID_Start" ∷ codes "41" ∷ []) ≡ Some (at_line 3 NoEnd)
-unfolding line_of is_header_word range hyphen_parts hex set_number header_fault row_fault
+unfolding line_of_one line_of_two line_of_three is_header_word range hyphen_parts spelled properties range_fault syntax_fault value_fault
 table_fault-no_end = refl
+
+-- no other set is tested so
+table_fault-other_set : table_fault (codes "set Dash" ∷ codes "2D" ∷ codes "end" ∷ []) ≡ None
+unfolding line_of_one line_of_two line_of_three is_header_word range hyphen_parts spelled properties range_fault syntax_fault value_fault
+table_fault-other_set = refl
+
+-- a map with a row of two code points
+abbrev map_text : List (List ℕ)
+map_text = codes "map Script 103" ∷ codes "41-42 25" ∷ codes "end" ∷ []
+
+table_fault-map : table_fault map_text ≡ None
+unfolding line_of_one line_of_two line_of_three is_header_word range hyphen_parts spelled properties range_fault syntax_fault value_fault
+table_fault-map = refl
+
+tables_in-map : option_map (λ at. at 0x40 ∷ at 0x42 ∷ at 0x11_0000 ∷ []) ((tables_in map_text).maps 4) ≡ Some (103 ∷ 25 ∷ 103 ∷ [])
+unfolding line_of_one line_of_two line_of_three is_header_word range hyphen_parts spelled
+tables_in-map = refl
+
+-- there are no more than thirty general categories
+table_fault-default : table_fault (codes "map General_Category 30" ∷ []) ≡ Some (at_line 1 ValueOutOfType)
+unfolding line_of_three spelled value_fault
+table_fault-default = refl

@@ -5,13 +5,15 @@ use Rattle.text_lines.specs.Fields.{fields}
 use Rattle.prop_data.specs.declared.error.TableError.{TableError}
 use Rattle.prop_data.specs.declared.error.TableErrorKind.TheVariants.{NoEnd}
 use Rattle.prop_data.specs.Line.{Line, line_of}
-use Rattle.prop_data.specs.Tables.{tables_of_lines}
+use Rattle.prop_data.specs.LinesAbove.{or_else, tables_of_lines}
 use Rattle.prop_data.specs.declared.error.LoadError.{LoadError}
 use Rattle.prop_data.specs.declared.error.LoadError.TheVariants.{Table, NoMemory}
 use Rattle.prop_data.specs.Database.{IsFault}
 use Rattle.prop_data.specs.Loading.{after, Takes}
-use Rattle.prop_data.specs.TableText.{Above, above, at_line, line_fault, first_fault, or_else, laid_on, lines_by_field, table_fault, tables_in}
+use Rattle.prop_data.specs.LineFault.{Above, above, line_fault}
+use Rattle.prop_data.specs.TableText.{at_line, first_fault, laid_on, lines_by_field, table_fault, tables_in}
 use Rattle.prop_data.proofs.AboveLemmas.{above-line}
+use Rattle.prop_data.proofs.TestsLemmas.{fault_of_line-line_fault}
 
 pub record StandsAt (text rest : List ℕ) (seen : Above) (number : ℕ) : Type 0 where
   pub read : List Line
@@ -29,7 +31,8 @@ faulty_line : (text rest line behind : List ℕ) (seen : Above) (number : ℕ) (
 faulty_line text rest line behind seen number fault at parts faulty =
     sym at.fault_is ∙ (ap (λ ls. first_fault at.read number (lines_by_field ls)) parts
     ∙ ap (λ o. or_else o (first_fault (line_of (fields line) ∷ at.read) (number + 1) (lines_by_field (lines behind))))
-    (ap (λ a. option_map (at_line number) (line_fault a (line_of (fields line)))) (sym at.seen_is) ∙ faulty))
+    (ap (option_map (at_line number)) (fault_of_line-line_fault (above at.read) (line_of (fields line))
+    ∙ ap (λ a. line_fault a (line_of (fields line))) (sym at.seen_is)) ∙ faulty))
 
 -- a line without a fault was read
 pub next_line : (text rest line behind : List ℕ) (seen new : Above) (number : ℕ) → StandsAt text rest seen number → lines rest ≡ line ∷ lines behind → length behind < length rest →
@@ -41,7 +44,7 @@ next_line text rest line behind seen new number at parts shorter whole is =
       read = l ∷ at.read;
       seen_is = is ∙ (ap (λ a. after a l) at.seen_is ∙ sym (above-line at.read l here));
       fault_is =
-          ap (λ o. or_else (option_map (at_line number) o) (first_fault (l ∷ at.read) (number + 1) (lines_by_field (lines behind)))) (sym here)
+          ap (λ o. or_else (option_map (at_line number) o) (first_fault (l ∷ at.read) (number + 1) (lines_by_field (lines behind)))) (sym (fault_of_line-line_fault (above at.read) l ∙ here))
           ∙ (ap (λ ls. first_fault at.read number (lines_by_field ls)) (sym parts) ∙ at.fault_is);
       lines_are = ap (λ ls. laid_on at.read (lines_by_field ls)) (sym parts) ∙ at.lines_are;
       counted = omega (arith, at.counted);

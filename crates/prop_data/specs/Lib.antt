@@ -1,7 +1,14 @@
-pub mod SetTable
 pub mod Numbers
 pub mod Line
+pub mod Headers
+pub mod Rows
 pub mod Tables
+pub mod LinesAbove
+pub mod TableErrorKind
+pub mod LineFault
+pub mod Tests
 pub mod TableText
+pub mod MapBuilder
+pub mod Changes
 pub mod Database
 pub mod Loading

@@ -1,19 +1,31 @@
--- Code points and ranges as they are spelled.
+-- Numbers and ranges of code points as they are spelled.
 use Rattle.std.specs.Prelude.{ℕ, ◌+◌, ◌*◌, Bool, ◌&&◌, ◌==◌, nat_lt, nat_le, List, [], ◌∷◌, length, take, drop, Option, Some, None, option_and_then, option_map, if◌then◌else◌}
 use Rattle.std.specs.Char.{digit_value}
 use Rattle.std.specs.List.{position}
 
+-- the value of a digit of the base
+abbrev pub digit : ℕ → ℕ → Option ℕ
+digit base c = if nat_lt (digit_value c) base then Some (digit_value c) else None
+
 abbrev pub hex_digit : ℕ → Option ℕ
-hex_digit c = if nat_lt (digit_value c) 16 then Some (digit_value c) else None
+hex_digit c = digit 16 c
 
 -- the digits read on from the number
-abbrev pub hex_onto : ℕ → List ℕ → Option ℕ
-hex_onto n [] = Some n
-hex_onto n (d ∷ digits) = option_and_then (λ digit. hex_onto (n * 16 + digit) digits) (hex_digit d)
+abbrev pub number_onto : ℕ → ℕ → List ℕ → Option ℕ
+number_onto base n [] = Some n
+number_onto base n (d ∷ digits) = option_and_then (λ value. number_onto base (n * base + value) digits) (digit base d)
+
+-- one to so many digits of the base
+unfoldable pub spelled : ℕ → ℕ → List ℕ → Option ℕ
+spelled base most digits = if nat_le 1 (length digits) && nat_le (length digits) most then number_onto base 0 digits else None
 
 -- one to six hexadecimal digits
-unfoldable pub hex : List ℕ → Option ℕ
-hex digits = if nat_le 1 (length digits) && nat_le (length digits) 6 then hex_onto 0 digits else None
+abbrev pub hex : List ℕ → Option ℕ
+hex digits = spelled 16 6 digits
+
+-- one to ten decimal digits
+abbrev pub decimal_number : List ℕ → Option ℕ
+decimal_number digits = spelled 10 10 digits
 
 abbrev pub is_hyphen : ℕ → Bool
 is_hyphen c = c == 0x2D

@@ -3,60 +3,87 @@ ghost use Rattle.std.specs.Prelude.{◌≡◌};
 ghost use Rattle.prop_data.specs.declared.error.LoadError.TheVariants.{NoMemory as OutOfMemory};
 
 use cp_invlist::NoMemory;
+use std::error::Error;
+use std::fmt;
 use thiserror::Error;
 
 /// Which test of a line failed.
-#[derive(Clone, Copy, Debug, Drop, PartialEq, Eq, Error)]
+#[derive(Clone, Copy, Debug, Drop, PartialEq, Eq)]
 pub enum TableErrorKind {
     /// The line is no header, no lone `end`, and no row of the table above it.
-    #[error("UnknownLine")]
     UnknownLine,
     /// The header names no table of its kind.
-    #[error("UnknownTable")]
     UnknownTable,
     /// An earlier header has the same word and name.
-    #[error("TableTwice")]
     TableTwice,
     /// A number, range or string isn't spelled as it must be.
-    #[error("BadNumber")]
     BadNumber,
     /// A code point is above 10FFFF, or an index above 1023.
-    #[error("TooLarge")]
     TooLarge,
     /// A range's first code point is above its last, or not above the last of the range before it.
-    #[error("RangeOrder")]
     RangeOrder,
     /// A value isn't accepted by its type.
-    #[error("ValueOutOfType")]
     ValueOutOfType,
     /// A name holds a character that no name has.
-    #[error("BadName")]
     BadName,
     /// An earlier row has another value under an equal name, or the same value.
-    #[error("NamesClash")]
     NamesClash,
     /// A syntax table holds an ASCII character that the pattern syntax needs.
-    #[error("SyntaxAscii")]
     SyntaxAscii,
     /// A script of an extension list isn't above the one before it.
-    #[error("ExtensionOrder")]
     ExtensionOrder,
     /// A string of an emoji table has one character.
-    #[error("StringOfOne")]
     StringOfOne,
     /// An earlier row of the emoji table is the same string.
-    #[error("StringTwice")]
     StringTwice,
     /// A value of the script table has no extension list.
-    #[error("ExtensionMissing")]
     ExtensionMissing,
     /// No line is `end`.
-    #[error("NoEnd")]
     NoEnd,
     /// A line with fields stands after `end`.
-    #[error("AfterEnd")]
     AfterEnd,
 }
+
+impl TableErrorKind {
+    ghost use Rattle.prop_data.specs.TableErrorKind.{kind_name};
+
+    /// The name of the variant.
+    pub fn name(self) -> &'static str
+        ensures { result.now ≡ kind_name self }
+    {
+        match self {
+            TableErrorKind::UnknownLine => "UnknownLine",
+            TableErrorKind::UnknownTable => "UnknownTable",
+            TableErrorKind::TableTwice => "TableTwice",
+            TableErrorKind::BadNumber => "BadNumber",
+            TableErrorKind::TooLarge => "TooLarge",
+            TableErrorKind::RangeOrder => "RangeOrder",
+            TableErrorKind::ValueOutOfType => "ValueOutOfType",
+            TableErrorKind::BadName => "BadName",
+            TableErrorKind::NamesClash => "NamesClash",
+            TableErrorKind::SyntaxAscii => "SyntaxAscii",
+            TableErrorKind::ExtensionOrder => "ExtensionOrder",
+            TableErrorKind::StringOfOne => "StringOfOne",
+            TableErrorKind::StringTwice => "StringTwice",
+            TableErrorKind::ExtensionMissing => "ExtensionMissing",
+            TableErrorKind::NoEnd => "NoEnd",
+            TableErrorKind::AfterEnd => "AfterEnd",
+        }
+    }
+}
+
+impl fmt::Display for TableErrorKind {
+    ghost use Rattle.std.specs.Prelude.{Some};
+    ghost use Rattle.prop_data.specs.TableErrorKind.{kind_name};
+
+    ghost output = { λ kind. Some (kind_name kind) };
+
+    fn fmt<W: fmt::Write>(&self, f: &mut fmt::Formatter<W>) -> fmt::Result {
+        f.write_str(self.name())
+    }
+}
+
+impl Error for TableErrorKind {}
 
 /// The first fault of a table text.
 #[derive(Clone, Copy, Debug, Drop, PartialEq, Eq, Error)]
@@ -85,4 +112,11 @@ impl From<NoMemory> for LoadError {
     fn from(_error: NoMemory) -> LoadError {
         LoadError::NoMemory
     }
+}
+
+/// The fault of a line.
+pub(crate) fn fault(line: usize, kind: TableErrorKind) -> LoadError
+    ensures { result ≡ LoadError.Table (record { line = line; kind = kind }) }
+{
+    LoadError::Table(TableError { line, kind })
 }

@@ -4,13 +4,20 @@
 mod database;
 mod error;
 mod line;
-mod loader;
+mod linear;
+mod load;
+mod name;
 mod numbers;
 mod row;
-mod tables;
 #[cfg(test)]
 mod tests;
+mod value;
 
 pub use database::PropertyDatabase;
 pub use error::{LoadError, TableError, TableErrorKind};
 pub use prop_binary::SetTable;
+pub use prop_names::{
+    PropertyEnumToValueNameLinearMap, PropertyEnumToValueNameLookup,
+    PropertyEnumToValueNameSparseMap, PropertyScriptToIcuScriptMap, PropertyValueNameToEnumMap,
+};
+pub use prop_values::{MapTable, NamesTable};

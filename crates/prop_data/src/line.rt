@@ -1,20 +1,41 @@
 //! A line of a table text, by its fields.
 ghost use Rattle.std.specs.Prelude.{◌≡◌, ◌∷◌, []};
 ghost use Rattle.text_lines.specs.Fields.{fields};
-ghost use Rattle.prop_data.specs.Line.{line_of, is_header_word};
+ghost use Rattle.prop_data.specs.Line.{line_of, line_of_one, line_of_two, line_of_three, is_header_word, is_end};
 ghost use Rattle.prop_data.specs.Loading.{line_seen};
 
 use text_lines::{before_comment, split_field};
+
+/// The header of a table, by the fields behind its word.
+#[derive(Clone, Copy)]
+pub(crate) enum Header<'a> {
+    /// `set NAME`
+    Set { name: &'a [u8] },
+    /// `map NAME DEFAULT`
+    Map { name: &'a [u8], default: &'a [u8] },
+    /// `names NAME`
+    Names { name: &'a [u8] },
+    /// `long NAME`
+    Long { name: &'a [u8] },
+    /// `short NAME`
+    Short { name: &'a [u8] },
+}
+
+/// The one or two fields of a row.
+#[derive(Clone, Copy)]
+pub(crate) struct Row<'a> {
+    pub(crate) first: &'a [u8],
+    pub(crate) second: Option<&'a [u8]>,
+}
 
 /// What a line is, whatever stands above it.
 #[derive(Clone, Copy)]
 pub(crate) enum Line<'a> {
     /// A line without fields.
     Blank,
-    /// `set` and a name.
-    Header(&'a [u8]),
-    /// One field that is neither a header word nor `end`.
-    Row(&'a [u8]),
+    Header(Header<'a>),
+    /// One field, or two, the first neither a header word nor `end`.
+    Row(Row<'a>),
     /// `end` alone.
     Closing,
     /// Anything else.
@@ -35,21 +56,65 @@ fn is_header_word(field: &[u8]) -> bool
         || field == b"emoji".as_slice()
 }
 
-#[tactic(auto, unfolding(crate::specs::Line::line_of))]
-fn line_of_one(field: &[u8]) -> Line<'_>
-    ensures { line_seen result ≡ line_of (field.now ∷ []) }
+fn is_end(field: &[u8]) -> bool
+    ensures { result ≡ is_end field.now }
 {
-    if field == b"end".as_slice() {
+    field == b"end".as_slice()
+}
+
+#[tactic(auto, unfolding(crate::specs::Line::line_of_one))]
+fn line_of_one(field: &[u8]) -> Line<'_>
+    ensures { line_seen result ≡ line_of_one field.now }
+{
+    if is_end(field) {
         Line::Closing
     } else if is_header_word(field) {
         Line::Other
     } else {
-        Line::Row(field)
+        Line::Row(Row {
+            first: field,
+            second: None,
+        })
+    }
+}
+
+#[tactic(auto, unfolding(crate::specs::Line::line_of_two))]
+fn line_of_two<'a>(first: &'a [u8], second: &'a [u8]) -> Line<'a>
+    ensures { line_seen result ≡ line_of_two first.now second.now }
+{
+    if first == b"set".as_slice() {
+        Line::Header(Header::Set { name: second })
+    } else if first == b"names".as_slice() {
+        Line::Header(Header::Names { name: second })
+    } else if first == b"long".as_slice() {
+        Line::Header(Header::Long { name: second })
+    } else if first == b"short".as_slice() {
+        Line::Header(Header::Short { name: second })
+    } else if is_end(first) || is_header_word(first) {
+        Line::Other
+    } else {
+        Line::Row(Row {
+            first,
+            second: Some(second),
+        })
+    }
+}
+
+#[tactic(auto, unfolding(crate::specs::Line::line_of_three))]
+fn line_of_three<'a>(first: &[u8], second: &'a [u8], third: &'a [u8]) -> Line<'a>
+    ensures { line_seen result ≡ line_of_three first.now second.now third.now }
+{
+    if first == b"map".as_slice() {
+        Line::Header(Header::Map {
+            name: second,
+            default: third,
+        })
+    } else {
+        Line::Other
     }
 }
 
 /// Reads a line's fields.
-#[tactic(auto, unfolding(crate::specs::Line::line_of))]
 pub(crate) fn read_line(line: &[u8]) -> Line<'_>
     ensures { line_seen result ≡ line_of (fields line.now) }
 {
@@ -59,8 +124,11 @@ pub(crate) fn read_line(line: &[u8]) -> Line<'_>
     let Some((second, rest)) = split_field(rest) else {
         return line_of_one(first);
     };
-    if split_field(rest).is_some() || first != b"set".as_slice() {
+    let Some((third, rest)) = split_field(rest) else {
+        return line_of_two(first, second);
+    };
+    if split_field(rest).is_some() {
         return Line::Other;
     }
-    Line::Header(second)
+    line_of_three(first, second, third)
 }

@@ -1,7 +1,7 @@
-//! The tests of a row.
+//! The tests of a row's range.
 ghost use Rattle.std.specs.Prelude.{◌≡◌, ℕ, None, Some, Bool, List, option_map};
 ghost use Rattle.std.specs.List.{list_any};
-ghost use Rattle.prop_data.specs.TableText.{overlaps, forbidden, row_fault, is_behind};
+ghost use Rattle.prop_data.specs.LineFault.{overlaps, forbidden, range_fault, syntax_fault, is_behind};
 
 use crate::error::TableErrorKind;
 use cp_invlist::{CodePointRange, LAST_CODE_POINT};
@@ -13,18 +13,21 @@ fn overlaps(range: CodePointRange, first: u32, last: u32) -> bool
     range.start <= last && first <= range.end
 }
 
-/// Whether the range holds an ASCII character that the pattern syntax needs.
+/// Whether the range holds an ASCII character that the table must not hold, since the pattern syntax needs it.
 fn holds_syntax(table: SetTable, range: CodePointRange) -> bool
     ensures { result ≡ list_any (overlaps (range.start, range.end)) (forbidden table) }
 {
-    if table.number() == SetTable::PATTERN_WHITE_SPACE.number() {
-        return overlaps(range, 0x21, 0x7E);
+    if table == SetTable::PATTERN_WHITE_SPACE {
+        overlaps(range, 0x21, 0x7E)
+    } else if table == SetTable::XID_CONTINUE || table == SetTable::XID_START {
+        overlaps(range, 0x00, 0x2F)
+            || overlaps(range, 0x3A, 0x40)
+            || overlaps(range, 0x5B, 0x5E)
+            || overlaps(range, 0x60, 0x60)
+            || overlaps(range, 0x7B, 0x7F)
+    } else {
+        false
     }
-    overlaps(range, 0x00, 0x2F)
-        || overlaps(range, 0x3A, 0x40)
-        || overlaps(range, 0x5B, 0x5E)
-        || overlaps(range, 0x60, 0x60)
-        || overlaps(range, 0x7B, 0x7F)
 }
 
 fn is_behind(last: Option<u32>, start: u32) -> bool
@@ -36,21 +39,26 @@ fn is_behind(last: Option<u32>, start: u32) -> bool
     }
 }
 
-/// The first test that the range fails as a row of the table, where `last` is the last code point of
-/// the row above.
-#[tactic(auto, unfolding(crate::specs::TableText::row_fault))]
-pub(crate) fn row_fault(
-    table: SetTable,
-    last: Option<u32>,
-    range: CodePointRange,
-) -> Option<TableErrorKind>
-    ensures { result ≡ row_fault (Some table) last (Some (range.start, range.end)) }
+/// The first test that the range fails in a row of any table, where `last` is the last code point of the row above.
+#[tactic(auto, unfolding(crate::specs::LineFault::range_fault))]
+pub(crate) fn range_fault(last: Option<u32>, range: CodePointRange) -> Option<TableErrorKind>
+    ensures { result ≡ range_fault last (range.start, range.end) }
 {
     if range.start.max(range.end) > LAST_CODE_POINT {
         Some(TableErrorKind::TooLarge)
     } else if range.end < range.start || is_behind(last, range.start) {
         Some(TableErrorKind::RangeOrder)
-    } else if holds_syntax(table, range) {
+    } else {
+        None
+    }
+}
+
+/// The fault of a range that holds an ASCII character which the table must not hold.
+#[tactic(auto, unfolding(crate::specs::LineFault::syntax_fault))]
+pub(crate) fn syntax_fault(table: SetTable, range: CodePointRange) -> Option<TableErrorKind>
+    ensures { result ≡ syntax_fault table (range.start, range.end) }
+{
+    if holds_syntax(table, range) {
         Some(TableErrorKind::SyntaxAscii)
     } else {
         None

@@ -68,6 +68,18 @@ fn faults_of_lines_are_told(rt: HostRuntime) {
         ("set\nend\n", 1, TableErrorKind::UnknownLine),
         ("set XID_Start x\nend\n", 1, TableErrorKind::UnknownLine),
         ("map XID_Start\nend\n", 1, TableErrorKind::UnknownLine),
+        ("map Script\nend\n", 1, TableErrorKind::UnknownLine),
+        ("map Script 0 0\nend\n", 1, TableErrorKind::UnknownLine),
+        ("map Script 103\n41\nend\n", 2, TableErrorKind::UnknownLine),
+        ("set Dash\n2D 1\nend\n", 2, TableErrorKind::UnknownLine),
+        (
+            "map Script 103\nend\n41 25\n",
+            3,
+            TableErrorKind::UnknownLine,
+        ),
+        ("map script 103\nend\n", 1, TableErrorKind::UnknownTable),
+        ("end\nmap Script 103\n", 2, TableErrorKind::AfterEnd),
+        ("end\nmap Script x\n", 2, TableErrorKind::BadNumber),
         ("end end\n", 1, TableErrorKind::UnknownLine),
         ("set XID_Start\nend\n41\n", 3, TableErrorKind::UnknownLine),
         ("set xid_start\nend\n", 1, TableErrorKind::UnknownTable),
@@ -94,6 +106,260 @@ fn a_second_table_of_a_name_is_told(rt: HostRuntime) {
     ] {
         let expected = at(line, TableErrorKind::TableTwice);
         assert_eq!(rt; fault_of(rt.alloc(), text), expected, "at {text}");
+    }
+}
+
+#[test]
+fn maps_are_read(rt: HostRuntime) -> Result<(), Fail> {
+    let text =
+        "map Script 103\n41-5A 25\n61-7A 0025\n30FC 0\nset Dash\n2D\nmap General_Category 29\nmap Bidi_Mirroring_Glyph 0\n28 6291497\nend";
+    let database = PropertyDatabase::from_text(rt.alloc(), text)?;
+    for (table, code_point, expected) in [
+        (MapTable::SCRIPT, 0x40, 103),
+        (MapTable::SCRIPT, 0x41, 25),
+        (MapTable::SCRIPT, 0x5A, 25),
+        (MapTable::SCRIPT, 0x5B, 103),
+        (MapTable::SCRIPT, 0x7A, 25),
+        (MapTable::SCRIPT, 0x30FC, 0),
+        (MapTable::SCRIPT, 0x10_FFFF, 103),
+        (MapTable::SCRIPT, 0x11_0000, 103),
+        (MapTable::GENERAL_CATEGORY, 0, 29),
+        (MapTable::GENERAL_CATEGORY, 0x10_FFFF, 29),
+        (MapTable::GENERAL_CATEGORY, 0x11_0000, 0),
+        (MapTable::BIDI_MIRRORING_GLYPH, 0x28, 0x60_0029),
+    ] {
+        let map = database.map(table).ok_or("no table")?;
+        assert_eq!(rt;
+            map.get32(code_point),
+            expected,
+            "at {} {code_point}",
+            table.number()
+        );
+    }
+    assert!(rt; database.map(MapTable::BLOCK).is_none());
+    assert!(rt; database.set(SetTable::DASH).is_some());
+    Ok(())
+}
+
+#[test]
+fn faults_of_maps_are_told(rt: HostRuntime) {
+    for (text, line, kind) in [
+        ("map General_Category 30", 1, TableErrorKind::ValueOutOfType),
+        ("map Block 65536", 1, TableErrorKind::ValueOutOfType),
+        (
+            "map Bidi_Mirroring_Glyph 4294967296",
+            1,
+            TableErrorKind::ValueOutOfType,
+        ),
+        ("map Script 12345678901", 1, TableErrorKind::BadNumber),
+        ("map Script -1", 1, TableErrorKind::BadNumber),
+        (
+            "map Script 0\nset Dash\nmap Script 0",
+            3,
+            TableErrorKind::TableTwice,
+        ),
+        ("map Script 0\n41 2G", 2, TableErrorKind::BadNumber),
+        ("map Script 0\n4G 65536", 2, TableErrorKind::BadNumber),
+        ("map Script 0\n110000 65536", 2, TableErrorKind::TooLarge),
+        (
+            "map Script 0\n41 1\n41 65536",
+            3,
+            TableErrorKind::RangeOrder,
+        ),
+        ("map Script 0\n41 65536", 2, TableErrorKind::ValueOutOfType),
+        (
+            "map Line_Break 0\n41 256",
+            2,
+            TableErrorKind::ValueOutOfType,
+        ),
+    ] {
+        assert_eq!(rt; fault_of(rt.alloc(), text), at(line, kind), "at {text}");
+    }
+}
+
+#[test]
+fn names_are_found(rt: HostRuntime) -> Result<(), Fail> {
+    let text =
+        "names Script\n25 Latn\n25 Latin\n20 Hira\n7 A-b\n5 _\n25 latin\nnames General_Category_Mask\n65534 L\nend";
+    let database = PropertyDatabase::from_text(rt.alloc(), text)?;
+    let scripts = database.names(NamesTable::SCRIPT).ok_or("no table")?;
+    for (name, strict, loose) in [
+        ("Latn", Some(25), Some(25)),
+        ("latn", None, Some(25)),
+        ("la-TN", None, Some(25)),
+        (" L_A\u{b}t i\tn\r\n", None, Some(25)),
+        ("Hira", Some(20), Some(20)),
+        ("A-b", Some(7), None),
+        ("a-b", None, None),
+        ("_", Some(5), Some(5)),
+        ("-- ", None, Some(5)),
+        ("", None, Some(5)),
+        ("Lat", None, None),
+        ("Latini", None, None),
+        ("\u{e9}", None, None),
+    ] {
+        assert_eq!(rt;
+            scripts.get_strict_u16(name.as_bytes()),
+            strict,
+            "at {name}"
+        );
+        assert_eq!(rt; scripts.get_loose_u16(name.as_bytes()), loose, "at {name}");
+    }
+    assert_eq!(rt; scripts.get_strict_u16(b"\xFF"), None);
+    assert_eq!(rt; scripts.get_loose_u16(b"\xFF"), None);
+    let groups = database
+        .names(NamesTable::GENERAL_CATEGORY_MASK)
+        .ok_or("no table")?;
+    assert_eq!(rt; groups.get_loose_u16(b"l"), Some(65534));
+    assert!(rt; database.names(NamesTable::BLOCK).is_none());
+    Ok(())
+}
+
+#[test]
+fn faults_of_names_are_told(rt: HostRuntime) {
+    for (text, line, kind) in [
+        ("names", 1, TableErrorKind::UnknownLine),
+        ("names Script 0", 1, TableErrorKind::UnknownLine),
+        ("names Script\n25", 2, TableErrorKind::UnknownLine),
+        (
+            "names Bidi_Mirroring_Glyph",
+            1,
+            TableErrorKind::UnknownTable,
+        ),
+        ("names script", 1, TableErrorKind::UnknownTable),
+        ("names Script\nnames Script", 2, TableErrorKind::TableTwice),
+        ("end\nnames Script", 2, TableErrorKind::AfterEnd),
+        ("names Script\n2A Latn", 2, TableErrorKind::BadNumber),
+        (
+            "names Script\n65536 La.tn",
+            2,
+            TableErrorKind::ValueOutOfType,
+        ),
+        ("names Line_Break\n256 A", 2, TableErrorKind::ValueOutOfType),
+        (
+            "names General_Category\n30 A",
+            2,
+            TableErrorKind::ValueOutOfType,
+        ),
+        ("names Script\n25 La.tin", 2, TableErrorKind::BadName),
+        ("names Script\n25 Lat\u{ef}n", 2, TableErrorKind::BadName),
+        (
+            "names Script\n25 Latin\n20 LA_TIN",
+            3,
+            TableErrorKind::NamesClash,
+        ),
+        (
+            "names Script\n25 A\n20 B\n25 C\n21 _b",
+            5,
+            TableErrorKind::NamesClash,
+        ),
+    ] {
+        assert_eq!(rt; fault_of(rt.alloc(), text), at(line, kind), "at {text}");
+    }
+}
+
+#[test]
+fn long_and_short_names_are_found(rt: HostRuntime) -> Result<(), Fail> {
+    let text =
+        "long Script\n25 Latin\n0 Common\nlong Canonical_Combining_Class\n230 Above\nshort Script\n25 lATN\nshort Canonical_Combining_Class\n230 A\nshort Block\n65535 X-y\nend";
+    let database = PropertyDatabase::from_text(rt.alloc(), text)?;
+    let long = database.long_linear(MapTable::SCRIPT).ok_or("no table")?;
+    for (number, name) in [
+        (25, Some("Latin")),
+        (0, Some("Common")),
+        (1, None),
+        (65561, None),
+    ] {
+        assert_eq!(rt; long.get(number), name, "at {number}");
+    }
+    let above = database.long_ccc().ok_or("no table")?;
+    assert_eq!(rt; above.get(230), Some("Above"));
+    assert_eq!(rt; above.get(0), None);
+    let subtags = database.short_script().ok_or("no table")?;
+    assert_eq!(rt; subtags.get(25), Some("Latn"));
+    assert_eq!(rt; subtags.get_script(25).ok_or("no subtag")?.as_str(), "Latn");
+    assert!(rt; subtags.get_script(38).is_none());
+    assert_eq!(rt; database.short_ccc().ok_or("no table")?.get(230), Some("A"));
+    let blocks = database.short_linear(MapTable::BLOCK).ok_or("no table")?;
+    assert_eq!(rt; blocks.get(65535), Some("X-y"));
+    assert!(rt; database.short_linear(MapTable::SCRIPT).is_none());
+    assert!(rt;
+        database
+            .short_linear(MapTable::CANONICAL_COMBINING_CLASS)
+            .is_none()
+    );
+    assert!(rt;
+        database
+            .long_linear(MapTable::CANONICAL_COMBINING_CLASS)
+            .is_none()
+    );
+    assert!(rt; database.long_linear(MapTable::BLOCK).is_none());
+    Ok(())
+}
+
+#[test]
+fn names_by_number_may_be_absent(rt: HostRuntime) -> Result<(), Fail> {
+    let database = PropertyDatabase::from_text(rt.alloc(), "long Block\nend")?;
+    assert!(rt; database.long_ccc().is_none());
+    assert!(rt; database.short_ccc().is_none());
+    assert!(rt; database.short_script().is_none());
+    assert!(rt; database.short_linear(MapTable::BLOCK).is_none());
+    assert_eq!(rt;
+        database
+            .long_linear(MapTable::BLOCK)
+            .ok_or("no table")?
+            .get(0),
+        None
+    );
+    let names = vec![in rt.alloc(); String::new(rt.alloc()), String::from_str(rt.alloc(), "a")?]?;
+    let listed = PropertyEnumToValueNameLinearMap::from_names(names);
+    for (number, name) in [(0, None), (1, Some("a")), (2, None), (u32::MAX, None)] {
+        assert_eq!(rt; listed.get(number), name, "at {number}");
+    }
+    Ok(())
+}
+
+#[test]
+fn faults_of_long_and_short_names_are_told(rt: HostRuntime) {
+    for (text, line, kind) in [
+        ("long", 1, TableErrorKind::UnknownLine),
+        ("short Script 0", 1, TableErrorKind::UnknownLine),
+        ("long Script\n25", 2, TableErrorKind::UnknownLine),
+        ("long Bidi_Mirroring_Glyph", 1, TableErrorKind::UnknownTable),
+        (
+            "short General_Category_Mask",
+            1,
+            TableErrorKind::UnknownTable,
+        ),
+        ("long Script\nlong Script", 2, TableErrorKind::TableTwice),
+        ("short Script\nshort Script", 2, TableErrorKind::TableTwice),
+        (
+            "long Canonical_Combining_Class\nset Dash\nlong Canonical_Combining_Class",
+            3,
+            TableErrorKind::TableTwice,
+        ),
+        ("end\nlong Script", 2, TableErrorKind::AfterEnd),
+        ("short Script\n2A Latn", 2, TableErrorKind::BadNumber),
+        (
+            "short Script\n65536 Latin",
+            2,
+            TableErrorKind::ValueOutOfType,
+        ),
+        ("long Script\n25 La.tin", 2, TableErrorKind::BadName),
+        ("short Script\n25 Latin", 2, TableErrorKind::BadName),
+        ("short Script\n25 La7n", 2, TableErrorKind::BadName),
+        (
+            "long Script\n25 Latin\n25 Latin",
+            3,
+            TableErrorKind::NamesClash,
+        ),
+        (
+            "short Script\n25 Latn\n20 Hira\n25 Latn",
+            4,
+            TableErrorKind::NamesClash,
+        ),
+    ] {
+        assert_eq!(rt; fault_of(rt.alloc(), text), at(line, kind), "at {text}");
     }
 }
 
@@ -154,6 +420,24 @@ fn ascii_that_names_never_hold_is_told(rt: HostRuntime) -> Result<(), Fail> {
 }
 
 #[test]
+fn other_sets_may_hold_any_ascii(rt: HostRuntime) -> Result<(), Fail> {
+    let text =
+        "set Dash\n2D\nset Pattern_Syntax\n21-2F\nset ASCII_Hex_Digit\n30-39\nset White_Space\n20\nend";
+    let database = PropertyDatabase::from_text(rt.alloc(), text)?;
+    for (table, expected) in [
+        (SetTable::DASH, [0x2D, 0x2E].as_slice()),
+        (SetTable::PATTERN_SYNTAX, [0x21, 0x30].as_slice()),
+        (SetTable::ASCII_HEX_DIGIT, [0x30, 0x3A].as_slice()),
+        (SetTable::WHITE_SPACE, [0x20, 0x21].as_slice()),
+    ] {
+        let set = database.set(table).ok_or("no table")?;
+        assert_eq!(rt; set.get_inversion_list(), expected, "at {}", table.number());
+    }
+    assert!(rt; database.set(SetTable::EMOJI).is_none());
+    Ok(())
+}
+
+#[test]
 fn the_first_fault_is_told(rt: HostRuntime) {
     for (text, line, kind) in [
         ("set XID_Start\n4G\n110000\n", 2, TableErrorKind::BadNumber),
@@ -179,25 +463,6 @@ fn the_first_fault_is_told(rt: HostRuntime) {
 }
 
 #[test]
-fn tables_have_their_names_and_numbers(rt: HostRuntime) {
-    for (name, table, number) in [
-        ("Pattern_White_Space", SetTable::PATTERN_WHITE_SPACE, 51),
-        ("XID_Continue", SetTable::XID_CONTINUE, 67),
-        ("XID_Start", SetTable::XID_START, 68),
-    ] {
-        assert_eq!(rt;
-            SetTable::from_name(name.as_bytes()),
-            Some(table),
-            "at {name}"
-        );
-        assert_eq!(rt; table.number(), number, "at {name}");
-    }
-    for name in ["", "XID_Star", "XID_Starts", "xid_start", "XIDS"] {
-        assert_eq!(rt; SetTable::from_name(name.as_bytes()), None, "at {name}");
-    }
-}
-
-#[test]
 fn kinds_show_their_names(rt: HostRuntime) -> Result<(), Fail> {
     for (kind, name) in [
         (TableErrorKind::UnknownLine, "UnknownLine"),
@@ -219,6 +484,7 @@ fn kinds_show_their_names(rt: HostRuntime) -> Result<(), Fail> {
     ] {
         let text = format!(in rt.alloc(); "{kind}")?;
         assert_eq!(rt; text.as_str(), name);
+        assert_eq!(rt; kind.name(), name);
     }
     Ok(())
 }

@@ -18,7 +18,7 @@ pub record Syntax : Type 0 where
 -- the syntax of a database, where it has all three tables
 abbrev pub syntax_of : Tables → Option Syntax
 syntax_of tables =
-    tables 51 >>= λ white_space. (tables 67 >>= λ continue. (tables 68 >>= λ start.
+    tables.sets 51 >>= λ white_space. (tables.sets 67 >>= λ continue. (tables.sets 68 >>= λ start.
     Some (record { white_space = white_space; start = start; continue = continue })))
 
 -- What a bracket begins with: whether it is negated, and whether a hyphen is its first member.

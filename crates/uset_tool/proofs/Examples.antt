@@ -10,10 +10,11 @@ use Rattle.cp_invlist.specs.Ranges.{ranges_of}
 use Rattle.cp_invlist.specs.declared.ranges.CodePointRange.{CodePointRange}
 use Rattle.prop_data.specs.declared.error.TableErrorKind.TheVariants.{RangeOrder, NoEnd, SyntaxAscii}
 use Rattle.text_lines.specs.Fields.{is_sole}
-use Rattle.prop_data.specs.Line.{line_of, is_header_word}
-use Rattle.prop_data.specs.Numbers.{range, hyphen_parts, hex}
-use Rattle.prop_data.specs.SetTable.{set_number}
-use Rattle.prop_data.specs.TableText.{table_fault, at_line, header_fault, row_fault}
+use Rattle.prop_data.specs.Line.{line_of_one, line_of_two, is_header_word}
+use Rattle.prop_data.specs.Numbers.{range, hyphen_parts, spelled}
+use Rattle.prop_binary.specs.Tables.{properties}
+use Rattle.prop_data.specs.LineFault.{range_fault, syntax_fault}
+use Rattle.prop_data.specs.TableText.{table_fault, at_line}
 use Rattle.uset_parse.specs.declared.error.ParseErrorKind.TheVariants.{Unimplemented}
 use Rattle.uset_tool.specs.Answer.{AreStrings, range_text, string_text, read_text, fault_text, bad_line_text, read, fault, ends, answers}
 use Rattle.uset_tool.specs.Script.{silent, pattern, bad, script_line}
@@ -108,11 +109,11 @@ unfolding digits
 tables_told = refl
 
 fault_of_descending_rows : table_fault (table_lines (codes "set XID_Start\n61-7A\n41\nend\n")) ≡ Some (at_line 3 RangeOrder)
-unfolding is_sole line_of is_header_word set_number header_fault range hyphen_parts hex row_fault
+unfolding is_sole line_of_one line_of_two is_header_word properties range hyphen_parts spelled range_fault syntax_fault
 fault_of_descending_rows = refl
 
 no_fault_of_one_row : table_fault (table_lines (codes "set XID_Start\n61-7A # letters\nend\n")) ≡ None
-unfolding is_sole line_of is_header_word set_number header_fault range hyphen_parts hex row_fault
+unfolding is_sole line_of_one line_of_two is_header_word properties range hyphen_parts spelled range_fault syntax_fault
 no_fault_of_one_row = refl
 
 -- no word is answered with the usage
@@ -124,15 +125,15 @@ unfolding digits
 no_end = faulty_tables (at_line 1 NoEnd) refl
 
 letter_as_white_space : Evaluates (codes "# own\nset Pattern_White_Space\n41\nend\n") (codes "tables line 3: SyntaxAscii\n") Tables
-unfolding is_sole line_of is_header_word set_number header_fault range hyphen_parts hex row_fault digits
+unfolding is_sole line_of_one line_of_two is_header_word properties range hyphen_parts spelled range_fault syntax_fault digits
 letter_as_white_space = faulty_tables (at_line 3 SyntaxAscii) refl
 
 line_that_is_none : Evaluates (codes "end\nhello\n") (codes "err bad line\n") SomeErr
-unfolding is_sole line_of is_header_word script_line
+unfolding is_sole line_of_one line_of_two is_header_word script_line
 line_that_is_none = script refl (codes "err bad line\n") true (answers (codes "err bad line\n") [] true false (refl, refl) ends)
 
 absent_tables : Evaluates (codes "end\npat [a]\n") (codes "err error: internal error\n") SomeErr
-unfolding is_sole line_of is_header_word script_line
+unfolding is_sole line_of_one line_of_two is_header_word script_line
 absent_tables = script refl (codes "err error: internal error\n") true (answers (codes "err error: internal error\n") [] true false (fault (absent_table refl)) ends)
 
 -- what `[a-z0]` denotes, and its maximal ranges
@@ -166,7 +167,7 @@ abbrev three_tables : List ℕ
 three_tables = codes "set XID_Start\nset XID_Continue\nset Pattern_White_Space\n20\nend\npat [a-z0]\n"
 
 pattern_that_is_read : Evaluates three_tables (codes "ok 6 0030 0061-007A\n") Done
-unfolding is_sole line_of is_header_word set_number header_fault range hyphen_parts hex row_fault script_line digits chars
+unfolding is_sole line_of_one line_of_two is_header_word properties range hyphen_parts spelled range_fault syntax_fault script_line digits chars
 pattern_that_is_read =
     script refl (codes "ok 6 0030 0061-007A\n") false (answers (codes "ok 6 0030 0061-007A\n") [] false false
     (read 6 (zero ∷ letters ∷ []) [] (record {

@@ -1,0 +1,61 @@
+-- Rows without a fault.
+use Rattle.std.proofs.Common.{◌≡◌, ℕ, ◌≤◌, Bool, true, false, ◌&&◌, nat_le, nat_lt, Option, Some, None, unwrap_or, cond, refl, sym, ap, ◌∙◌, arith}
+use Rattle.std.proofs.lemmas.Bool.Decides.{nat_tests}
+use Rattle.cp_invlist.specs.Ranges.{in_range, in_code_points}
+use Rattle.prop_data.specs.declared.error.TableErrorKind.TheVariants.{ValueOutOfType}
+use Rattle.prop_data.specs.LinesAbove.{or_else}
+use Rattle.prop_data.specs.MapBuilder.{next_of}
+use Rattle.prop_data.specs.Rows.{holds}
+use Rattle.prop_data.specs.LineFault.{is_behind, range_fault, syntax_fault, value_fault, accepts_value, set_row_fault, map_row_fault}
+
+-- a range that passes its tests
+pub record InOrder (last : Option ℕ) (r : ℕ × ℕ) : Type 0 where
+  pub ordered : r.0 ≤ r.1
+  pub within : r.1 ≤ 0x10_FFFF
+  pub behind : next_of last ≤ r.0
+
+behind_last : (last : Option ℕ) (start : ℕ) → is_behind last start ≡ false → next_of last ≤ start
+behind_last None start h = omega arith
+behind_last (Some last) start h = grind (arith, nat_tests)
+
+pub range_fault-none : (last : Option ℕ) (r : ℕ × ℕ) → range_fault last r ≡ None → InOrder last r
+unfolding range_fault
+range_fault-none last (start, end) h = record {
+  ordered = grind (arith, nat_tests);
+  within = grind (arith, nat_tests);
+  behind = behind_last last start (grind (arith, nat_tests));
+}
+
+-- up to the last code point a range adds what it holds
+pub in_code_points-holds : (start end c : ℕ) → end ≤ 0x10_FFFF → in_code_points (record { start = start; end = end }) c ≡ holds (Some (start, end)) c
+in_code_points-holds start end c within = grind (arith, nat_tests)
+
+pub set_row_fault-none : (t : ℕ) (last : Option ℕ) (r : ℕ × ℕ) (spelled : Option (ℕ × ℕ)) → Some r ≡ spelled → range_fault last r ≡ None → syntax_fault t r ≡ None → set_row_fault t last spelled ≡ None
+set_row_fault-none t last r spelled is range syntax = ap (set_row_fault t last) (sym is) ∙ (ap (λ o. or_else o (syntax_fault t r)) range ∙ syntax)
+
+pub map_row_fault-none : (t : ℕ) (last : Option ℕ) (r : ℕ × ℕ) (spelled : Option (ℕ × ℕ)) (n : ℕ) (number : Option ℕ) → Some r ≡ spelled → Some n ≡ number → range_fault last r ≡ None → value_fault t n ≡ None →
+    map_row_fault t last spelled number ≡ None
+map_row_fault-none t last r spelled n number is number_is range value =
+    ap (λ s. map_row_fault t last s number) (sym is) ∙ (ap (map_row_fault t last (Some r)) (sym number_is) ∙ (ap (λ o. or_else o (value_fault t n)) range ∙ value))
+
+-- a number that the property takes
+pub accepted-some : (t n v : ℕ) → Some v ≡ cond (accepts_value t n) (Some n) None → (v ≡ n) × (value_fault t n ≡ None)
+unfolding value_fault
+accepted-some t n v h = by_test (accepts_value t n) h
+  where
+    by_test : (b : Bool) → Some v ≡ cond b (Some n) None → (v ≡ n) × (cond b None (Some ValueOutOfType) ≡ None)
+    by_test true h = (cc, refl)
+    by_test false h = cc
+
+-- a value is given to the numbers of a range up to the last code point
+pub values-grown : (r : ℕ × ℕ) (spelled : Option (ℕ × ℕ)) (v n : ℕ) (number : Option ℕ) (past new old c : ℕ) → Some r ≡ spelled → Some n ≡ number → v ≡ n → r.1 ≤ 0x10_FFFF →
+    new ≡ cond (in_range (record { start = r.0; end = r.1 }) c) v old →
+    cond (nat_lt 0x10_FFFF c) past new ≡ cond (holds spelled c) (unwrap_or number 0) (cond (nat_lt 0x10_FFFF c) past old)
+values-grown (start, end) spelled v n number past new old c is number_is same within new_is =
+    ap (cond (nat_lt 0x10_FFFF c) past) (new_is ∙ ap (λ w. cond (in_range (record { start = start; end = end }) c) w old) same)
+    ∙ (by_test (nat_lt 0x10_FFFF c) refl
+    ∙ (ap (λ s. cond (holds s c) n (cond (nat_lt 0x10_FFFF c) past old)) is ∙ ap (λ s. cond (holds spelled c) (unwrap_or s 0) (cond (nat_lt 0x10_FFFF c) past old)) number_is))
+  where
+    by_test : (b : Bool) → nat_lt 0x10_FFFF c ≡ b → cond b past (cond (nat_le start c && nat_le c end) n old) ≡ cond (nat_le start c && nat_le c end) n (cond b past old)
+    by_test true far = (let off : (nat_le start c && nat_le c end) ≡ false = grind (arith, nat_tests, far) in rw off refl)
+    by_test false near = refl

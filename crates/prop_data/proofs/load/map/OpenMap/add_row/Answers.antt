@@ -1,0 +1,30 @@
+use Rattle.std.proofs.Common.{ℕ, Option, Some, option_map, cond, refl, ap, sym, ◌∙◌}
+use Rattle.std.specs.Option.{option_copied}
+use Rattle.prop_data.specs.Headers.{map_table}
+use Rattle.prop_data.specs.declared.load.OpenTable.TheVariants.{Map}
+use Rattle.prop_data.specs.Loading.{tables_with, row_seen, values_of}
+use Rattle.prop_data.specs.Numbers.{range}
+use Rattle.prop_data.specs.Rows.{holds, value_of}
+use Rattle.prop_data.specs.LineFault.{range_fault, row_fault}
+use Rattle.prop_data.proofs.LoadingLemmas.{map_grown}
+use Rattle.prop_data.proofs.RowLemmas.{range_fault-none, map_row_fault-none, accepted-some, values-grown}
+use Rattle.prop_data.proofs.load.map.OpenMap.add_row.Goals as goal
+
+pub returns : goal.returns
+returns c =
+    let old = c.args.self.now in
+    let first = c.args.row.first.now in
+    let second_is = ap option_copied c.in-Some.is in
+    let range_fine = ap (λ (l : Option ℕ). range_fault l (c.in-Some-range.range.start, c.in-Some-range.range.end)) (sym c.last.ensures) ∙ (sym c.range_fault.ensures ∙ c.in_default-range_fault.is) in
+    let is = c.in-Some-range.ensures in
+    let number_is = c.in-Some-decimal_number.ensures in
+    let takes = accepted-some _ _ _ c.in-Some-accepted.ensures in (
+      λ tables.
+          ap (λ s. row_fault (tables_with (Some (Map old)) tables) (Some (map_table old.table old.builder.default)) old.builder.last (first, s)) second_is
+          ∙ map_row_fault-none _ _ _ _ _ _ is number_is range_fine takes.1,
+      ap (map_table old.table) c.in_ok-add.ensures.default,
+      c.in_ok-add.ensures.last ∙ ap (option_map (λ (x : ℕ × ℕ). x.1)) is,
+      map_grown old (record { table = old.table; builder = c.add.new.self }) (row_seen c.args.row) refl (λ d.
+          values-grown _ _ _ _ _ _ _ _ d is number_is takes.0 (range_fault-none _ _ range_fine).within (c.in_ok-add.ensures.values d)
+          ∙ ap (λ s. cond (holds (range first) d) (value_of s) (values_of old d)) (sym second_is)),
+    )

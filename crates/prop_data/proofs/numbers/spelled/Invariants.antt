@@ -1,0 +1,9 @@
+use Rattle.std.proofs.Common.{◌≡◌, ◌<◌, ◌^◌, drop}
+use Rattle.prop_data.specs.Numbers.{number_onto}
+use Rattle.prop_data.proofs.numbers.spelled.Given as goal
+
+abbrev pub invariant-loop-byte : goal.invariant-loop-byte
+invariant-loop-byte l = record {
+  small : l.value < 16 ^ l.byte-index;
+  read_on : number_onto l.base l.value (drop l.byte-index l.digits) ≡ number_onto l.base 0 l.digits;
+}

@@ -1,0 +1,66 @@
+-- What the rows of a table mean, the nearest row first.
+use Rattle.std.specs.Prelude.{ℕ, Bool, false, ◌||◌, ◌&&◌, nat_eq, nat_le, nat_lt, List, [], ◌∷◌, Option, Some, None, unwrap_or, option_map, option_and_then, if◌then◌else◌}
+use Rattle.prop_values.specs.Subtag.{in_subtag_case}
+use Rattle.prop_values.specs.Tables.{default_number}
+use Rattle.prop_names.specs.Names.{Names, with_name}
+use Rattle.prop_data.specs.Headers.{Table, set_table, map_table, names_table, long_table, short_table}
+use Rattle.prop_data.specs.Line.{Row}
+use Rattle.prop_data.specs.Numbers.{range, decimal_number}
+
+-- the range, where there is one, holds the number
+abbrev pub holds : Option (ℕ × ℕ) → ℕ → Bool
+holds None c = false
+holds (Some r) c = nat_le r.0 c && nat_le c r.1
+
+-- the last number of the range that a field spells
+abbrev pub end_of : List ℕ → Option ℕ
+end_of field = option_map (λ r. r.1) (range field)
+
+-- the last code point of the nearest row, where a table's rows are ranges
+abbrev pub last_of : Table → List Row → Option ℕ
+last_of t [] = None
+last_of (set_table n) (r ∷ rows) = end_of r.0
+last_of (map_table n default) (r ∷ rows) = end_of r.0
+last_of (names_table n) (r ∷ rows) = None
+last_of (long_table n) (r ∷ rows) = None
+last_of (short_table n) (r ∷ rows) = None
+
+-- the members of a set: the numbers that a row holds
+abbrev pub members : List Row → ℕ → Bool
+members [] c = false
+members (r ∷ rows) c = members rows c || holds (range r.0) c
+
+-- the number that a field spells
+abbrev pub value_of : Option (List ℕ) → ℕ
+value_of field = unwrap_or (option_and_then decimal_number field) 0
+
+-- the text that a field is
+abbrev pub text_of : Option (List ℕ) → List ℕ
+text_of field = unwrap_or field []
+
+-- the value of a map where no row holds the number: the default of the header, and past the last code point that of the property
+abbrev pub value_outside : ℕ → ℕ → ℕ → ℕ
+value_outside table default c = if nat_lt 0x10_FFFF c then default_number table else default
+
+-- the value of a map: that of the row that holds the number
+abbrev pub value : ℕ → ℕ → List Row → ℕ → ℕ
+value table default [] c = value_outside table default c
+value table default (r ∷ rows) c = if holds (range r.0) c then value_of r.1 else value table default rows c
+
+-- the names of a table of names: the second fields, each with the number that the first spells
+abbrev pub names_in : List Row → Names
+names_in [] = []
+names_in (r ∷ rows) = with_name (names_in rows) (text_of r.1) (value_of (Some r.0))
+
+-- how a name is kept: a script's short name as the subtag that its four letters spell (RFC 5646, section 2.1.1)
+abbrev pub as_kept : Bool → List ℕ → List ℕ
+as_kept is_subtag text = if is_subtag then in_subtag_case text else text
+
+-- the name of each number: the second field of the row whose first field spells it
+abbrev pub texts_in : Bool → List Row → ℕ → Option (List ℕ)
+texts_in is_subtag [] n = None
+texts_in is_subtag (r ∷ rows) n = if nat_eq (value_of (Some r.0)) n then Some (as_kept is_subtag (text_of r.1)) else texts_in is_subtag rows n
+
+-- the short names of scripts are subtags
+abbrev pub is_subtags : ℕ → Bool
+is_subtags table = nat_eq table 4

@@ -1,0 +1,245 @@
+//! Reads the lines of a table text one by one.
+ghost use Rattle.std.specs.Prelude.{◌≡◌, ℕ, [], None, true, OnOk, IfOk, IfErr};
+ghost use Rattle.text_lines.specs.Fields.{fields};
+ghost use Rattle.prop_data.specs.Line.{line_of, set_header, map_header, names_header, long_header, short_header, header as header_line, row as row_line, closing};
+ghost use Rattle.prop_data.specs.Loading.{kept, header_seen, row_seen, Takes, TakesRow, TakesFinished, Begins, NoEndFault};
+ghost use Rattle.prop_data.specs.Database.{tables_of};
+ghost use Rattle.prop_data.specs.LineFault.{above};
+
+mod map;
+mod map_builder;
+mod names;
+mod set;
+mod texts;
+
+use crate::database::PropertyDatabase;
+use crate::error::{LoadError, TableErrorKind, fault};
+use crate::line::{Header, Line, Row, read_line};
+use crate::numbers::decimal_number;
+use crate::value::accepted;
+use cp_invlist::NoMemory;
+use map::OpenMap;
+use names::OpenNames;
+use prop_binary::SetTable;
+use prop_values::{MapTable, NamesTable};
+use set::OpenSet;
+use std::alloc::Global;
+pub(crate) use texts::Length;
+use texts::{OpenTexts, text_table};
+
+/// A table whose rows are being read.
+#[derive(Drop)]
+pub(crate) enum OpenTable {
+    Set(OpenSet),
+    Map(OpenMap),
+    Names(OpenNames),
+    Texts(OpenTexts),
+}
+
+impl OpenTable {
+    /// Takes a row of this table.
+    fn add_row(&mut self, row: Row<'_>, number: usize) -> Result<(), LoadError>
+        ensures { TakesRow self.old (row_seen row.entry) number result self.new }
+    {
+        match self {
+            OpenTable::Set(open) => open.add_row(row, number),
+            OpenTable::Map(open) => open.add_row(row, number),
+            OpenTable::Names(open) => open.add_row(row, number),
+            OpenTable::Texts(open) => open.add_row(row, number),
+        }
+    }
+
+    /// Moves this table into the database.
+    fn finish(self, alloc: Global, database: &mut PropertyDatabase) -> Result<(), NoMemory>
+        ensures { OnOk result (TakesFinished self database.old database.new) }
+    {
+        match self {
+            OpenTable::Set(open) => open.finish(database),
+            OpenTable::Map(open) => open.finish(alloc, database),
+            OpenTable::Names(open) => open.finish(alloc, database),
+            OpenTable::Texts(open) => open.finish(database),
+        }
+    }
+}
+
+/// What was read so far.
+#[derive(Drop)]
+pub(crate) struct Loader {
+    alloc: Global,
+    database: PropertyDatabase,
+    open_table: Option<OpenTable>,
+    is_closed: bool,
+}
+
+impl Loader {
+    pub(crate) fn new(alloc: Global) -> Loader
+        ensures { kept result ≡ above [] }
+    {
+        Loader {
+            alloc,
+            database: PropertyDatabase::new(alloc),
+            open_table: None,
+            is_closed: false,
+        }
+    }
+
+    /// Takes the line of this number.
+    pub(crate) fn take(&mut self, line: &[u8], number: usize) -> Result<(), LoadError>
+        ensures { Takes (kept self.old) (line_of (fields line.now)) number result (kept self.new) }
+    {
+        match read_line(line) {
+            Line::Blank => Ok(()),
+            Line::Header(header) => self.begin_table(header, number),
+            Line::Row(row) => self.add_row(row, number),
+            Line::Closing => self.close(number),
+            Line::Other => Err(fault(number, TableErrorKind::UnknownLine)),
+        }
+    }
+
+    /// Moves the open table into the database.
+    fn finish_table(&mut self) -> Result<(), NoMemory>
+        ensures ok { OnOk result (self.new.open_table ≡ None) }
+        ensures tables { OnOk result (tables_of self.new.database ≡ (kept self.old).tables) }
+        ensures closed { OnOk result (self.new.is_closed ≡ self.old.is_closed) }
+    {
+        let Some(open_table) = self.open_table.take() else {
+            return Ok(());
+        };
+        open_table.finish(self.alloc, &mut self.database)
+    }
+
+    /// The set of a header, without rows.
+    fn begin_set(&self, name: &[u8], number: usize) -> Result<OpenTable, LoadError>
+        ensures { Begins (tables_of self.now.database) (set_header name.now) number result }
+    {
+        let Some(table) = SetTable::from_name(name) else {
+            return Err(fault(number, TableErrorKind::UnknownTable));
+        };
+        if self.database.set(table).is_some() {
+            return Err(fault(number, TableErrorKind::TableTwice));
+        }
+        Ok(OpenTable::Set(OpenSet::new(self.alloc, table)))
+    }
+
+    /// The map of a header, without rows.
+    #[tactic(auto, unfolding(crate::specs::LineFault::value_fault))]
+    fn begin_map(&self, name: &[u8], default: &[u8], number: usize) -> Result<OpenTable, LoadError>
+        ensures { Begins (tables_of self.now.database) (map_header name.now default.now) number result }
+    {
+        let Some(table) = MapTable::from_name(name) else {
+            return Err(fault(number, TableErrorKind::UnknownTable));
+        };
+        if self.database.map(table).is_some() {
+            return Err(fault(number, TableErrorKind::TableTwice));
+        }
+        let Some(spelled) = decimal_number(default) else {
+            return Err(fault(number, TableErrorKind::BadNumber));
+        };
+        let Some(default) = accepted(table, spelled) else {
+            return Err(fault(number, TableErrorKind::ValueOutOfType));
+        };
+        Ok(OpenTable::Map(OpenMap::new(self.alloc, table, default)))
+    }
+
+    /// The table of names of a header, without rows.
+    fn begin_names(&self, name: &[u8], number: usize) -> Result<OpenTable, LoadError>
+        ensures { Begins (tables_of self.now.database) (names_header name.now) number result }
+    {
+        let Some(table) = NamesTable::from_name(name) else {
+            return Err(fault(number, TableErrorKind::UnknownTable));
+        };
+        if self.database.names(table).is_some() {
+            return Err(fault(number, TableErrorKind::TableTwice));
+        }
+        Ok(OpenTable::Names(OpenNames::new(self.alloc, table)))
+    }
+
+    /// The table of long names of a header, without rows.
+    fn begin_long(&self, name: &[u8], number: usize) -> Result<OpenTable, LoadError>
+        ensures { Begins (tables_of self.now.database) (long_header name.now) number result }
+    {
+        let Some(table) = text_table(name) else {
+            return Err(fault(number, TableErrorKind::UnknownTable));
+        };
+        if self.database.has_long(table) {
+            return Err(fault(number, TableErrorKind::TableTwice));
+        }
+        Ok(OpenTable::Texts(OpenTexts::new(self.alloc, table, Length::Long)))
+    }
+
+    /// The table of short names of a header, without rows.
+    fn begin_short(&self, name: &[u8], number: usize) -> Result<OpenTable, LoadError>
+        ensures { Begins (tables_of self.now.database) (short_header name.now) number result }
+    {
+        let Some(table) = text_table(name) else {
+            return Err(fault(number, TableErrorKind::UnknownTable));
+        };
+        if self.database.has_short(table) {
+            return Err(fault(number, TableErrorKind::TableTwice));
+        }
+        Ok(OpenTable::Texts(OpenTexts::new(self.alloc, table, Length::Short)))
+    }
+
+    /// The table of a header, without rows.
+    fn begin(&self, header: Header<'_>, number: usize) -> Result<OpenTable, LoadError>
+        ensures { Begins (tables_of self.now.database) (header_seen header.entry) number result }
+    {
+        match header {
+            Header::Set { name } => self.begin_set(name, number),
+            Header::Map { name, default } => self.begin_map(name, default, number),
+            Header::Names { name } => self.begin_names(name, number),
+            Header::Long { name } => self.begin_long(name, number),
+            Header::Short { name } => self.begin_short(name, number),
+        }
+    }
+
+    /// Takes the header of a table.
+    fn begin_table(&mut self, header: Header<'_>, number: usize) -> Result<(), LoadError>
+        ensures { Takes (kept self.old) (header_line (header_seen header.entry)) number result (kept self.new) }
+    {
+        self.finish_table()?;
+        let open_table = self.begin(header, number)?;
+        if self.is_closed {
+            return Err(fault(number, TableErrorKind::AfterEnd));
+        }
+        self.open_table = Some(open_table);
+        Ok(())
+    }
+
+    /// Takes a row.
+    fn add_row(&mut self, row: Row<'_>, number: usize) -> Result<(), LoadError>
+        ensures { Takes (kept self.old) (row_line (row_seen row.entry)) number result (kept self.new) }
+    {
+        if self.is_closed {
+            return Err(fault(number, TableErrorKind::UnknownLine));
+        }
+        let Some(open_table) = &mut self.open_table else {
+            return Err(fault(number, TableErrorKind::UnknownLine));
+        };
+        open_table.add_row(row, number)
+    }
+
+    /// Takes the line `end`.
+    fn close(&mut self, number: usize) -> Result<(), LoadError>
+        ensures { Takes (kept self.old) closing number result (kept self.new) }
+    {
+        if self.is_closed {
+            return Err(fault(number, TableErrorKind::AfterEnd));
+        }
+        self.is_closed = true;
+        Ok(())
+    }
+
+    /// The database of the lines that were read, where they end with `end`. `number` is that of the
+    /// line behind them.
+    pub(crate) fn finish(mut self, number: usize) -> Result<PropertyDatabase, LoadError>
+        ensures ok { IfOk result (λ database. (self.is_closed ≡ true) × (tables_of database ≡ (kept self).tables)) }
+        ensures err { IfErr result (NoEndFault self.is_closed number) }
+    {
+        if !self.is_closed {
+            return Err(fault(number, TableErrorKind::NoEnd));
+        }
+        self.finish_table()?;
+        Ok(self.database)
+    }
+}

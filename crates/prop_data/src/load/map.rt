@@ -1,0 +1,71 @@
+//! The table of a map whose rows are being read.
+ghost use Rattle.std.specs.Prelude.{◌≡◌, [], None, OnOk};
+ghost use Rattle.prop_data.specs.Loading.{TakesRow, TakesFinished, row_seen};
+
+use crate::database::PropertyDatabase;
+use crate::error::{LoadError, TableErrorKind, fault};
+use crate::line::Row;
+use crate::load::OpenTable;
+use crate::load::map_builder::MapBuilder;
+use crate::numbers::{decimal_number, range};
+use crate::row::range_fault;
+use crate::value::accepted;
+use cp_invlist::NoMemory;
+use prop_values::MapTable;
+use std::alloc::Global;
+
+#[derive(Drop)]
+pub(crate) struct OpenMap {
+    table: MapTable,
+    builder: MapBuilder<u32>,
+}
+
+impl OpenMap {
+    pub(crate) fn new(alloc: Global, table: MapTable, default: u32) -> OpenMap
+        ensures table { result.table ≡ table }
+        ensures runs { result.builder.runs.items ≡ [] }
+        ensures default { result.builder.default ≡ default }
+        ensures last { result.builder.last ≡ None }
+    {
+        OpenMap {
+            table,
+            builder: MapBuilder::new(alloc, default),
+        }
+    }
+
+    /// Takes a row.
+    #[tactic(auto, unfolding(crate::specs::LineFault::range_fault, crate::specs::LineFault::value_fault))]
+    pub(crate) fn add_row(&mut self, row: Row<'_>, number: usize) -> Result<(), LoadError>
+        ensures { TakesRow (OpenTable.Map self.old) (row_seen row.entry) number result (OpenTable.Map self.new) }
+    {
+        let Some(second) = row.second else {
+            return Err(fault(number, TableErrorKind::UnknownLine));
+        };
+        let Some(range) = range(row.first) else {
+            return Err(fault(number, TableErrorKind::BadNumber));
+        };
+        let Some(spelled) = decimal_number(second) else {
+            return Err(fault(number, TableErrorKind::BadNumber));
+        };
+        if let Some(kind) = range_fault(self.builder.last(), range) {
+            return Err(fault(number, kind));
+        }
+        let Some(value) = accepted(self.table, spelled) else {
+            return Err(fault(number, TableErrorKind::ValueOutOfType));
+        };
+        self.builder.add(range, value)?;
+        Ok(())
+    }
+
+    /// Moves the map into the database.
+    pub(crate) fn finish(
+        self,
+        alloc: Global,
+        database: &mut PropertyDatabase,
+    ) -> Result<(), NoMemory>
+        ensures { OnOk result (TakesFinished (OpenTable.Map self) database.old database.new) }
+    {
+        let map = self.builder.build(alloc, self.table.default_number())?;
+        database.insert_map(self.table, map)
+    }
+}

@@ -1,0 +1,63 @@
+//! The table of a set whose rows are being read.
+ghost use Rattle.std.specs.Prelude.{◌≡◌, [], None, OnOk};
+ghost use Rattle.prop_data.specs.Loading.{TakesRow, TakesFinished, row_seen};
+
+use crate::database::PropertyDatabase;
+use crate::error::{LoadError, TableErrorKind, fault};
+use crate::line::Row;
+use crate::load::OpenTable;
+use crate::numbers::range;
+use crate::row::{range_fault, syntax_fault};
+use cp_invlist::{CodePointInversionListBuilder, NoMemory};
+use prop_binary::SetTable;
+use std::alloc::Global;
+
+#[derive(Drop)]
+pub(crate) struct OpenSet {
+    table: SetTable,
+    builder: CodePointInversionListBuilder,
+    /// The last code point of the row above.
+    last: Option<u32>,
+}
+
+impl OpenSet {
+    pub(crate) fn new(alloc: Global, table: SetTable) -> OpenSet
+        ensures table { result.table ≡ table }
+        ensures builder { result.builder ≡ [] }
+        ensures last { result.last ≡ None }
+    {
+        OpenSet {
+            table,
+            builder: CodePointInversionListBuilder::new(alloc),
+            last: None,
+        }
+    }
+
+    /// Takes a row.
+    pub(crate) fn add_row(&mut self, row: Row<'_>, number: usize) -> Result<(), LoadError>
+        ensures { TakesRow (OpenTable.Set self.old) (row_seen row.entry) number result (OpenTable.Set self.new) }
+    {
+        let None = row.second else {
+            return Err(fault(number, TableErrorKind::UnknownLine));
+        };
+        let Some(range) = range(row.first) else {
+            return Err(fault(number, TableErrorKind::BadNumber));
+        };
+        if let Some(kind) = range_fault(self.last, range) {
+            return Err(fault(number, kind));
+        }
+        if let Some(kind) = syntax_fault(self.table, range) {
+            return Err(fault(number, kind));
+        }
+        self.builder.add_range32(range)?;
+        self.last = Some(range.end);
+        Ok(())
+    }
+
+    /// Moves the set into the database.
+    pub(crate) fn finish(self, database: &mut PropertyDatabase) -> Result<(), NoMemory>
+        ensures { OnOk result (TakesFinished (OpenTable.Set self) database.old database.new) }
+    {
+        database.insert_set(self.table, self.builder.build())
+    }
+}

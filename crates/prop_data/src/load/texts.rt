@@ -1,0 +1,120 @@
+//! The table of one name for each value whose rows are being read.
+ghost use Rattle.std.specs.Prelude.{◌≡◌, ℕ, nat_eq, Some, None, is_some, OnOk, if◌then◌else◌};
+ghost use Rattle.std.specs.String.{string_bytes};
+ghost use Rattle.prop_names.specs.ValueNames.{text_at};
+ghost use Rattle.prop_data.specs.Headers.{text_number};
+ghost use Rattle.prop_data.specs.Loading.{TakesRow, TakesFinished, row_seen, has_subtags};
+
+use crate::database::PropertyDatabase;
+use crate::error::{LoadError, TableErrorKind, fault};
+use crate::line::Row;
+use crate::load::OpenTable;
+use crate::name::kept_name;
+use crate::numbers::decimal_number;
+use crate::value::accepted;
+use cp_invlist::NoMemory;
+use prop_values::MapTable;
+use std::alloc::Global;
+use std::collections::BTreeMap;
+
+/// Which names of values a table has.
+#[derive(Clone, Copy, Debug, PartialEq, Eq)]
+pub(crate) enum Length {
+    Long,
+    Short,
+}
+
+/// The table of one name for each value, with this name: all tables of values but the mirroring glyph's.
+pub(crate) fn text_table(name: &[u8]) -> Option<MapTable>
+    ensures { result ≡ text_number name.now }
+{
+    let table = MapTable::from_name(name)?;
+    if table == MapTable::BIDI_MIRRORING_GLYPH {
+        return None;
+    }
+    Some(table)
+}
+
+/// Whether the names of this length are subtags.
+fn has_subtags(length: Length, table: MapTable) -> bool
+    ensures { result ≡ has_subtags length table }
+{
+    match length {
+        Length::Long => false,
+        Length::Short => table == MapTable::SCRIPT,
+    }
+}
+
+#[derive(Drop)]
+pub(crate) struct OpenTexts {
+    alloc: Global,
+    table: MapTable,
+    length: Length,
+    texts: BTreeMap<u32, String>,
+}
+
+impl OpenTexts {
+    pub(crate) fn new(alloc: Global, table: MapTable, length: Length) -> OpenTexts
+        ensures table { result.table ≡ table }
+        ensures length { result.length ≡ length }
+        ensures texts { (n : ℕ) → text_at result.texts n ≡ None }
+    {
+        OpenTexts {
+            alloc,
+            table,
+            length,
+            texts: BTreeMap::new(alloc),
+        }
+    }
+
+    /// Takes a row.
+    pub(crate) fn add_row(&mut self, row: Row<'_>, number: usize) -> Result<(), LoadError>
+        ensures { TakesRow (OpenTable.Texts self.old) (row_seen row.entry) number result (OpenTable.Texts self.new) }
+    {
+        let Some(text) = row.second else {
+            return Err(fault(number, TableErrorKind::UnknownLine));
+        };
+        let Some(spelled) = decimal_number(row.first) else {
+            return Err(fault(number, TableErrorKind::BadNumber));
+        };
+        let Some(value) = accepted(self.table, spelled) else {
+            return Err(fault(number, TableErrorKind::ValueOutOfType));
+        };
+        let is_subtag = has_subtags(self.length, self.table);
+        let Some(name) = kept_name(self.alloc, is_subtag, text)? else {
+            return Err(fault(number, TableErrorKind::BadName));
+        };
+        if self.has(value) {
+            return Err(fault(number, TableErrorKind::NamesClash));
+        }
+        self.keep(value, name)?;
+        Ok(())
+    }
+
+    /// Whether the number has a name.
+    fn has(&self, value: u32) -> bool
+        ensures { result ≡ is_some (text_at self.now.texts value) }
+    {
+        self.texts.contains_key(&value)
+    }
+
+    /// Keeps the name of the number.
+    fn keep(&mut self, value: u32, name: String) -> Result<(), NoMemory>
+        ensures table { self.new.table ≡ self.old.table }
+        ensures length { self.new.length ≡ self.old.length }
+        ensures texts { OnOk result ((n : ℕ) → text_at self.new.texts n ≡ (if nat_eq value n then Some (string_bytes name) else text_at self.old.texts n)) }
+    {
+        self.texts.insert(value, name)?;
+        Ok(())
+    }
+
+    /// Moves the names into the database.
+    pub(crate) fn finish(self, database: &mut PropertyDatabase) -> Result<(), NoMemory>
+        ensures { OnOk result (TakesFinished (OpenTable.Texts self) database.old database.new) }
+    {
+        match self.length {
+            Length::Long => database.insert_long(self.table, self.texts),
+            Length::Short => database.insert_short(self.table, self.texts),
+        }
+    }
+}

@@ -1,0 +1,36 @@
+-- Names with the numbers of values, in the order of the names' bytes.
+use Rattle.std.specs.Prelude.{ℕ, Bool, true, ◌&&◌, List, [], ◌∷◌, Option}
+use Rattle.std.specs.Cmp.Lexicographic.{slice_cmp}
+use Rattle.std.specs.Map.{lookup}
+use Rattle.std.specs.Ordering.{nat_cmp, is_lt}
+use Rattle.std.specs.BTreeMap.{insert_entry}
+use Rattle.std.specs.Str.{bytes_eq}
+use Rattle.prop_names.specs.Folding.{stored_folding, query_folding}
+
+abbrev pub Names : Type 0
+Names = List (List ℕ × ℕ)
+
+-- the value of the name
+abbrev pub exact : Names → List ℕ → Option ℕ
+exact names name = lookup (bytes_eq name) names
+
+-- the value of the least name with this folding
+abbrev pub value_of_folding : Names → List ℕ → Option ℕ
+value_of_folding names folding = lookup (λ name. bytes_eq folding (stored_folding name)) names
+
+-- the value of the least name that folds as the query
+abbrev pub loose : Names → List ℕ → Option ℕ
+loose names query = value_of_folding names (query_folding query)
+
+-- the names with one more in its place, or with its value
+abbrev pub with_name : Names → List ℕ → ℕ → Names
+with_name names name value = insert_entry (slice_cmp nat_cmp) names name value
+
+abbrev pub all_above : List ℕ → Names → Bool
+all_above name [] = true
+all_above name (n ∷ names) = is_lt (slice_cmp nat_cmp name n.0) && all_above name names
+
+-- each name is below those behind it
+abbrev pub ascend : Names → Bool
+ascend [] = true
+ascend (n ∷ names) = all_above n.0 names && ascend names

@@ -1,0 +1,96 @@
+//! Names that are being read.
+ghost use Rattle.std.specs.Prelude.{◌≡◌, [], IfSome, IfOk, OnOk};
+ghost use Rattle.std.specs.String.{string_bytes};
+ghost use Rattle.prop_names.specs.Folding.{stored_folding};
+ghost use Rattle.prop_names.specs.Names.{value_of_folding, with_name};
+
+use crate::list::NameList;
+use crate::map::PropertyValueNameToEnumMap;
+use cp_invlist::NoMemory;
+use std::alloc::Global;
+use std::collections::BTreeMap;
+use std::marker::Model;
+use std::mem::replace;
+
+/// Names with the numbers of values, in any order. Names with equal foldings have one value. A contract sees it as the
+/// list of both in the order of the names.
+#[derive(Drop)]
+pub struct NamesBuilder {
+    alloc: Global,
+    names: BTreeMap<String, u16>,
+    /// The values by the foldings of the names.
+    foldings: BTreeMap<String, u16>,
+}
+
+impl Model for NamesBuilder {
+    ghost use Rattle.std.specs.Prelude.{◌≡◌, ℕ, List};
+    ghost use Rattle.std.specs.Map.{lookup};
+    ghost use Rattle.std.specs.Str.{bytes_eq};
+    ghost use Rattle.prop_names.specs.Names.{Names, value_of_folding};
+    ghost use Rattle.prop_names.specs.Texts.{texts};
+
+    ghost Value = { Names };
+
+    ghost view = { λ s. texts s.names.entries };
+
+    ghost invariant = { λ s. (f : List ℕ) → lookup (bytes_eq f) (texts s.foldings.entries) ≡ value_of_folding (texts s.names.entries) f };
+}
+
+impl NamesBuilder {
+    pub fn new(alloc: Global) -> NamesBuilder
+        ensures { result ≡ [] }
+    {
+        NamesBuilder {
+            alloc,
+            names: BTreeMap::new(alloc),
+            foldings: BTreeMap::new(alloc),
+        }
+    }
+
+    /// The value of the names with this folding.
+    pub fn value_of_folding(&self, folding: &str) -> Option<u16>
+        ensures { result ≡ value_of_folding self.now folding.now }
+    {
+        self.foldings.get(folding).copied()
+    }
+
+    /// Adds a name, whose folding has no other value. Where memory is refused, all names are gone.
+    pub fn insert(&mut self, name: String, folding: String, value: u16) -> Result<(), NoMemory>
+        requires folds { string_bytes folding ≡ stored_folding (string_bytes name) }
+        requires agrees { IfSome (value_of_folding self.old (string_bytes folding)) (λ other. other ≡ value) }
+        ensures ok { OnOk result (self.new ≡ with_name self.old (string_bytes name) value) }
+    {
+        let builder = replace(self, NamesBuilder::new(self.alloc));
+        *self = builder.with(name, folding, value)?;
+        Ok(())
+    }
+
+    fn with(self, name: String, folding: String, value: u16) -> Result<NamesBuilder, NoMemory>
+        requires folds { string_bytes folding ≡ stored_folding (string_bytes name) }
+        requires agrees { IfSome (value_of_folding self (string_bytes folding)) (λ other. other ≡ value) }
+        ensures { IfOk result (λ builder. builder ≡ with_name self (string_bytes name) value) }
+    {
+        let NamesBuilder {
+            alloc,
+            mut names,
+            mut foldings,
+        } = self;
+        names.insert(name, value)?;
+        foldings.insert(folding, value)?;
+        Ok(NamesBuilder {
+            alloc,
+            names,
+            foldings,
+        })
+    }
+
+    /// The table of the names.
+    pub fn build(self, alloc: Global) -> Result<PropertyValueNameToEnumMap, NoMemory>
+        ensures { IfOk result (λ table. table ≡ self) }
+    {
+        Ok(PropertyValueNameToEnumMap::new(
+            NameList::from_map(alloc, self.names)?,
+            NameList::from_map(alloc, self.foldings)?,
+        ))
+    }
+}

@@ -1,0 +1,17 @@
+//! Names of the values of properties: tables that find a value by a name, and names by a value.
+#![tactic(auto)]
+
+mod builder;
+mod folding;
+mod list;
+mod map;
+mod texts;
+mod value_names;
+
+pub use builder::NamesBuilder;
+pub use folding::{ascii_text, stored_folding};
+pub use map::PropertyValueNameToEnumMap;
+pub use value_names::{
+    PropertyEnumToValueNameLinearMap, PropertyEnumToValueNameLookup,
+    PropertyEnumToValueNameSparseMap, PropertyScriptToIcuScriptMap,
+};
