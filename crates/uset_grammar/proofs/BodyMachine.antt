@@ -2,19 +2,10 @@
 use Rattle.std.proofs.Common.{◌≡◌, ℕ, nat_le, Bool, true, false, cond, List, [], ◌∷◌, ◌++◌, Option, Some, None, refl, sym, ap, ◌∙◌, subst, append-nil}
 use Rattle.std.proofs.lemmas.Bool.{leb-true, le-leb}
 use Rattle.uset_grammar.specs.Text.{Text}
-use Rattle.uset_grammar.specs.Tree.{Tree, bracket, Steps, done, add, add_text, join, remove, keep}
+use Rattle.uset_grammar.specs.Tree.{Tree, bracket, Steps, done, add, add_text, join, keep}
 use Rattle.uset_grammar.specs.Item.{Item, chars, text, nested, minus, ampersand, dollar}
+use Rattle.uset_grammar.specs.Arranging.{Awaits, element, after_single, range_end, hyphen_end, anchor_end, after_set, remove_or_end, keep_set, Next, stuck, on, same, minus_next, ampersand_next, dollar_next, single_next, members_next, set_next, next, ending, after, onward, run, went, fit, finish, arranged, arrange}
 use Rattle.uset_grammar.specs.Body.{add_each, Body, Tail, empty, hyphen, anchor, range, members, texts, joins, removes, keeps, goes_on, Fits, closed, closed_behind_set}
-
-pub data Awaits : Type 0 where
-  element : Awaits
-  after_single : ℕ → Awaits
-  range_end : ℕ → Awaits
-  hyphen_end : Awaits
-  anchor_end : Awaits
-  after_set : Awaits
-  remove_or_end : Awaits
-  keep_set : Awaits
 
 abbrev pub Residual : Awaits → List Item → Steps → Type 0
 Residual element is steps = Body is steps
@@ -25,84 +16,6 @@ Residual anchor_end is steps = Body (dollar ∷ is) steps
 Residual after_set is steps = Tail is steps
 Residual remove_or_end is steps = Tail (minus ∷ is) steps
 Residual keep_set is steps = Tail (ampersand ∷ is) steps
-
--- an item is refused, or what is awaited behind it, and the item's steps in front of those to come
-pub data Next : Type 0 where
-  stuck : Next
-  on : Awaits → (Steps → Steps) → Next
-
-abbrev same : Steps → Steps
-same s = s
-
-abbrev pub minus_next : Awaits → Next
-minus_next element = on hyphen_end same
-minus_next (after_single a) = on (range_end a) same
-minus_next (range_end a) = stuck
-minus_next hyphen_end = stuck
-minus_next anchor_end = stuck
-minus_next after_set = on remove_or_end same
-minus_next remove_or_end = stuck
-minus_next keep_set = stuck
-
-abbrev pub ampersand_next : Awaits → Next
-ampersand_next element = stuck
-ampersand_next (after_single a) = stuck
-ampersand_next (range_end a) = stuck
-ampersand_next hyphen_end = stuck
-ampersand_next anchor_end = stuck
-ampersand_next after_set = on keep_set same
-ampersand_next remove_or_end = stuck
-ampersand_next keep_set = stuck
-
-abbrev pub dollar_next : Awaits → Next
-dollar_next element = on anchor_end same
-dollar_next (after_single a) = on anchor_end (add a a)
-dollar_next (range_end a) = stuck
-dollar_next hyphen_end = stuck
-dollar_next anchor_end = stuck
-dollar_next after_set = on anchor_end same
-dollar_next remove_or_end = stuck
-dollar_next keep_set = stuck
-
-abbrev pub single_next : Awaits → ℕ → Next
-single_next element c = on (after_single c) same
-single_next (after_single a) c = on (after_single c) (add a a)
-single_next (range_end a) c = cond (nat_le a c) (on element (add a c)) stuck
-single_next hyphen_end c = stuck
-single_next anchor_end c = stuck
-single_next after_set c = on (after_single c) same
-single_next remove_or_end c = stuck
-single_next keep_set c = stuck
-
-abbrev pub members_next : Awaits → (Steps → Steps) → Next
-members_next element f = on element f
-members_next (after_single a) f = on element (λ s. add a a (f s))
-members_next (range_end a) f = stuck
-members_next hyphen_end f = stuck
-members_next anchor_end f = stuck
-members_next after_set f = on element f
-members_next remove_or_end f = stuck
-members_next keep_set f = stuck
-
-abbrev pub set_next : Awaits → Tree → Next
-set_next element t = on after_set (join t)
-set_next (after_single a) t = on after_set (λ s. add a a (join t s))
-set_next (range_end a) t = stuck
-set_next hyphen_end t = stuck
-set_next anchor_end t = stuck
-set_next after_set t = on after_set (join t)
-set_next remove_or_end t = on after_set (remove t)
-set_next keep_set t = on after_set (keep t)
-
-abbrev pub next : Awaits → Item → Next
-next s (chars []) = members_next s same
-next s (chars (c ∷ [])) = single_next s c
-next s (chars (c ∷ d ∷ cs)) = members_next s (add_each (c ∷ d ∷ cs))
-next s (text t) = members_next s (add_text t)
-next s (nested t) = set_next s t
-next s minus = minus_next s
-next s ampersand = ampersand_next s
-next s dollar = dollar_next s
 
 no_hyphen_first : {i : Item} {is : List Item} {steps : Steps} → Body (minus ∷ i ∷ is) steps → ⊥
 no_hyphen_first h = elim h [ ]
@@ -346,17 +259,6 @@ follows s minus = follows_minus s
 follows s ampersand = follows_ampersand s
 follows s dollar = follows_dollar s
 
--- where nothing follows
-abbrev pub ending : Awaits → Option Steps
-ending element = Some done
-ending (after_single a) = Some (add a a done)
-ending (range_end a) = Some (add a a (add 0x2D 0x2D done))
-ending hyphen_end = Some (add 0x2D 0x2D done)
-ending anchor_end = Some (add 0xFFFF 0xFFFF done)
-ending after_set = Some done
-ending remove_or_end = Some (add 0x2D 0x2D done)
-ending keep_set = None
-
 abbrev EndsBy : Awaits → Option Steps → Type 0
 EndsBy s None = (steps : Steps) → Residual s [] steps → ⊥
 EndsBy s (Some e) = Residual s [] e × ((steps : Steps) → Residual s [] steps → e ≡ steps)
@@ -395,19 +297,6 @@ ends_by after_set = (goes_on empty, only_tail)
 ends_by remove_or_end = (goes_on hyphen, only_tail_hyphen)
 ends_by keep_set = no_tail_ampersand
 
--- a whole list
-abbrev pub after : (Steps → Steps) → Next → Next
-after f stuck = stuck
-after f (on s g) = on s (λ x. f (g x))
-
-abbrev pub onward : Next → (Awaits → Next) → Next
-onward stuck k = stuck
-onward (on s f) k = after f (k s)
-
-abbrev pub run : Awaits → List Item → Next
-run s [] = on s same
-run s (i ∷ is) = onward (next s i) (λ s'. run s' is)
-
 abbrev Comes : Awaits → List Item → Next → Type 0
 Comes s l stuck = Unit {0}
 Comes s l (on s' f) = (m : List Item) (rest : Steps) → Residual s' m rest → Residual s (l ++ m) (f rest)
@@ -438,26 +327,7 @@ follows_run : (s : Awaits) (l m : List Item) (all : Steps) → Residual s (l ++ 
 follows_run s [] m all h = (all, h, refl)
 follows_run s (i ∷ is) m all h = follows_onward is m all (next s i) (follows s i (is ++ m) all h) (λ s' rest k. follows_run s' is m rest k)
 
-abbrev pub went : Next → Bool
-went stuck = false
-went (on s f) = true
-
 -- THE TWO ANSWERS
--- the arrangement does not refuse the items
-abbrev pub fit : List Item → Bool
-fit l = went (run element l)
-
-abbrev pub finish : (Steps → Steps) → Option Steps → Option Steps
-finish f None = None
-finish f (Some e) = Some (f e)
-
-abbrev pub arranged : Next → Option Steps
-arranged stuck = None
-arranged (on s f) = finish f (ending s)
-
-abbrev pub arrange : List Item → Option Steps
-arrange l = arranged (run element l)
-
 goes_where : (m : List Item) (all : Steps) (n : Next) → Follows m all n → went n ≡ true
 goes_where m all stuck h = absurd h
 goes_where m all (on s f) h = refl
@@ -596,3 +466,8 @@ same_after (on s f) = refl
 pub run_next : (s : Awaits) (l : List Item) (i : Item) → run s (l ++ i ∷ []) ≡ onward (run s l) (λ s'. next s' i)
 run_next s [] i = after_same (next s i) ∙ same_after (next s i)
 run_next s (j ∷ js) i = push_onward (next s j) js i (λ s'. run_next s' js i)
+
+-- whether one more item fits, and what is awaited behind it
+pub one_more : (is : List Item) (s : Awaits) (f : Steps → Steps) → run element is ≡ on s f → (i : Item) →
+    (fit (is ++ i ∷ []) ≡ went (next s i)) × (run element (is ++ i ∷ []) ≡ after f (next s i))
+one_more is s f e i = (fit_next is s f i e, run_next element is i ∙ ap (λ z. onward z (λ w. next w i)) e)

@@ -8,7 +8,7 @@ use Rattle.uset_grammar.specs.Body.{Body, Fits, closed}
 use Rattle.uset_grammar.specs.Outcome.{Kind, Outcome, got, faulty, ended}
 use Rattle.uset_grammar.specs.Property.{Query, PropertyRead}
 use Rattle.uset_grammar.specs.Unit.{Meaning, UnitRead}
-use Rattle.uset_grammar.specs.Language.{Value, set, item_of, is_set, Language, Lawful, stands_for, resolves, lacks, property_tree}
+use Rattle.uset_grammar.specs.Language.{Value, set, item_of, is_set, Language, stands_for, resolves, lacks, property_tree}
 use Rattle.uset_grammar.specs.Front.{Front, nothing, closing, opening, single, of_name, begins_unit, caret, front, First, too_short, stray, bare, of_variable, of_bracket, of_property, first}
 use Rattle.uset_grammar.specs.Grammar.{Sort, of_one_character, of_variable_name, of_unit, ItemAt, one_character, variable, unit, ReadsItems, ends, reads, nests, Reads, a_bracket, a_property, a_variable}
 use Rattle.uset_grammar.specs.Reached.{OpenBracket, with_item, is_short, is_last_property, Moves, opens_first, opens, takes, closes}
@@ -16,8 +16,7 @@ use Rattle.uset_grammar.specs.Fault.{FaultAt, empty, no_set, no_name, unbound_fi
 use Rattle.uset_grammar.proofs.BodyMachine.{fits_fit, fit_fits, body_arrange, fit_front}
 use Rattle.uset_grammar.proofs.FrontRests.{Behind, closing_is, opening_behind, single_behind, named_behind}
 use Rattle.uset_grammar.proofs.UnitRests.{unit_behind, unit_long, likewise}
-use Rattle.uset_grammar.proofs.UnitInFront.{unit_at, unit_answered, property_answered}
-use Rattle.uset_grammar.proofs.SourceMachine.{two, Accepts, variable_read, property_read, bracket_read}
+use Rattle.uset_grammar.specs.Turn.{UnitReader, two, Accepts, variable_read, property_read, bracket_read}
 use Rattle.uset_grammar.proofs.TurnIsMoveOrFault.{several_fit}
 
 -- ONE BODY
@@ -52,24 +51,24 @@ module _ (l : Language) where
   by t items r f e h = subst (λ z. ReadsBy z (skip l.white_space t) items r) e (by_front t items r h)
 
   -- a unit is read in one way
-  one_unit : Lawful l → (q : Text) (m n : Meaning) (r s : Text) → front l q ≡ begins_unit → UnitRead l.white_space true (resolves l) (lacks l) q m r → UnitRead l.white_space true (resolves l) (lacks l) q n s → (m ≡ n) × (r ≡ s)
-  one_unit lawful q m n r s f h k =
-      let a = unit_answered l lawful true q f (unit_long l true q m r h) in
+  one_unit : UnitReader l → (q : Text) (m n : Meaning) (r s : Text) → front l q ≡ begins_unit → UnitRead l.white_space true (resolves l) (lacks l) q m r → UnitRead l.white_space true (resolves l) (lacks l) q n s → (m ≡ n) × (r ≡ s)
+  one_unit units q m n r s f h k =
+      let a = units.units true q f (unit_long l true q m r h) in
       let same : got m r ≡ got n s = sym ((a.reads m r).1 h) ∙ (a.reads n s).1 k in
       (cc, cc)
 
   -- an item in front is the first that is read
-  item_first : Lawful l → (t : Text) (items : List Item) (r next : Text) (s : Sort) (i : Item) → ItemAt l (skip l.white_space t) s i next → ReadsItems l t items r →
+  item_first : UnitReader l → (t : Text) (items : List Item) (r next : Text) (s : Sort) (i : Item) → ItemAt l (skip l.white_space t) s i next → ReadsItems l t items r →
       (is : List Item) × ReadsItems l next is r × (items ≡ i ∷ is)
-  item_first lawful t items r next _ i (one_character f) h = by t items r (single i next) f h
-  item_first lawful t items r next _ _ (variable {n} {v} f e) h =
+  item_first units t items r next _ i (one_character f) h = by t items r (single i next) f h
+  item_first units t items r next _ _ (variable {n} {v} f e) h =
       let k = by t items r (of_name n next) f h in
       let same : Some v ≡ Some k.0 = sym e ∙ k.2 in
       let is : k.0 ≡ v = cc in
       (k.1, k.3, k.4 ∙ ap (λ z. item_of z ∷ k.1) is)
-  item_first lawful t items r next _ _ (unit {m} f e) h =
+  item_first units t items r next _ _ (unit {m} f e) h =
       let k = by t items r begins_unit f h in
-      let same = one_unit lawful (skip l.white_space t) k.0 m k.1 next f k.3 e in
+      let same = one_unit units (skip l.white_space t) k.0 m k.1 next f k.3 e in
       (k.2, subst (λ z. ReadsItems l z k.2 r) same.1 k.4, k.5 ∙ ap (λ z. stands_for l z ∷ k.2) same.0)
 
   nothing_read : (items : List Item) (r : Text) → ReadsItems l [] items r → ⊥
@@ -146,7 +145,7 @@ module _ (l : Language) where
   now_closed : (b : OpenBracket) (t next : Text) (steps : Steps) → front l (skip l.white_space t) ≡ closing next → Body b.items steps → Closed b t (tree_of b.header steps) next
   now_closed b t next steps f body = record { items = []; steps = steps; read = ends f; body = subst (λ z. Body z steps) (sym (append-nil b.items)) body; is = refl }
 
-  module _ (lawful : Lawful l) (source : Text) where
+  module _ (units : UnitReader l) (source : Text) where
     pub moves_on : (bs cs : List OpenBracket) (t u : Text) (tree : Tree) (r : Text) → Moves l source bs t cs u → Completes bs t tree r → Completes cs u tree r
     moves_on _ _ t u tree r (opens_first {o} f here) h =
         let k = at_first t tree r (of_bracket o u) f h in
@@ -159,7 +158,7 @@ module _ (l : Language) where
           (inner, next, record { items = k.2; steps = shut.steps; read = k.6; body = pushed b.items k.2 (nested (tree_of o k.3)) shut.steps (subst (λ z. Body (b.items ++ z) shut.steps) k.7 shut.body); is = shut.is }, rest),
         )
     moves_on _ _ t u tree r (takes {s} {i} {b} {bs} long at_q fits cut) (inner, next, shut, rest) =
-        let k = item_first lawful t shut.items next u s i at_q shut.read in
+        let k = item_first units t shut.items next u s i at_q shut.read in
         (inner, next, record { items = k.0; steps = shut.steps; read = k.1; body = pushed b.items k.0 i shut.steps (subst (λ z. Body (b.items ++ z) shut.steps) k.2 shut.body); is = shut.is }, rest)
     moves_on _ _ t _ tree r (closes {next} {c} {b} {outer} {bs} {steps} f body fits) (inner, behind, shut, rest) =
         let k = closed_now b t (c ∷ next) behind inner steps f body shut in
@@ -185,12 +184,12 @@ module _ (l : Language) where
     moves_back _ _ t _ tree r (closes {next} {c} {b} {outer} {bs} {steps} f body fits) h =
         (tree_of b.header steps, c ∷ next, now_closed b t (c ∷ next) steps f body, h)
 
-    pub accepts_completes : (bs : List OpenBracket) (t : Text) (tree : Tree) (r : Text) → Accepts l lawful source bs t tree r → Completes bs t tree r
+    pub accepts_completes : (bs : List OpenBracket) (t : Text) (tree : Tree) (r : Text) → Accepts l units source bs t tree r → Completes bs t tree r
     accepts_completes _ t _ r (variable_read f e) = a_variable f e
     accepts_completes _ t _ r (property_read f e) = a_property f e
     accepts_completes _ t _ r (bracket_read {b} {steps} f body) = (tree_of b.header steps, r, now_closed b t r steps f body, (refl, refl))
 
-    pub accepts_only : (bs : List OpenBracket) (t : Text) (tree other : Tree) (r s : Text) → Accepts l lawful source bs t tree r → Completes bs t other s → (tree ≡ other) × (r ≡ s)
+    pub accepts_only : (bs : List OpenBracket) (t : Text) (tree other : Tree) (r s : Text) → Accepts l units source bs t tree r → Completes bs t other s → (tree ≡ other) × (r ≡ s)
     accepts_only _ t _ other r s (variable_read {n} {members} f e) h =
         let k = at_first t other s (of_variable n r) f h in
         let same : Some (set members) ≡ Some (set k.0) = sym e ∙ k.1 in
@@ -198,7 +197,7 @@ module _ (l : Language) where
         (ap (λ z. given z) one ∙ sym k.2, k.3)
     accepts_only _ t _ other r s (property_read {n} f e) h =
         let k = at_first t other s of_property f h in
-        let a = property_answered l lawful t f in
+        let a = units.properties t f in
         let same : got n r ≡ got k.0 s = sym ((a.reads n r).1 e) ∙ (a.reads k.0 s).1 k.1 in
         let one : n ≡ k.0 = cc in
         (ap (property_tree l) one ∙ sym k.2, cc)
@@ -209,21 +208,21 @@ module _ (l : Language) where
     module _ where
       unfits : (b : OpenBracket) (t u r : Text) (s : Sort) (i : Item) (tree : Tree) → ItemAt l (skip l.white_space t) s i u → (Fits (b.items ++ i ∷ []) → ⊥) → Closed b t tree r → ⊥
       unfits b t u r s i tree at_q none h =
-          let k = item_first lawful t h.items r u s i at_q h.read in
+          let k = item_first units t h.items r u s i at_q h.read in
           none (fits_then b.items k.0 i h.steps (subst (λ z. Body (b.items ++ z) h.steps) k.2 h.body))
 
       no_unit : (b : OpenBracket) (t r : Text) (tree : Tree) (both : Bool) (o : Outcome Meaning) → is_short (skip l.white_space t) ≡ false → front l (skip l.white_space t) ≡ begins_unit → ((both ≡ true) ↔ Fits (b.items ++ two ∷ [])) →
-          unit_at l lawful both (skip l.white_space t) ≡ o → ((m : Meaning) (next : Text) → o ≡ got m next → ⊥) → Closed b t tree r → ⊥
+          units.unit_at both (skip l.white_space t) ≡ o → ((m : Meaning) (next : Text) → o ≡ got m next → ⊥) → Closed b t tree r → ⊥
       no_unit b t r tree both o long f says e none h =
           let k = by t h.items r begins_unit f h.read in
           judge both k.0 k.1 k.3 e says (is_several (stands_for l k.0)) refl
           (fits_then b.items k.2 (stands_for l k.0) h.steps (subst (λ z. Body (b.items ++ z) h.steps) k.5 h.body))
         where
-          judge : (both : Bool) (m : Meaning) (next : Text) → UnitRead l.white_space true (resolves l) (lacks l) (skip l.white_space t) m next → unit_at l lawful both (skip l.white_space t) ≡ o →
+          judge : (both : Bool) (m : Meaning) (next : Text) → UnitRead l.white_space true (resolves l) (lacks l) (skip l.white_space t) m next → units.unit_at both (skip l.white_space t) ≡ o →
               ((both ≡ true) ↔ Fits (b.items ++ two ∷ [])) → (x : Bool) → is_several (stands_for l m) ≡ x → Fits (b.items ++ stands_for l m ∷ []) → ⊥
-          judge true m next found e says x n fits = none m next (sym e ∙ ((unit_answered l lawful true (skip l.white_space t) f long).reads m next).1 found)
+          judge true m next found e says x n fits = none m next (sym e ∙ ((units.units true (skip l.white_space t) f long).reads m next).1 found)
           judge false m next found e says false n fits =
-              none m next (sym e ∙ ((unit_answered l lawful false (skip l.white_space t) f long).reads m next).1 (likewise l (skip l.white_space t) m next found n))
+              none m next (sym e ∙ ((units.units false (skip l.white_space t) f long).reads m next).1 (likewise l (skip l.white_space t) m next found n))
           judge false m next found e says true n fits =
               let both_fit = fit_fits (b.items ++ two ∷ []) (sym (several_fit b.items (stands_for l m) n) ∙ fits_fit (b.items ++ stands_for l m ∷ []) fits) in
               absurd (let g : false ≡ true = says.1 both_fit in cc)
@@ -252,11 +251,11 @@ module _ (l : Language) where
           let bad : false ≡ true = sym none ∙ ap is_set is in cc
       fails_only _ t _ _ tree r (property_fails {w} p {k} f e here) h =
           let read = at_first t tree r of_property f h in
-          let a = property_answered l lawful t f in
+          let a = units.properties t f in
           let g : faulty k w ≡ got read.0 r = sym ((a.faults k w).1 e) ∙ (a.reads read.0 r).1 read.1 in cc
       fails_only _ t _ _ tree r (property_ends f e) h =
           let read = at_first t tree r of_property f h in
-          let a = property_answered l lawful t f in
+          let a = units.properties t f in
           let g : ended ≡ got read.0 r = sym (a.ends.1 e) ∙ (a.reads read.0 r).1 read.1 in cc
       fails_only _ t _ _ tree r (short e) (inner, next, shut, rest) =
           short_read (skip l.white_space t) t shut.items next e (front l (skip l.white_space t)) refl (by_front t shut.items next shut.read)
@@ -273,12 +272,12 @@ module _ (l : Language) where
           let k = closed_now b t (c ∷ u) next inner steps f body shut in
           none (subst (λ z. Fits (outer.items ++ nested z ∷ [])) k.0 (fits_then outer.items shut_too.items (nested inner) shut_too.steps (popped outer.items shut_too.items (nested inner) shut_too.steps shut_too.body)))
       fails_only _ t _ _ tree r (last_property {r = u} {s} {i} at_q e) (inner, next, shut, rest) =
-          let k = item_first lawful t shut.items next u s i at_q shut.read in
+          let k = item_first units t shut.items next u s i at_q shut.read in
           nothing_read k.0 next (subst (λ z. ReadsItems l z k.0 next) (last_empty s i u e) k.1)
       fails_only _ t _ _ tree r (last_nested {b} {outer} {bs} {steps} f body) (inner, next, shut, (inner_too, next_too, shut_too, rest)) =
           let k = closed_now b t [] next inner steps f body shut in
           nothing_read shut_too.items next_too (subst (λ z. ReadsItems l z shut_too.items next_too) (sym k.1) shut_too.read)
       fails_only _ t _ _ tree r (unit_fails {w} p {both} {k} {b} long f says e here) (inner, next, shut, rest) =
-          no_unit b t next inner both (faulty k w) long f says (((unit_answered l lawful both (skip l.white_space t) f long).faults k w).1 e) (λ i u h. (let g = h in cc)) shut
+          no_unit b t next inner both (faulty k w) long f says (((units.units both (skip l.white_space t) f long).faults k w).1 e) (λ i u h. (let g = h in cc)) shut
       fails_only _ t _ _ tree r (unit_ends {both} {b} long f says e) (inner, next, shut, rest) =
-          no_unit b t next inner both ended long f says ((unit_answered l lawful both (skip l.white_space t) f long).ends.1 e) (λ i u h. (let g = h in cc)) shut
+          no_unit b t next inner both ended long f says ((units.units both (skip l.white_space t) f long).ends.1 e) (λ i u h. (let g = h in cc)) shut

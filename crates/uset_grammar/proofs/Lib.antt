@@ -12,7 +12,7 @@ pub mod BodyMachine
 pub mod FrontRests
 pub mod UnitRests
 pub mod UnitInFront
-pub mod SourceMachine
+pub mod TextBefore
 pub mod TurnIsMoveOrFault
 pub mod MoveOrFaultIsTurn
 pub mod Completion

@@ -1,18 +1,25 @@
 -- The outcome of the unit or the property that stands in front, as a function.
 use Rattle.std.proofs.Common.{◌≡◌, ℕ, Bool, true, false, cond, [], ◌∷◌, Option, Some, None, refl, sym, ap, ◌∙◌, subst, inl, inr}
-use mathlib.Core.Logic.{◌⊎◌}
 use Rattle.std.specs.Prelude.{◌==◌, is_some}
 use Rattle.std.proofs.lemmas.Bool.{eqb-true}
 use Rattle.uset_grammar.specs.Text.{Text, behind_code}
-use Rattle.uset_grammar.specs.Outcome.{Outcome, ended, HasOutcome}
-use Rattle.uset_grammar.specs.Property.{Query, PropertyRead, PropertyShape, PropertySlips}
+use Rattle.uset_grammar.specs.Outcome.{Kind, Outcome, got, faulty, ended, HasOutcome}
+use Rattle.uset_grammar.specs.Property.{Query, PropertyBegins, PropertyRead, PropertyShape, PropertySlips}
 use Rattle.uset_grammar.specs.Unit.{Meaning, UnitBegins, brace_begins, posix_begins, backslash_begins, UnitShape, UnitSlips, UnitRead}
 use Rattle.uset_grammar.proofs.UnitOutcome.{one_unit_law}
 use Rattle.uset_grammar.proofs.PropertyOutcome.{one_property_law}
 use Rattle.uset_grammar.specs.Language.{Language, Lawful, resolves, lacks}
 use Rattle.uset_grammar.specs.Front.{Sign, open_bracket, close_bracket, hyphen_sign, ampersand_sign, dollar_sign, backslash, open_brace, caret_sign, other, sign, Front, nothing, closing, opening, single, of_name, begins_unit, caret, name, header, named_or, front_of, front, First, too_short, stray, bare, of_variable, of_bracket, of_property, first_named, first_of, first}
 use Rattle.uset_grammar.specs.Reached.{is_short}
+use Rattle.uset_grammar.specs.Turn.{UnitReader}
 use Rattle.uset_grammar.proofs.FrontRests.{Code, sign_code}
+
+-- one answer is told by its three clauses
+pub same_outcome : {V : Type 0} (R : Text → V → Text → Type 0) (S : Text → Type 0) (L : Text → ℕ → Kind → Text → Type 0) (q : Text) (o k : Outcome V) →
+    HasOutcome R S L q o → HasOutcome R S L q k → o ≡ k
+same_outcome R S L q (got v r) k h j = sym ((j.reads v r).1 ((h.reads v r).0 refl))
+same_outcome R S L q (faulty w b) k h j = sym ((j.faults w b).1 ((h.faults w b).0 refl))
+same_outcome R S L q ended k h j = sym (j.ends.1 (h.ends.0 refl))
 
 module _ (l : Language) where
   abbrev Begun : Front → ℕ → Text → Type 0
@@ -52,9 +59,6 @@ module _ (l : Language) where
   pub unit_begins : (q : Text) → front l q ≡ begins_unit → is_short q ≡ false → UnitBegins q
   unit_begins [] f long = absurd (let g = f in cc)
   unit_begins (c ∷ t) f long = subst (λ z. Begun z c t) f (begun_of c t (sign c) (sign_code c (sign c) refl)) long
-
-  abbrev pub PropertyBegins : Text → Type 0
-  PropertyBegins q = (t : Text) × ((q ≡ 0x5B ∷ 0x3A ∷ t) ⊎ (q ≡ 0x5C ∷ t))
 
   abbrev BegunFirst : First → ℕ → Text → Type 0
   BegunFirst of_property c t = PropertyBegins (c ∷ t)
@@ -159,3 +163,16 @@ module _ (l : Language) where
     pub property_answered : (q : Text) → first l q ≡ of_property → PropertyAnswer q (property_at q)
     unfolding property_at
     property_answered q f = property_answered_by q (first l q) refl f
+
+-- the units and the properties of a lawful language
+abbrev pub reader : (l : Language) → Lawful l → UnitReader l
+reader l lawful = record {
+  unit_at = unit_at l lawful;
+  property_at = property_at l lawful;
+  units = unit_answered l lawful;
+  properties = property_answered l lawful;
+  only_unit = λ both q o f long h. same_outcome _ _ _ q (unit_at l lawful both q) o (unit_answered l lawful both q f long) h;
+  only_property = λ t o f h. same_outcome _ _ _ t (property_at l lawful t) o (property_answered l lawful t f) h;
+  unit_begins = unit_begins l;
+  property_begins = property_begins l;
+}

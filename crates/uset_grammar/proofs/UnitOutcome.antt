@@ -4,11 +4,12 @@ use mathlib.Core.Logic.{◌⊎◌}
 use Rattle.std.specs.Prelude.{◌==◌}
 use Rattle.std.proofs.lemmas.Bool.{eqb-true}
 use Rattle.uset_grammar.specs.Text.{Text, ◌>>=◌, behind_code}
-use Rattle.uset_grammar.specs.Outcome.{Kind, Outcome, got, faulty, ended, Enough, Begins, NoSlip, Sound, FailsAt, slips, unfit, Faulty, HasOutcome}
+use Rattle.uset_grammar.specs.Outcome.{Kind, Outcome, got, faulty, ended, Enough, Begins, NoSlip, Sound, FailsAt, slips, unfit, Faulty, HasOutcome, meaning}
 use Rattle.uset_grammar.specs.Escape.{Spelled, Apart, itself, plain, escape_at, Letter, four, two, six, name, other, letter}
 use Rattle.uset_grammar.specs.EscapeSlips.{in_bracket, EscapeShape, EscapeSlips, EscapeRead}
 use Rattle.uset_grammar.specs.BracedString.{StringShape, StringSlips, StringRead, pieces_shape, in_escape}
 use Rattle.uset_grammar.specs.Property.{Query, PropertyShape, PropertySlips, PropertyRead, property_shape, posix_mark, perl_mark, perl, perl_shape, caret_or, inner, is_key}
+use Rattle.uset_grammar.specs.Laws.{KindsTell}
 use Rattle.uset_grammar.proofs.UnitMachine.{goes, refuses, onward, reach, free}
 use Rattle.uset_grammar.proofs.EscapeMachine as E
 use Rattle.uset_grammar.proofs.EscapeMachineSlips.{or_else, letter_slip, slip, letter_name}
@@ -56,11 +57,6 @@ turned S T L M q a = record {
   follows = λ f u w c e n. ((a.follows f u w c e n).1, (a.follows f u w c e n).0);
   slips_too = λ p u b c k e. ((a.slips_too p u b c k e).1, (a.slips_too p u b c k e).0);
 }
-
-abbrev pub meaning : {V W : Type 0} → (V → W) → Outcome V → Outcome W
-meaning f (got v r) = got (f v) r
-meaning f (faulty k b) = faulty k b
-meaning f ended = ended
 
 module _ {V W : Type 0} (f : V → W) where
   meaning_faulty : (o : Outcome V) (k : Kind) (b : Text) → meaning f o ≡ faulty k b → o ≡ faulty k b
@@ -411,40 +407,47 @@ module _ (white_space : ℕ → Bool) (apart : Apart white_space) (a_letter : wh
     | inr f ↦ (let h = heads (tails (sym e ∙ f.2)) in let g : false ≡ true = sym is ∙ (ap begins_property h ∙ f.3) in cc)
   ])
 
+  -- the outcome of a string, a property and an escape is that of the unit
+  pub string_unit : (t : Text) (o : Outcome (List Spelled)) → HasOutcome (StringRead white_space) (StringShape white_space) (StringSlips white_space) (0x7B ∷ t) o →
+      HasOutcome Read (UnitShape white_space) Slips (0x7B ∷ t) (meaning a_string o)
+  string_unit t o a =
+      answer_too a_string (StringRead white_space) Read (StringShape white_space) (UnitShape white_space) (StringSlips white_space) Slips (0x7B ∷ t) o
+      (string_agrees t) (λ v r s. string_read s) (λ w r s. string_only (0x7B ∷ t) t w r refl s) a
+
+  pub posix_unit : (t : Text) (o : Outcome Query) → HasOutcome (PropertyRead white_space resolves lacks) (PropertyShape white_space) (PropertySlips white_space resolves lacks) (0x5B ∷ t) o →
+      HasOutcome Read (UnitShape white_space) Slips (0x5B ∷ t) (meaning a_property o)
+  posix_unit t o a =
+      answer_too a_property (PropertyRead white_space resolves lacks) Read (PropertyShape white_space) (UnitShape white_space) (PropertySlips white_space resolves lacks) Slips
+      (0x5B ∷ t) o (posix_agrees t) (λ v r s. property_read s) (λ w r s. posix_only (0x5B ∷ t) t w r refl s) a
+
+  pub perl_unit : (d : ℕ) (t : Text) (o : Outcome Query) → begins_property d ≡ true →
+      HasOutcome (PropertyRead white_space resolves lacks) (PropertyShape white_space) (PropertySlips white_space resolves lacks) (0x5C ∷ d ∷ t) o →
+      HasOutcome Read (UnitShape white_space) Slips (0x5C ∷ d ∷ t) (meaning a_property o)
+  perl_unit d t o is a =
+      answer_too a_property (PropertyRead white_space resolves lacks) Read (PropertyShape white_space) (UnitShape white_space) (PropertySlips white_space resolves lacks) Slips
+      (0x5C ∷ d ∷ t) o (perl_agrees d t is) (λ v r s. property_read s) (λ w r s. perl_only (0x5C ∷ d ∷ t) t d w r refl is s) a
+
+  pub escape_unit : (d : ℕ) (t : Text) (o : Outcome Spelled) → begins_property d ≡ false →
+      HasOutcome (EscapeRead white_space (in_bracket both)) (EscapeShape white_space) (EscapeSlips white_space (in_bracket both)) (0x5C ∷ d ∷ t) o →
+      HasOutcome Read (UnitShape white_space) Slips (0x5C ∷ d ∷ t) (meaning an_escape o)
+  escape_unit d t o is a =
+      answer_too an_escape (EscapeRead white_space (in_bracket both)) Read (EscapeShape white_space) (UnitShape white_space) (EscapeSlips white_space (in_bracket both)) Slips
+      (0x5C ∷ d ∷ t) o (escape_agrees d t is) (λ v r s. escape_read is s) (λ w r s. escape_only (0x5C ∷ d ∷ t) t d w r refl is s) a
+
   -- THE LAW
-  string_unit : (t : Text) → (o : Outcome Meaning) × HasOutcome Read (UnitShape white_space) Slips (0x7B ∷ t) o
-  string_unit t =
-      let a = one_string_law white_space apart t in (
-        meaning a_string a.0,
-        answer_too a_string (StringRead white_space) Read (StringShape white_space) (UnitShape white_space) (StringSlips white_space) Slips (0x7B ∷ t) a.0
-            (string_agrees t) (λ v r s. string_read s) (λ w r s. string_only (0x7B ∷ t) t w r refl s) a.1,
-      )
-
-  posix_unit : (t : Text) → (o : Outcome Meaning) × HasOutcome Read (UnitShape white_space) Slips (0x5B ∷ 0x3A ∷ t) o
-  posix_unit t =
-      let a = one_property_law white_space a_letter resolves lacks (0x5B ∷ 0x3A ∷ t) t (inl refl) in (
-        meaning a_property a.0,
-        answer_too a_property (PropertyRead white_space resolves lacks) Read (PropertyShape white_space) (UnitShape white_space) (PropertySlips white_space resolves lacks) Slips
-            (0x5B ∷ 0x3A ∷ t) a.0 (posix_agrees (0x3A ∷ t)) (λ v r s. property_read s) (λ w r s. posix_only (0x5B ∷ 0x3A ∷ t) (0x3A ∷ t) w r refl s) a.1,
-      )
-
   backslash_unit : (d : ℕ) (t : Text) (b : Bool) → begins_property d ≡ b → (o : Outcome Meaning) × HasOutcome Read (UnitShape white_space) Slips (0x5C ∷ d ∷ t) o
   backslash_unit d t true is =
-      let a = one_property_law white_space a_letter resolves lacks (0x5C ∷ d ∷ t) (d ∷ t) (inr refl) in (
-        meaning a_property a.0,
-        answer_too a_property (PropertyRead white_space resolves lacks) Read (PropertyShape white_space) (UnitShape white_space) (PropertySlips white_space resolves lacks) Slips
-            (0x5C ∷ d ∷ t) a.0 (perl_agrees d t is) (λ v r s. property_read s) (λ w r s. perl_only (0x5C ∷ d ∷ t) t d w r refl is s) a.1,
-      )
+      let a = one_property_law white_space a_letter resolves lacks (0x5C ∷ d ∷ t) (d ∷ t) (inr refl) in
+      (meaning a_property a.0, perl_unit d t a.0 is a.1)
   backslash_unit d t false is =
-      let a = one_escape_law white_space apart (in_bracket both) (d ∷ t) in (
-        meaning an_escape a.0,
-        answer_too an_escape (EscapeRead white_space (in_bracket both)) Read (EscapeShape white_space) (UnitShape white_space) (EscapeSlips white_space (in_bracket both)) Slips
-            (0x5C ∷ d ∷ t) a.0 (escape_agrees d t is) (λ v r s. escape_read is s) (λ w r s. escape_only (0x5C ∷ d ∷ t) t d w r refl is s) a.1,
-      )
+      let a = one_escape_law white_space apart (in_bracket both) (d ∷ t) in
+      (meaning an_escape a.0, escape_unit d t a.0 is a.1)
 
   pub one_unit_law : (q t : Text) → UnitBegins q → (o : Outcome Meaning) × HasOutcome Read (UnitShape white_space) Slips q o
-  one_unit_law _ t (brace_begins {t = u}) = string_unit u
-  one_unit_law _ t (posix_begins {t = u}) = posix_unit u
+  one_unit_law _ t (brace_begins {t = u}) = let a = one_string_law white_space apart u in (meaning a_string a.0, string_unit u a.0 a.1)
+  one_unit_law _ t (posix_begins {t = u}) =
+      let a = one_property_law white_space a_letter resolves lacks (0x5B ∷ 0x3A ∷ u) u (inl refl) in
+      (meaning a_property a.0, posix_unit (0x3A ∷ u) a.0 a.1)
   one_unit_law _ t (backslash_begins {d} {t = u}) = backslash_unit d u (begins_property d) refl
 
   -- WHAT IS ANSWERED
@@ -453,11 +456,11 @@ module _ (white_space : ℕ → Bool) (apart : Apart white_space) (a_letter : wh
   backslash_outcome false d t = meaning an_escape (EL.outcome white_space apart (in_bracket both) (0x5C ∷ d ∷ t))
 
   pub string_unit_is : (t u : Text) → (one_unit_law (0x7B ∷ t) u brace_begins).0 ≡ meaning a_string (SL.outcome white_space apart (0x7B ∷ t))
-  unfolding one_unit_law string_unit
+  unfolding one_unit_law
   string_unit_is t u = ap (λ o. meaning a_string o) (SL.string_is white_space apart t)
 
   pub posix_unit_is : (t u : Text) → (one_unit_law (0x5B ∷ 0x3A ∷ t) u posix_begins).0 ≡ meaning a_property (PL.outcome white_space resolves lacks (0x5B ∷ 0x3A ∷ t))
-  unfolding one_unit_law posix_unit
+  unfolding one_unit_law
   posix_unit_is t u = ap (λ o. meaning a_property o) (PL.property_is white_space a_letter resolves lacks (0x5B ∷ 0x3A ∷ t) t (inl refl))
 
   backslash_is : (d : ℕ) (t : Text) (b : Bool) (e : begins_property d ≡ b) → (backslash_unit d t b e).0 ≡ backslash_outcome b d t
@@ -468,3 +471,11 @@ module _ (white_space : ℕ → Bool) (apart : Apart white_space) (a_letter : wh
   pub backslash_unit_is : (d : ℕ) (t u : Text) → (one_unit_law (0x5C ∷ d ∷ t) u backslash_begins).0 ≡ backslash_outcome (begins_property d) d t
   unfolding one_unit_law
   backslash_unit_is d t u = backslash_is d t (begins_property d) refl
+
+pub units_of_kinds : KindsTell
+units_of_kinds white_space apart a_letter both resolves lacks = record {
+  escapes = λ d t o is a. escape_unit white_space apart a_letter both resolves lacks d t o is a;
+  strings = λ t o a. string_unit white_space apart a_letter both resolves lacks t o a;
+  posix_properties = λ t o a. posix_unit white_space apart a_letter both resolves lacks t o a;
+  perl_properties = λ d t o is a. perl_unit white_space apart a_letter both resolves lacks d t o is a;
+}

@@ -1,19 +1,24 @@
 -- Laws of the grammar, over the definitions alone.
-use Rattle.std.specs.Prelude.{◌≡◌, ◌↔◌, ℕ, Bool, false, List, [], ◌∷◌, ◌++◌, map, Option}
+use Rattle.std.specs.Prelude.{◌≡◌, ◌↔◌, ℕ, Bool, true, false, List, [], ◌∷◌, ◌++◌, map, Option}
 use mathlib.Core.Logic.{◌⊎◌}
 use Prim.Native.Char.{code}
-use Rattle.uset_grammar.specs.Text.{Text}
-use Rattle.uset_grammar.specs.Outcome.{Outcome}
+use Rattle.uset_grammar.specs.Text.{Text, IsBehind}
+use Rattle.uset_grammar.specs.Outcome.{Outcome, meaning}
 use Rattle.uset_grammar.specs.Escape.{Spelled, Apart}
-use Rattle.uset_grammar.specs.EscapeSlips.{Around, EscapeOutcome}
+use Rattle.uset_grammar.specs.EscapeSlips.{Around, in_bracket, EscapeOutcome}
 use Rattle.uset_grammar.specs.BracedString.{StringOutcome}
 use Rattle.uset_grammar.specs.Property.{Query, PropertyOutcome}
-use Rattle.uset_grammar.specs.Unit.{Meaning, UnitBegins, UnitOutcome}
-use Rattle.uset_grammar.specs.Tree.{Steps}
+use Rattle.uset_grammar.specs.Unit.{Meaning, an_escape, a_string, a_property, begins_property, UnitBegins, UnitRead, UnitOutcome}
+use Rattle.uset_grammar.specs.Tree.{Tree, Steps}
 use Rattle.uset_grammar.specs.Item.{Item}
 use Rattle.uset_grammar.specs.Body.{Body, Fits}
 use Rattle.uset_grammar.specs.FitsByLists.{item, close, ListedFits}
-use Rattle.uset_grammar.specs.Language.{Language}
+use Rattle.uset_grammar.specs.Arranging.{Awaits, element, on, next, after, run, went, fit}
+use Rattle.uset_grammar.specs.Language.{Language, Lawful, resolves, lacks}
+use Rattle.uset_grammar.specs.Front.{single, of_name, front, of_variable, first}
+use Rattle.uset_grammar.specs.Grammar.{Reads}
+use Rattle.uset_grammar.specs.Reached.{OpenBracket, Moves, Reached}
+use Rattle.uset_grammar.specs.Turn.{UnitReader, at, last_at, turn, Means, Accepts}
 use Rattle.uset_grammar.specs.Answers.{Answer, IsAnswer, AllLawful}
 
 -- Every source has one answer, under every syntax, whether its tables are there or not, all variables and all
@@ -51,3 +56,61 @@ ThreeListsTell = (is : List Item) → Fits is ↔ ListedFits (map item is)
 -- A `]` fits behind items exactly where these are arranged.
 abbrev pub CloseFitsBehindBody : Type 0
 CloseFitsBehindBody = (is : List Item) → ((steps : Steps) × Body is steps) ↔ ListedFits (map item is ++ close ∷ [])
+
+-- What is awaited behind items tells whether one more fits, and what is awaited behind that.
+abbrev pub AwaitedTells : Type 0
+AwaitedTells = (is : List Item) (s : Awaits) (f : Steps → Steps) → run element is ≡ on s f → (i : Item) →
+    (fit (is ++ i ∷ []) ≡ went (next s i)) × (run element (is ++ i ∷ []) ≡ after f (next s i))
+
+-- The outcome of an escape, a string or a property is that of the unit that begins there.
+pub record UnitsOfKinds (white_space : ℕ → Bool) (both : Bool) (resolves lacks : Query → Bool) : Type 0 where
+  pub escapes : (d : ℕ) (t : Text) (o : Outcome Spelled) → begins_property d ≡ false →
+      EscapeOutcome white_space (in_bracket both) (code "\\" ∷ d ∷ t) o →
+      UnitOutcome white_space both resolves lacks (code "\\" ∷ d ∷ t) (meaning an_escape o)
+  pub strings : (t : Text) (o : Outcome (List Spelled)) → StringOutcome white_space (code "{" ∷ t) o →
+      UnitOutcome white_space both resolves lacks (code "{" ∷ t) (meaning a_string o)
+  pub posix_properties : (t : Text) (o : Outcome Query) →
+      PropertyOutcome white_space resolves lacks (code "[" ∷ t) o →
+      UnitOutcome white_space both resolves lacks (code "[" ∷ t) (meaning a_property o)
+  pub perl_properties : (d : ℕ) (t : Text) (o : Outcome Query) → begins_property d ≡ true →
+      PropertyOutcome white_space resolves lacks (code "\\" ∷ d ∷ t) o →
+      UnitOutcome white_space both resolves lacks (code "\\" ∷ d ∷ t) (meaning a_property o)
+
+abbrev pub KindsTell : Type 0
+KindsTell = (white_space : ℕ → Bool) → Apart white_space → white_space (code "a") ≡ false →
+    (both : Bool) (resolves lacks : Query → Bool) → UnitsOfKinds white_space both resolves lacks
+
+-- The units of a lawful language are read.
+abbrev pub UnitsAreRead : Type 0
+UnitsAreRead = (l : Language) → Lawful l → UnitReader l
+
+-- Each turn of a reader at a place that is reached is a move, a fault or a reading.
+abbrev pub TurnsMean : Type 0
+TurnsMean = (l : Language) (units : UnitReader l) (source : Text) (bs : List OpenBracket) (before t : Text) →
+    source ≡ before ++ t → Means l units source bs t (turn l units source bs t)
+
+-- What is read at a place that is reached is what the source denotes.
+abbrev pub ReadAtLast : Type 0
+ReadAtLast = (l : Language) (units : UnitReader l) (source : Text) (bs : List OpenBracket) (t : Text) (tree : Tree) (rest : Text) →
+    Reached l source bs t → Accepts l units source bs t tree rest → Reads l source tree rest
+
+-- A move goes on to less of the source.
+abbrev pub MovesOn : Type 0
+MovesOn = (l : Language) (source : Text) (bs cs : List OpenBracket) (before t u : Text) → source ≡ before ++ t →
+    Moves l source bs t cs u → (front : Text) × (source ≡ front ++ u)
+
+-- The text before a rest, and before the last character in front of it.
+abbrev pub PlacesAre : Type 0
+PlacesAre = (l : Language) (units : UnitReader l) (source before rest : Text) →
+    (source ≡ before ++ rest → at l units source rest ≡ before)
+    × ((last : ℕ) → source ≡ before ++ last ∷ rest → last_at l units source rest ≡ before)
+
+-- A name, an item of one character and a unit take at least one character.
+pub record RestsAreBehind (l : Language) : Type 0 where
+  pub names : (q n r : Text) → front l q ≡ of_name n r → IsBehind q r
+  pub first_names : (t n r : Text) → first l t ≡ of_variable n r → IsBehind t r
+  pub singles : (q r : Text) (i : Item) → front l q ≡ single i r → IsBehind q r
+  pub units : (both : Bool) (q r : Text) (m : Meaning) → UnitRead l.white_space both (resolves l) (lacks l) q m r → IsBehind q r
+
+abbrev pub AllRestsAreBehind : Type 0
+AllRestsAreBehind = (l : Language) → RestsAreBehind l

@@ -9,11 +9,13 @@ pub mod Tree
 pub mod Item
 pub mod Body
 pub mod FitsByLists
+pub mod Arranging
 pub mod Language
 pub mod Front
 pub mod Grammar
 pub mod Reached
 pub mod Fault
+pub mod Turn
 pub mod Place
 pub mod Answers
 pub mod Shown

@@ -73,3 +73,9 @@ pub record HasOutcome {V : Type 0} (Read : Text → V → Text → Type 0) (Shap
   pub reads : (v : V) (r : Text) → (o ≡ got v r) ↔ Read q v r
   pub faults : (k : Kind) (b : Text) → (o ≡ faulty k b) ↔ Faulty Shape Slips q k b
   pub ends : (o ≡ ended) ↔ Sound Shape Slips q
+
+-- the outcome with what the value stands for
+abbrev pub meaning : {V W : Type 0} → (V → W) → Outcome V → Outcome W
+meaning f (got v r) = got (f v) r
+meaning f (faulty k b) = faulty k b
+meaning f ended = ended

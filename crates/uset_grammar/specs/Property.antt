@@ -1,6 +1,7 @@
 -- Properties (UTS 35, Unicode Sets; UTS 18, 1.2): `[:key=value:]`, `\p{key=value}` and `\P{key=value}`, their shapes,
 -- and where they slip.
 use Rattle.std.specs.Prelude.{◌≡◌, ℕ, Bool, true, false, not, ◌&&◌, ◌||◌, ◌==◌, nat_le, [], ◌∷◌, ◌++◌, codes, Option, Some, None, if◌then◌else◌}
+use mathlib.Core.Logic.{◌⊎◌}
 use Prim.Native.Char.{code}
 use Rattle.uset_grammar.specs.Text.{Text, ◌>>=◌, ◌∈◌, behind}
 use Rattle.uset_grammar.specs.Outcome.{Kind, Outcome, HasOutcome, unknown_property, internal}
@@ -58,6 +59,10 @@ query negated key (c ∷ t) =
 abbrev pub closed : Form → Query → Text → Option (Query × Text)
 closed posix n t = behind "]" t >>= λ u. Some (n, u)
 closed perl n t = Some (n, t)
+
+-- A property begins, or a backslash.
+abbrev pub PropertyBegins : Text → Type 0
+PropertyBegins q = (t : Text) × ((q ≡ code "[" ∷ code ":" ∷ t) ⊎ (q ≡ code "\\" ∷ t))
 
 module _ (white_space : ℕ → Bool) where
   abbrev pub without_white : Text → Text

@@ -56,3 +56,7 @@ optional c t = optional_code (code c) t
 pub record Ends (t front rest : Text) : Type 0 where
   pub last : ℕ
   pub parts : t ≡ front ++ last ∷ rest
+
+-- the text is something, its last character and the rest
+abbrev pub IsBehind : Text → Text → Type 0
+IsBehind t rest = (front : Text) × Ends t front rest

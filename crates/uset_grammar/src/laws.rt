@@ -1,5 +1,5 @@
 //! Laws of the grammar, each the contract of a function that does nothing.
-ghost use Rattle.uset_grammar.specs.Laws.{OneAnswer, OneEscape, OneString, OneProperty, OneUnit, ThreeListsTell, CloseFitsBehindBody};
+ghost use Rattle.uset_grammar.specs.Laws.{OneAnswer, OneEscape, OneString, OneProperty, OneUnit, ThreeListsTell, CloseFitsBehindBody, AwaitedTells, KindsTell, UnitsAreRead, TurnsMean, ReadAtLast, MovesOn, PlacesAre, AllRestsAreBehind};
 
 /// Every source has exactly one answer: it is read, with one tree and one rest, or refused, with one
 /// kind and one place. So no source has two readings, two faults, both or neither.
@@ -31,4 +31,24 @@ pub fn one_unit()
 pub fn fits_by_lists()
     ensures items { ThreeListsTell }
     ensures close { CloseFitsBehindBody }
+{}
+
+/// Items that are arranged one by one fit and are arranged as the rules for bodies say.
+pub fn arranging()
+    ensures { AwaitedTells }
+{}
+
+/// A unit in a bracket has the outcome of the escape, the string or the property that it is.
+pub fn kinds_of_units()
+    ensures { KindsTell }
+{}
+
+/// A reader that takes turns moves on, stops at a fault, or has read the source.
+pub fn turns()
+    ensures units { UnitsAreRead }
+    ensures means { TurnsMean }
+    ensures last { ReadAtLast }
+    ensures onward { MovesOn }
+    ensures places { PlacesAre }
+    ensures behind { AllRestsAreBehind }
 {}

@@ -5,7 +5,7 @@ use Rattle.std.proofs.lemmas.Str.{IsCharBoundary-at_seam, chars-append}
 use Rattle.std.specs.Str.{chars, IsUtf8, IsCharBoundary}
 use Rattle.std.specs.List.{slice_range}
 use Rattle.uset_grammar.specs.Text.{Text, while_in}
-use Rattle.uset_grammar.proofs.SourceMachine.{at_is}
+use Rattle.uset_grammar.proofs.TextBefore.{at_is}
 use Rattle.uset_read.specs.Names.{name_in}
 
 -- a text may be cut in front of a rest

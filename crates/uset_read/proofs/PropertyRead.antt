@@ -4,7 +4,7 @@ use Rattle.std.specs.Str.{chars}
 use Rattle.cp_invlist.specs.InversionList.{contains}
 use Rattle.uset_grammar.specs.Text.{Text}
 use Rattle.uset_grammar.specs.Outcome.{Outcome, got, faulty}
-use Rattle.uset_grammar.specs.Property.{Query, Form, unresolved, PropertyOutcome}
+use Rattle.uset_grammar.specs.Property.{PropertyBegins, Query, Form, unresolved, PropertyOutcome}
 use Rattle.uset_grammar.proofs.PropertyOutcome.{one_property_law, property_is, outcome}
 use Rattle.uset_read.specs.declared.property.Form.{Form as CodeForm}
 use Rattle.uset_read.specs.declared.property.Query.{Query as CodeQuery}
@@ -12,7 +12,7 @@ use Rattle.uset_read.specs.declared.stop.Stop.{Stop}
 use Rattle.uset_read.specs.Stops.{Stops}
 use Rattle.uset_read.specs.UnitRead.{StopsAt}
 use Rattle.uset_read.specs.Reading.{and_then}
-use Rattle.uset_read.specs.Queries.{form_seen, query_seen, query_at, front_in, query_in, asked_in, close_in, BeginsProperty, Asks, PropertyIs, PropertyStops}
+use Rattle.uset_read.specs.Queries.{form_seen, query_seen, query_at, front_in, query_in, asked_in, close_in, Asks, PropertyIs, PropertyStops}
 use Rattle.uset_read.proofs.EscapeReading.{Placed}
 use Rattle.uset_read.proofs.NumbersInBraces.{stops_then}
 use Rattle.uset_read.proofs.Placed.{placed_got, placed_fault, placed_stops}
@@ -34,7 +34,7 @@ module _ (white_space : ℕ → Bool) where
       asked_in white_space q ≡ got (form, query) at
   inner_asks q u at form negated query e h = ap (λ o. and_then o inner) e ∙ ap (λ o. and_then o (λ q. got (form, q))) h
 
-  module _ (letters : white_space 0x61 ≡ false) (q : Text) (begins : BeginsProperty q) (resolves lacks : Query → Bool) where
+  module _ (letters : white_space 0x61 ≡ false) (q : Text) (begins : PropertyBegins q) (resolves lacks : Query → Bool) where
     abbrev told : Outcome Query
     told = and_then (asked_in white_space q) (λ x. judged white_space resolves lacks x.0 x.1)
 

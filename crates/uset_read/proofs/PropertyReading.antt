@@ -3,14 +3,14 @@ use Rattle.std.proofs.Common.{◌≡◌, ℕ, Bool, true, false, cond, [], ◌�
 use Rattle.std.specs.Prelude.{◌==◌, not}
 use Rattle.uset_grammar.specs.Text.{Text}
 use Rattle.uset_grammar.specs.Outcome.{Outcome, got, faulty, ended, unexpected}
-use Rattle.uset_grammar.specs.Property.{Query, Form, posix, perl, mark, is_key, no_value, with_value, unresolved}
+use Rattle.uset_grammar.specs.Property.{PropertyBegins, Query, Form, posix, perl, mark, is_key, no_value, with_value, unresolved}
 use Rattle.uset_grammar.proofs.UnitMachine.{Next, goes, whole, refuses, turn, run}
 use Rattle.uset_grammar.proofs.PropertyOutcome.{State, colon, caret_due, letter, brace, in_key, in_value, bracket, done, done_or, to_value, next_key, next, slip, slip_by, outcome}
 use Rattle.uset_read.specs.declared.property.Sign.TheVariants.{Mark, Equal, Unequal}
 use Rattle.uset_read.specs.declared.property.KeyPart.{KeyPart}
 use Rattle.uset_read.specs.declared.property.KeyPart.TheVariants.{Space, Letter, Ends, Unfit}
 use Rattle.uset_read.specs.Reading.{and_then, char_in}
-use Rattle.uset_read.specs.Queries.{is_nothing, caret_in, posix_front_in, perl_front_in, key_goes, key_in, value_in, ended_key_in, query_in, asked_in, closing_in, close_in, BeginsProperty}
+use Rattle.uset_read.specs.Queries.{is_nothing, caret_in, posix_front_in, perl_front_in, key_goes, key_in, value_in, ended_key_in, query_in, asked_in, closing_in, close_in}
 use Rattle.uset_read.proofs.EscapeReading.{Placed}
 
 -- a character that is due, or another one
@@ -168,7 +168,7 @@ module _ (white_space : ℕ → Bool) (resolves lacks : Query → Bool) where
   front_then form ended = refl
 
   -- what the reader asks of a property, and what is judged then, is the machine's outcome
-  pub property_placed : (q : Text) → BeginsProperty q → Placed q (and_then (asked_in white_space q) (λ x. judged x.0 x.1)) (outcome white_space resolves lacks q)
+  pub property_placed : (q : Text) → PropertyBegins q → Placed q (and_then (asked_in white_space q) (λ x. judged x.0 x.1)) (outcome white_space resolves lacks q)
   property_placed q (t, inl e) =
       let whole = 0x5B ∷ 0x3A ∷ t in
       subst (λ z. Placed z (and_then (asked_in white_space z) (λ x. judged x.0 x.1)) (outcome white_space resolves lacks z)) (sym e)

@@ -1,5 +1,5 @@
 -- What a cursor holds.
-use Rattle.std.specs.Prelude.{◌≡◌, ◌++◌, ℕ, List}
+use Rattle.std.specs.Prelude.{◌≡◌, ◌∷◌, ◌++◌, ℕ, List}
 use Rattle.std.specs.Str.{chars}
 use Rattle.uset_grammar.specs.Text.{Text}
 use Rattle.uset_grammar.specs.Place.{size}
@@ -17,3 +17,8 @@ left_of cursor = cursor.rest.now
 abbrev pub IsPlace : ℕ → Cursor → Type 0
 IsPlace offset cursor =
     (before : Text) → chars (source_of cursor) ≡ before ++ chars (left_of cursor) → offset ≡ size before
+
+-- the offset is the number of bytes of the text before the last character in front of what is left
+abbrev pub IsLastPlace : ℕ → Cursor → Type 0
+IsLastPlace offset cursor =
+    (before : Text) (last : ℕ) → chars (source_of cursor) ≡ before ++ last ∷ chars (left_of cursor) → offset ≡ size before

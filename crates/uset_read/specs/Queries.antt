@@ -4,12 +4,11 @@ use Rattle.std.specs.Borrow.{Bor}
 use Rattle.std.specs.Option.{option_map}
 use Rattle.std.specs.Str.{chars}
 use Rattle.std.specs.String.{string_bytes}
-use mathlib.Core.Logic.{◌⊎◌}
 use Prim.Native.Char.{code}
 use Rattle.cp_invlist.specs.InversionList.{contains}
 use Rattle.uset_grammar.specs.Text.{Text, ◌∈◌}
 use Rattle.uset_grammar.specs.Outcome.{Outcome, got, faulty, ended, unexpected}
-use Rattle.uset_grammar.specs.Property.{Query, Form, posix, perl, mark, is_key, unresolved, PropertyOutcome}
+use Rattle.uset_grammar.specs.Property.{Query, Form, posix, perl, mark, is_key, unresolved, PropertyBegins, PropertyOutcome}
 use Rattle.uset_read.specs.declared.property.Form.{Form as CodeForm}
 use Rattle.uset_read.specs.declared.property.Form.TheVariants.{Posix, Perl}
 use Rattle.uset_read.specs.declared.property.Query.{Query as CodeQuery}
@@ -131,10 +130,6 @@ closing_in perl t = got tt t
 abbrev pub close_in : Form → Text → Outcome (Unit {0})
 close_in form t = and_then (char_in (mark form) t) (λ z. closing_in form)
 
--- The text begins as a property.
-abbrev pub BeginsProperty : Text → Type 0
-BeginsProperty q = (t : Text) × ((q ≡ code "[" ∷ code ":" ∷ t) ⊎ (q ≡ code "\\" ∷ t))
-
 -- The property at the front of the text asks this, and its end mark is at this place: what the outcome of the text is,
 -- whichever queries resolve.
 pub record Asks (white_space : ℕ → Bool) (resolves lacks : Query → Bool) (q : Text)
@@ -152,12 +147,12 @@ pub record Asks (white_space : ℕ → Bool) (resolves lacks : Query → Bool) (
 -- What was read at the front of these bytes is what the property there asks, where no `a` is white space.
 abbrev pub PropertyIs : List ℕ → List ℕ → CodeForm → CodeQuery → List ℕ → Type 0
 PropertyIs white_space text form query at =
-    contains white_space (code "a") ≡ false → BeginsProperty (chars text) → (resolves lacks : Query → Bool) →
+    contains white_space (code "a") ≡ false → PropertyBegins (chars text) → (resolves lacks : Query → Bool) →
     Asks (contains white_space) resolves lacks (chars text) (form_seen form) (query_seen query) (chars at)
 
 -- The property there has the fault, with the place, or is not ended, as it says, whichever queries resolve.
 pub record PropertyStops (white_space text : List ℕ) (stop : Stop) : Type 0 where
-  pub outcome : contains white_space (code "a") ≡ false → BeginsProperty (chars text) →
+  pub outcome : contains white_space (code "a") ≡ false → PropertyBegins (chars text) →
       (resolves lacks : Query → Bool) →
       StopsAt (PropertyOutcome (contains white_space) resolves lacks (chars text)) (chars text) stop
 

@@ -1,5 +1,5 @@
 //! A place in a source.
-ghost use Rattle.std.specs.Prelude.{◌≡◌, ◌≤◌, ◌+◌, length, encode_utf8_all};
+ghost use Rattle.std.specs.Prelude.{◌≡◌, ◌<◌, ◌≤◌, ◌+◌, length, encode_utf8_all};
 ghost use Rattle.std.specs.Str.{chars};
 
 /// A source, and what is left of it to read.
@@ -13,7 +13,7 @@ pub struct Cursor<'a> {
 }
 
 impl<'a> Cursor<'a> {
-    ghost use Rattle.uset_read.specs.Cursors.{source_of, left_of, IsPlace};
+    ghost use Rattle.uset_read.specs.Cursors.{source_of, left_of, IsPlace, IsLastPlace};
 
     /// The cursor in front of the whole source.
     pub fn new(source: &'a str) -> Cursor<'a>
@@ -51,5 +51,13 @@ impl<'a> Cursor<'a> {
         ensures place { IsPlace result self.now }
     {
         self.source.len() - self.rest.len()
+    }
+
+    /// The number of bytes of the source before the last character in front of what is left. There is one.
+    pub fn last_offset(&self) -> usize
+        requires { length (left_of self.now) < length (source_of self.now) }
+        ensures { IsLastPlace result self.now }
+    {
+        self.source.floor_char_boundary(self.offset() - 1)
     }
 }

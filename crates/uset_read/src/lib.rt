@@ -19,3 +19,4 @@ pub use escape::{Around, Spelled, read_escape};
 pub use name::read_name;
 pub use property::{Form, Query, close_property, read_property};
 pub use stop::{Kind, Stop};
+pub use text::{skip_white_space, split_first};

@@ -14,7 +14,7 @@ use crate::stop::{Kind, Stop};
 use cp_invlist::{CodePointInversionList, NoMemory};
 
 /// The first character, and the text behind it.
-pub(crate) fn split_first(text: &str) -> Option<(char, &str)>
+pub fn split_first(text: &str) -> Option<(char, &str)>
     ensures parts { MatchOption result (chars text.now ≡ []) (λ p. chars text.now ≡ p.0 ∷ chars p.1.now) }
     ensures shorter { IfSome result (λ p. length p.1.now < length text.now) }
     ensures fewer { IfSome result (λ p. length (chars p.1.now) < length (chars text.now)) }
@@ -62,7 +62,7 @@ pub(crate) fn push_char(string: &mut String, c: char) -> Result<(), NoMemory>
 }
 
 /// The text without the white space in front.
-pub(crate) fn skip_white_space<'a>(white_space: &CodePointInversionList, text: &'a str) -> &'a str
+pub fn skip_white_space<'a>(white_space: &CodePointInversionList, text: &'a str) -> &'a str
     ensures skipped { chars result.now ≡ skip (contains white_space.now) (chars text.now) }
     ensures within { length result.now ≤ length text.now }
     ensures no_more { length (chars result.now) ≤ length (chars text.now) }

@@ -1,0 +1,5 @@
+pub mod RangesLemmas
+pub mod PaintingLemmas
+pub mod LayersLemmas
+pub mod GatheredLemmas
+pub mod StringsLemmas

@@ -1,0 +1,15 @@
+use Rattle.std.proofs.Common.{sym, ◌∙◌}
+use Rattle.std.specs.BTreeSet.{contains_text}
+use Rattle.cp_invlist.specs.InversionList.{contains}
+use Rattle.uset_gather.proofs.GatheredLemmas.{each_member, on_ok}
+use Rattle.uset_gather.proofs.PaintingLemmas.{not_outside}
+use Rattle.uset_gather.proofs.StringsLemmas.{and_true}
+use Rattle.uset_gather.proofs.gathered.Gathered.remove.Goals as goal
+
+pub returns-in-Complement : goal.returns-in-Complement
+returns-in-Complement c =
+    let old = c.args.self.now in
+    let set = c.in-Complement.set.now in
+    rw c.in-Complement.is (on_ok c.retain_set.result (λ h.
+    each_member _ (λ d. h d ∙ sym (not_outside old.code_points d (contains set d)))
+    (λ bytes. sym (and_true (contains_text old.strings bytes)))) c.retain_set.ensures)

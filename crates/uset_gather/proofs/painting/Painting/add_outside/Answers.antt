@@ -1,0 +1,26 @@
+use Rattle.std.proofs.Common.{◌||◌, [], ◌∷◌, ◌++◌, sym, ap, ◌∙◌, subst, append_assoc}
+use Rattle.std.proofs.lemmas.List.{append-nil}
+use Rattle.cp_invlist.specs.Ranges.{AreMaximalRanges, is_outside}
+use Rattle.uset_gather.specs.Painting.{in_painting}
+use Rattle.uset_gather.proofs.RangesLemmas.{or_none, outside_spelled, joined_more}
+use Rattle.uset_gather.proofs.painting.Painting.add_outside.Goals as goal
+
+pub loop-range-init : goal.loop-range-init
+loop-range-init c = (
+  rw c.into_iter-range-iterator.ensures.into_iter_gives c.iter_ranges_complemented-range-items.ensures.maximal,
+  λ d. sym (or_none (in_painting c.args.self.now d)),
+)
+
+pub loop-range-preserved : goal.loop-range-preserved
+loop-range-preserved c =
+    let given = c.loop-range.yielded in
+    let parts = ap (λ rs. given ++ rs) c.in-Some.ensures.steps ∙ sym (append_assoc given (c.in-Some.range ∷ []) c.next.new.self) in (
+      subst (AreMaximalRanges (is_outside c.args.set.now)) parts c.loop-range.invariant.0,
+      λ d. joined_more _ _ _ given c.in-Some.range d (c.loop-range.invariant.1 d) (c.in_ok-add_range.ensures d),
+    )
+
+pub returns : goal.returns
+returns c =
+    let given = c.loop-range.yielded in
+    let all = subst (AreMaximalRanges (is_outside c.args.set.now)) (ap (λ rs. given ++ rs) c.in-None.ensures.steps.0 ∙ append-nil given) c.loop-range.invariant.0 in
+    λ d. c.loop-range.invariant.1 d ∙ ap (λ b. in_painting c.args.self.now d || b) (outside_spelled c.args.set.now given all d)

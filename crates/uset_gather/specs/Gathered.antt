@@ -1,0 +1,28 @@
+-- Sets by their members, which are code points and strings.
+use Rattle.std.specs.Prelude.{Bool}
+use Rattle.std.specs.BTreeSet.{contains_text}
+use Rattle.cp_invlist.specs.InversionList.{contains}
+use Rattle.cp_strset.specs.StringList.{holds}
+use Rattle.cp_strset.specs.StringSet.{StringSet}
+use Rattle.uset_gather.specs.declared.gathered.Gathered.{Gathered}
+use Rattle.uset_gather.specs.declared.operand.Operand.{Operand}
+use Rattle.uset_gather.specs.declared.operand.Operand.TheVariants.{Gathered as Other, Set, CodePoints, Complement}
+use Rattle.uset_gather.specs.Painting.{in_painting}
+use Rattle.uset_grammar.specs.Tree.{Member, point, string, in_source, negation}
+
+-- the member was gathered
+abbrev pub gathered_in : Gathered → Member → Bool
+gathered_in g (point c) = in_painting g.code_points c
+gathered_in g (string bytes) = contains_text g.strings bytes
+
+-- whether the set has the member
+abbrev pub in_set : StringSet → Member → Bool
+in_set set (point c) = contains set.code_points c
+in_set set (string bytes) = holds set.strings bytes
+
+-- the operand has the member
+abbrev pub operand_in : Operand → Member → Bool
+operand_in (Other g) m = gathered_in g m
+operand_in (Set set) m = in_set set.now m
+operand_in (CodePoints set) m = in_source (contains set.now) m
+operand_in (Complement set) m = negation m (in_source (contains set.now) m)

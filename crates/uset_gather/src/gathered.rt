@@ -1,0 +1,132 @@
+//! What a bracket gathers.
+use crate::operand::Operand;
+use crate::painting::Painting;
+use crate::strings::Strings;
+use cp_invlist::{CodePointRange, NoMemory};
+use cp_strset::CodePointInversionListAndStringList;
+use cp_strset::laws::faultless;
+use std::alloc::Global;
+
+/// A set in the making. A bracket that closes gives it to the one around it, and only that of the outermost
+/// one is made a list.
+#[derive(Drop)]
+pub struct Gathered {
+    code_points: Painting,
+    strings: Strings,
+}
+
+impl Gathered {
+    ghost use Rattle.std.specs.Prelude.{◌≡◌, ◌≤◌, ◌||◌, ◌&&◌, not, false, None, IfOk, OnOk};
+    ghost use Rattle.std.specs.Str.{chars};
+    ghost use Rattle.std.specs.String.{string_bytes};
+    ghost use Rattle.cp_strset.specs.StringList.{sole_of};
+    ghost use Rattle.uset_grammar.specs.Tree.{Member, in_range, is_text, negation};
+    ghost use Rattle.uset_gather.specs.Gathered.{gathered_in, operand_in, in_set};
+
+    /// Nothing yet.
+    pub fn new(alloc: Global) -> Gathered
+        ensures { (m : Member) → gathered_in result m ≡ false }
+    {
+        Gathered {
+            code_points: Painting::new(alloc),
+            strings: Strings::new(alloc),
+        }
+    }
+
+    /// Adds the code points of the range.
+    pub fn add_range(&mut self, range: CodePointRange) -> Result<(), NoMemory>
+        requires { range.end ≤ 0x10_FFFF }
+        ensures { OnOk result ((m : Member) → gathered_in self.new m ≡ (gathered_in self.old m || in_range range.start range.end m)) }
+    {
+        self.code_points.add_range(range)
+    }
+
+    /// Adds a string, which isn't one character.
+    pub fn add_text(&mut self, text: String) -> Result<(), NoMemory>
+        requires { sole_of (chars (string_bytes text)) ≡ None }
+        ensures { OnOk result ((m : Member) → gathered_in self.new m ≡ (gathered_in self.old m || is_text (chars (string_bytes text)) m)) }
+    {
+        self.strings.insert(text)
+    }
+
+    /// Adds the members of the operand.
+    pub fn join(&mut self, operand: Operand<'_>, alloc: Global) -> Result<(), NoMemory>
+        ensures { OnOk result ((m : Member) → gathered_in self.new m ≡ (gathered_in self.old m || operand_in operand.entry m)) }
+    {
+        match operand {
+            Operand::Gathered(other) => {
+                self.code_points.join(other.code_points)?;
+                self.strings.append(other.strings)
+            }
+            Operand::Set(set) => {
+                self.code_points.add_set(set.code_points())?;
+                self.strings.insert_copies(alloc, set)
+            }
+            Operand::CodePoints(set) => self.code_points.add_set(set),
+            Operand::Complement(set) => self.code_points.add_outside(set),
+        }
+    }
+
+    /// Takes the members of the operand away.
+    pub fn remove(&mut self, operand: Operand<'_>) -> Result<(), NoMemory>
+        ensures { OnOk result ((m : Member) → gathered_in self.new m ≡ (gathered_in self.old m && not (operand_in operand.entry m))) }
+    {
+        match operand {
+            Operand::Gathered(other) => {
+                self.strings.remove_all(other.strings);
+                self.code_points.remove(other.code_points)
+            }
+            Operand::Set(set) => {
+                self.strings.remove_listed(set);
+                self.code_points.remove_set(set.code_points())
+            }
+            Operand::CodePoints(set) => self.code_points.remove_set(set),
+            Operand::Complement(set) => self.code_points.retain_set(set),
+        }
+    }
+
+    /// Keeps only the members of the operand.
+    pub fn retain(&mut self, operand: Operand<'_>, alloc: Global) -> Result<(), NoMemory>
+        ensures { OnOk result ((m : Member) → gathered_in self.new m ≡ (gathered_in self.old m && operand_in operand.entry m)) }
+    {
+        match operand {
+            Operand::Gathered(other) => {
+                self.strings.keep_only(other.strings);
+                self.code_points.retain(other.code_points)
+            }
+            Operand::Set(set) => {
+                self.strings.keep_listed(set);
+                self.code_points.retain_set(set.code_points())
+            }
+            Operand::CodePoints(set) => {
+                self.strings = Strings::new(alloc);
+                self.code_points.retain_set(set)
+            }
+            Operand::Complement(set) => {
+                self.strings = Strings::new(alloc);
+                self.code_points.remove_set(set)
+            }
+        }
+    }
+
+    /// Exchanges the members and the other code points, and forgets the strings.
+    pub fn negate(&mut self, alloc: Global)
+        ensures { (m : Member) → gathered_in self.new m ≡ negation m (gathered_in self.old m) }
+    {
+        self.code_points.complement();
+        self.strings = Strings::new(alloc);
+    }
+
+    /// The set of what was gathered.
+    pub fn into_set(self, alloc: Global) -> Result<CodePointInversionListAndStringList, NoMemory>
+        ensures { IfOk result (λ set. (m : Member) → in_set set m ≡ gathered_in self m) }
+    {
+        let code_points = self.code_points.into_set()?;
+        let strings = self.strings.into_list(alloc)?;
+        faultless();
+        let Ok(set) = CodePointInversionListAndStringList::try_from(code_points, strings) else {
+            unreachable!()
+        };
+        Ok(set)
+    }
+}

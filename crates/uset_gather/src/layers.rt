@@ -1,0 +1,156 @@
+//! Layers: what painted ranges make of a set, and how many of them become one.
+ghost use Rattle.std.specs.Prelude.{◌≡◌, ◌≤◌, ℕ, Bool, false, IfOk, OnOk, length, take};
+ghost use Rattle.cp_invlist.specs.InversionList.{contains};
+ghost use Rattle.uset_gather.specs.Painting.{in_changed, AreMembers, IsPutOnto, covered, painted, painted_alike, behind, behind_all};
+
+use crate::painting::PaintedRange;
+use crate::run::Run;
+use cp_invlist::{CodePointInversionList, CodePointInversionListBuilder, NoMemory};
+use std::alloc::Global;
+use std::mem::replace;
+
+/// What some ranges make of a set below: they take `removed` away, and then join `added`.
+#[derive(Drop)]
+pub(crate) struct Layer {
+    removed: CodePointInversionListBuilder,
+    added: CodePointInversionListBuilder,
+    /// How many ranges it was made of.
+    size: usize,
+}
+
+/// The set without one set, and with another.
+fn without_and_with(
+    mut set: CodePointInversionListBuilder,
+    removed: &CodePointInversionList,
+    added: CodePointInversionListBuilder,
+) -> Result<CodePointInversionListBuilder, NoMemory>
+    ensures { IfOk result (λ changed. (c : ℕ) → contains changed c ≡ in_changed set removed.now added c) }
+{
+    let added = added.build();
+    if !removed.is_empty() {
+        set.remove_set(removed)?;
+    }
+    if !added.is_empty() {
+        set.add_set(&added)?;
+    }
+    Ok(set)
+}
+
+/// The layer of both, the upper one over the lower.
+fn over(lower: Layer, upper: Layer) -> Result<Layer, NoMemory>
+    ensures { IfOk result (λ both. (c : ℕ) (b : Bool) → behind both c b ≡ behind upper c (behind lower c b)) }
+{
+    let covered = upper.removed.build();
+    let mut removed = lower.removed;
+    removed.add_set(&covered)?;
+    Ok(Layer {
+        removed,
+        added: without_and_with(lower.added, &covered, upper.added)?,
+        size: lower.size.saturating_add(upper.size),
+    })
+}
+
+/// Puts the layer onto the others. It is merged with the one below as long as that one isn't at least twice
+/// as large: so there are few layers, and each range is merged a logarithm of times.
+fn push(layers: &mut Vec<Layer>, layer: Layer) -> Result<(), NoMemory>
+    ensures { OnOk result (IsPutOnto layers.old.items layer layers.new.items) }
+{
+    let mut top = layer;
+    while let Some(lower) = layers.pop() {
+        if lower.size / 2 >= top.size {
+            layers.push(lower)?;
+            break;
+        }
+        top = over(lower, top)?;
+    }
+    layers.push(top)?;
+    Ok(())
+}
+
+/// The layer of all, the last of them over the others.
+fn merged(mut layers: Vec<Layer>, last: Layer) -> Result<Layer, NoMemory>
+    ensures { IfOk result (λ all. (c : ℕ) (b : Bool) → behind all c b ≡ behind last c (behind_all layers.items c b)) }
+{
+    let mut top = last;
+    while let Some(below) = layers.pop() {
+        top = over(below, top)?;
+    }
+    Ok(top)
+}
+
+/// The layer of ranges that were painted alike.
+fn layer_of(alloc: Global, run: Run, member: bool) -> Result<Layer, NoMemory>
+    ensures { IfOk result (λ layer. (c : ℕ) (b : Bool) → behind layer c b ≡ painted_alike run member c b) }
+{
+    let none = CodePointInversionListBuilder::new(alloc);
+    let size = run.len();
+    let set = run.into_builder()?;
+    Ok(if member {
+        Layer {
+            removed: none,
+            added: set,
+            size,
+        }
+    } else {
+        Layer {
+            removed: set,
+            added: none,
+            size,
+        }
+    })
+}
+
+/// The layer of ranges in the order in which they were painted.
+fn layered(alloc: Global, ranges: &[PaintedRange]) -> Result<Layer, NoMemory>
+    ensures { IfOk result (λ layer. (c : ℕ) (b : Bool) → behind layer c b ≡ painted ranges.now c b) }
+{
+    let mut layers = Vec::new(alloc);
+    let mut run = Run::new(alloc);
+    let mut member = false;
+    for painted in ranges {
+        if painted.member != member {
+            let before = replace(&mut run, Run::new(alloc));
+            push(&mut layers, layer_of(alloc, before, member)?)?;
+            member = painted.member;
+        }
+        run.add_range(painted.range)?;
+    }
+    merged(layers, layer_of(alloc, run, member)?)
+}
+
+/// The set of the code points that the ranges cover.
+fn united(alloc: Global, ranges: &[PaintedRange]) -> Result<CodePointInversionListBuilder, NoMemory>
+    ensures { IfOk result (λ set. (c : ℕ) → contains set c ≡ covered ranges.now c) }
+{
+    let mut run = Run::new(alloc);
+    for painted in ranges {
+        run.add_range(painted.range)?;
+    }
+    run.into_builder()
+}
+
+/// How many ranges at the front are painted as members: all before the first that isn't.
+pub(crate) fn members_in_front(ranges: &[PaintedRange]) -> usize
+    ensures bound { result ≤ length ranges.now }
+    ensures members { AreMembers (take result ranges.now) }
+{
+    for (index, painted) in ranges.iter().enumerate() {
+        if !painted.member {
+            return index;
+        }
+    }
+    ranges.len()
+}
+
+/// The set of ranges in the order in which they were painted. What is painted first needs no layer.
+pub(crate) fn flattened(
+    alloc: Global,
+    ranges: &[PaintedRange],
+) -> Result<CodePointInversionListBuilder, NoMemory>
+    ensures { IfOk result (λ set. (c : ℕ) → contains set c ≡ painted ranges.now c false) }
+{
+    let (front, rest) = ranges.split_at(members_in_front(ranges));
+    let set = united(alloc, front)?;
+    let layer = layered(alloc, rest)?;
+    without_and_with(set, &layer.removed.build(), layer.added)
+}

@@ -1,0 +1,12 @@
+//! Sets with strings in the making: what a bracket of a pattern gathers (UTS 35, Unicode Sets).
+#![tactic(auto)]
+
+mod gathered;
+mod layers;
+mod operand;
+mod painting;
+mod run;
+mod strings;
+
+pub use gathered::Gathered;
+pub use operand::Operand;
