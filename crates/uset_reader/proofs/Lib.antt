@@ -1,0 +1,4 @@
+pub mod BracketLemmas
+pub mod PropertyLemmas
+pub mod UnitLemmas
+pub mod TurnLemmas

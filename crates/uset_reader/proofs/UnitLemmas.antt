@@ -1,0 +1,212 @@
+-- Units that are read.
+use mathlib.Core.Logic.{◌⊎◌}
+use Rattle.std.proofs.Common.{zero, suc, length, Option, Some, None, inl, inr, ◌≡◌, ◌≤◌, ◌<◌, ℕ, Bool, true, false, ◌&&◌, not, nat_lt, All, List, [], ◌∷◌, ◌++◌, refl, sym, ap, ◌∙◌, subst, arith}
+use Rattle.std.specs.Prelude.{◌==◌, is_some}
+use Rattle.std.proofs.lemmas.Bool.{eqb-true}
+use Rattle.std.proofs.lemmas.Bool.Decides.{nat_tests}
+use Rattle.std.specs.Global.{Global}
+use Rattle.std.specs.declared.string.String.{String}
+use Rattle.cp_strset.specs.StringList.{sole_of}
+use Rattle.std.specs.List.{list_all}
+use Rattle.std.specs.Str.{chars}
+use Rattle.std.specs.String.{string_bytes}
+use Rattle.uset_grammar.specs.Text.{Text}
+use Rattle.uset_grammar.specs.Outcome.{Outcome, got, faulty, ended, meaning}
+use Rattle.uset_grammar.specs.Escape.{Spelled, itself, numbers, is_above}
+use Rattle.uset_grammar.specs.EscapeSlips.{in_bracket, fits_in, so_many, allowed, EscapeOutcome}
+use Rattle.uset_grammar.specs.BracedString.{StringOutcome, text_of}
+use Rattle.uset_grammar.specs.Property.{Query, PropertyBegins, PropertyOutcome}
+use Rattle.uset_grammar.specs.Unit.{Meaning, an_escape, a_string, a_property, begins_property, UnitBegins, brace_begins, posix_begins, backslash_begins, UnitOutcome}
+use Rattle.uset_grammar.specs.Item.{Item, chars as item_chars, text as item_text, text_item}
+use Rattle.uset_grammar.specs.Language.{Language, resolves, lacks, property_tree, stands_for}
+use Rattle.uset_grammar.specs.Laws.{KindsTell, UnitsOfKinds}
+use Rattle.uset_gather.specs.declared.operand.Operand.{Operand}
+use Rattle.uset_read.specs.declared.stop.Stop.{Stop}
+use Rattle.uset_read.specs.declared.stop.Stop.TheVariants.{Fault, Ended, NoMemory}
+use Rattle.uset_read.specs.declared.escape.Spelled.{Spelled as CodeSpelled}
+use Rattle.uset_read.specs.declared.escape.Spelled.TheVariants.{Itself, Numbers}
+use Rattle.uset_read.specs.declared.escape.Around.TheVariants.{Bracket}
+use Rattle.uset_read.specs.Spelled.{spelled_seen, spelled_codes, EscapeIs, EscapeStops}
+use Rattle.uset_read.specs.Pieces.{StringIs, StringStops}
+use Rattle.uset_read.specs.UnitRead.{StopsAt}
+use Rattle.uset_reader.specs.declared.syntax.Syntax.{Syntax}
+use Rattle.uset_reader.specs.declared.item.Item.{Item as CodeItem}
+use Rattle.uset_reader.specs.declared.item.Item.TheVariants.{Single, Several, Text as Spelled_text, Set}
+use Rattle.uset_reader.specs.declared.item.Codes.{Codes}
+use Rattle.uset_reader.specs.declared.code_point.CodePoint.{CodePoint}
+use Rattle.uset_reader.specs.Items.{number_of, IsProper}
+use Rattle.uset_reader.specs.Fronts.{no_tree}
+use Rattle.uset_reader.specs.Brackets.{IsItem}
+use Rattle.uset_reader.specs.Syntaxes.{language_seen}
+use Rattle.uset_reader.specs.Units.{begins_with, AreCodePoints, chars_of, IsString, IsEscape, IsProperty, OperandIs, OperandStops, IsReadUnit, UnitIs, UnitStops}
+
+heads : {c d : ℕ} {t u : Text} → c ∷ t ≡ d ∷ u → c ≡ d
+heads h = cc
+
+tails : {c d : ℕ} {t u : Text} → c ∷ t ≡ d ∷ u → t ≡ u
+tails h = cc
+
+-- a stop of one kind of unit is a stop of the unit
+stops_lift : {V : Type 0} (f : V → Meaning) (Is : Outcome V → Type 0) (IsUnit : Outcome Meaning → Type 0) → ((o : Outcome V) → Is o → IsUnit (meaning f o)) → (q : Text) (stop : Stop) →
+    StopsAt Is q stop → StopsAt IsUnit q stop
+stops_lift f Is IsUnit lift q (Fault kind rest) h = (h.0, h.1, lift (faulty _ h.0) h.2)
+stops_lift f Is IsUnit lift q Ended h = lift ended h
+stops_lift f Is IsUnit lift q NoMemory h = tt
+
+-- NUMBERS OF ESCAPES
+and_first : (a b : Bool) → (a && b) ≡ true → a ≡ true
+and_first true b h = refl
+and_first false b h = h
+
+and_second : (a b : Bool) → (a && b) ≡ true → b ≡ true
+and_second true b h = h
+and_second false b h = absurd (let g : false ≡ true = h in cc)
+
+not_above : (n : ℕ) → not (is_above n) ≡ true → n ≤ 0x10FFFF
+unfolding is_above
+not_above n h = by (nat_lt 0x10FFFF n) refl h
+  where
+    by : (x : Bool) → nat_lt 0x10FFFF n ≡ x → not x ≡ true → n ≤ 0x10FFFF
+    by true e h = absurd (let g : false ≡ true = h in cc)
+    by false e h = grind (arith, nat_tests)
+
+all_within : (several : Bool) (ns : List ℕ) → list_all (fits_in (in_bracket several)) ns ≡ true → All (λ n. n ≤ 0x10FFFF) ns
+all_within several [] h i d below = absurd (omega (arith, below))
+all_within several (n ∷ ns) h zero d below = not_above n (and_first (not (is_above n)) (list_all (fits_in (in_bracket several)) ns) h)
+all_within several (n ∷ ns) h (suc i) d below = all_within several ns (and_second (not (is_above n)) (list_all (fits_in (in_bracket several)) ns) h) i d (omega (arith, below))
+
+allowed_within : (several : Bool) (spelled : CodeSpelled) → allowed (in_bracket several) (spelled_seen spelled) ≡ true → AreCodePoints spelled
+allowed_within several (Itself c) h = tt
+allowed_within several (Numbers first more) h = all_within several (first ∷ more.items) (and_first (list_all (fits_in (in_bracket several)) (first ∷ more.items)) (so_many (in_bracket several) (first ∷ more.items)) h)
+
+-- ITEMS
+pub single_item : (c : CodePoint) (n : ℕ) → number_of c ≡ n → IsItem (Single c) (item_chars (n ∷ []))
+single_item c n e = record { tree = no_tree; same = tt; is = ap (λ z. item_chars (z ∷ [])) (sym e) }
+
+pub one_item : (c : CodePoint) (n : ℕ) (more : List ℕ) → number_of c ≡ n → more ≡ [] → IsItem (Single c) (item_chars (n ∷ more))
+one_item c n more e none = subst (λ ns. IsItem (Single c) (item_chars (n ∷ ns))) (sym none) (single_item c n e)
+
+pub several_item : (codes : Codes) → IsItem (Several codes) (item_chars (codes.first ∷ codes.more.items))
+several_item codes = record { tree = no_tree; same = tt; is = refl }
+
+empty_is : {A : Type 0} (xs : List A) → length xs ≡ 0 → xs ≡ []
+empty_is [] h = refl
+empty_is (x ∷ xs) h = absurd (omega (arith, h))
+
+pub none_left : (xs ys : List ℕ) (b : Bool) → ys ≡ xs → b ≡ (length ys == 0) → b ≡ true → xs ≡ []
+none_left xs ys b same is h = empty_is xs (eqb-true (length xs) 0 (sym (is ∙ ap (λ zs. length zs == 0) same) ∙ h))
+
+sole_text : (t : Text) (c : ℕ) → sole_of t ≡ Some c → text_item t ≡ item_chars (c ∷ [])
+sole_text [] c h = absurd (let g = h in cc)
+sole_text (d ∷ []) c h = let g : d ≡ c = cc in ap (λ z. item_chars (z ∷ [])) g
+sole_text (d ∷ e ∷ t) c h = absurd (let g = h in cc)
+
+other_text : (t : Text) → sole_of t ≡ None → text_item t ≡ item_text t
+other_text [] h = refl
+other_text (d ∷ []) h = absurd (let g = h in cc)
+other_text (d ∷ e ∷ t) h = refl
+
+pub sole_item : (c : CodePoint) (t : Text) (d : ℕ) → sole_of t ≡ Some d → number_of c ≡ d → IsItem (Single c) (text_item t)
+sole_item c t d h e = subst (IsItem (Single c)) (sym (sole_text t d h)) (single_item c d e)
+
+pub string_item : (s : String Global) → sole_of (chars (string_bytes s)) ≡ None → IsItem (Spelled_text s) (text_item (chars (string_bytes s)))
+string_item s h = record { tree = no_tree; same = tt; is = other_text (chars (string_bytes s)) h }
+
+pub none_kept : (o : Option ℕ) → not (is_some o) ≡ true → o ≡ None
+none_kept None h = refl
+none_kept (Some c) h = absurd (let g : false ≡ true = h in cc)
+
+-- a copy of a string
+pub copied_item : (s : String Global) (bytes : List ℕ) → string_bytes s ≡ bytes → IsItem (Spelled_text s) (item_text (chars bytes))
+copied_item s bytes e = record { tree = no_tree; same = tt; is = ap (λ bs. item_text (chars bs)) (sym e) }
+
+-- UNITS
+module _ (s : Syntax) (kinds : KindsTell) (several : Bool) (text : List ℕ) where
+  abbrev l : Language
+  l = language_seen s
+
+  abbrev Outcomes : Text → Outcome Meaning → Type 0
+  Outcomes = UnitOutcome l.white_space several (resolves l) (lacks l)
+
+  abbrev units : UnitsOfKinds l.white_space several (resolves l) (lacks l)
+  units = kinds l.white_space s.apart s.letter several (resolves l) (lacks l)
+
+  of_string : (inner : Text) → chars text ≡ 0x7B ∷ inner → (o : Outcome (List Spelled)) → StringOutcome l.white_space (chars text) o → Outcomes (chars text) (meaning a_string o)
+  of_string inner e o h = subst (λ z. Outcomes z (meaning a_string o)) (sym e) (units.strings inner o (subst (λ z. StringOutcome l.white_space z o) e h))
+
+  pub string_read : IsString (chars text) → (string rest : List ℕ) (item : CodeItem) → StringIs s.white_space.now text string rest → IsItem item (text_item (chars string)) → IsProper item → UnitIs l several text item rest
+  string_read begins string rest item h is proper b =
+      let found = h s.apart begins.inner begins.parts in record {
+        unit = a_string found.0;
+        outcome = of_string begins.inner begins.parts (got found.0 (chars rest)) found.1;
+        item_is = subst (λ t. IsItem item (text_item t)) found.2 is;
+        proper = proper;
+      }
+
+  pub string_stops : IsString (chars text) → (stop : Stop) → StringStops s.white_space.now text stop → UnitStops l several text stop
+  string_stops begins stop h b =
+      stops_lift a_string (StringOutcome l.white_space (chars text)) (Outcomes (chars text)) (of_string begins.inner begins.parts) (chars text) stop (h s.apart begins.inner begins.parts)
+
+  -- the character behind the backslash
+  letter_of : (inner : Text) → chars text ≡ 0x5C ∷ inner → begins_with begins_property inner ≡ false → UnitBegins (chars text) → (d : ℕ) × (t : Text) × (chars text ≡ 0x5C ∷ d ∷ t) × (begins_property d ≡ false)
+  letter_of inner e other b = by (chars text) refl b
+    where
+      by : (q : Text) → chars text ≡ q → UnitBegins q → (d : ℕ) × (t : Text) × (chars text ≡ 0x5C ∷ d ∷ t) × (begins_property d ≡ false)
+      by _ is brace_begins = absurd (let g : ◌≡◌ {A = ℕ} 0x7B 0x5C = heads (sym is ∙ e) in omega (arith, g))
+      by _ is posix_begins = absurd (let g : ◌≡◌ {A = ℕ} 0x5B 0x5C = heads (sym is ∙ e) in omega (arith, g))
+      by _ is (backslash_begins {d} {t}) = (d, t, is, ap (begins_with begins_property) (tails (sym is ∙ e)) ∙ other)
+
+  of_escape : (d : ℕ) (t : Text) → chars text ≡ 0x5C ∷ d ∷ t → begins_property d ≡ false → (o : Outcome Spelled) → EscapeOutcome l.white_space (in_bracket several) (chars text) o →
+      Outcomes (chars text) (meaning an_escape o)
+  of_escape d t e other o h = subst (λ z. Outcomes z (meaning an_escape o)) (sym e) (units.escapes d t o other (subst (λ z. EscapeOutcome l.white_space (in_bracket several) z o) e h))
+
+  pub escape_within : IsEscape (chars text) → (spelled : CodeSpelled) (rest : List ℕ) → EscapeIs s.white_space.now (Bracket several) text spelled rest → AreCodePoints spelled
+  escape_within begins spelled rest h =
+      let found = h s.apart begins.inner begins.parts in
+      allowed_within several spelled ((found.reads (spelled_seen spelled) (chars rest)).0 refl).fits
+
+  pub escape_read : IsEscape (chars text) → (spelled : CodeSpelled) (rest : List ℕ) (item : CodeItem) → EscapeIs s.white_space.now (Bracket several) text spelled rest → IsItem item (chars_of spelled) → IsProper item →
+      UnitIs l several text item rest
+  escape_read begins spelled rest item h is proper b =
+      let letter = letter_of begins.inner begins.parts begins.no_property b in record {
+        unit = an_escape (spelled_seen spelled);
+        outcome = of_escape letter.0 letter.1 letter.2 letter.3 (got (spelled_seen spelled) (chars rest)) (h s.apart begins.inner begins.parts);
+        item_is = is;
+        proper = proper;
+      }
+
+  pub escape_stops : IsEscape (chars text) → (stop : Stop) → EscapeStops s.white_space.now (Bracket several) text stop → UnitStops l several text stop
+  escape_stops begins stop h b =
+      let letter = letter_of begins.inner begins.parts begins.no_property b in
+      stops_lift an_escape (EscapeOutcome l.white_space (in_bracket several) (chars text)) (Outcomes (chars text)) (of_escape letter.0 letter.1 letter.2 letter.3) (chars text) stop
+      (h s.apart begins.inner begins.parts)
+
+  property_begins : UnitBegins (chars text) → IsProperty (chars text) → PropertyBegins (chars text)
+  property_begins b other = by (chars text) refl b
+    where
+      by : (q : Text) → chars text ≡ q → UnitBegins q → PropertyBegins (chars text)
+      by _ is (brace_begins {t}) = absurd (other.no_string t is)
+      by _ is (posix_begins {t}) = (t, inl is)
+      by _ is (backslash_begins {d} {t}) = (d ∷ t, inr is)
+
+  of_property : UnitBegins (chars text) → IsProperty (chars text) → (o : Outcome Query) → PropertyOutcome l.white_space (resolves l) (lacks l) (chars text) o → Outcomes (chars text) (meaning a_property o)
+  of_property b other o h = by (chars text) refl b
+    where
+      by : (q : Text) → chars text ≡ q → UnitBegins q → Outcomes (chars text) (meaning a_property o)
+      by _ is (brace_begins {t}) = absurd (other.no_string t is)
+      by _ is (posix_begins {t}) = subst (λ z. Outcomes z (meaning a_property o)) (sym is) (units.posix_properties (0x3A ∷ t) o (subst (λ z. PropertyOutcome l.white_space (resolves l) (lacks l) z o) is h))
+      by _ is (backslash_begins {d} {t}) =
+          subst (λ z. Outcomes z (meaning a_property o)) (sym is) (units.perl_properties d t o (other.no_escape d t is) (subst (λ z. PropertyOutcome l.white_space (resolves l) (lacks l) z o) is h))
+
+  pub property_read : IsProperty (chars text) → (operand : Operand) (rest : List ℕ) → OperandIs l text operand rest → UnitIs l several text (Set operand) rest
+  property_read other operand rest h b =
+      let found = h (property_begins b other) in record {
+        unit = a_property found.query;
+        outcome = of_property b other (got found.query (chars rest)) found.outcome;
+        item_is = record { tree = property_tree l found.query; same = found.members; is = refl };
+        proper = tt;
+      }
+
+  pub property_stops : IsProperty (chars text) → (stop : Stop) → OperandStops l text stop → UnitStops l several text stop
+  property_stops other stop h b =
+      stops_lift a_property (PropertyOutcome l.white_space (resolves l) (lacks l) (chars text)) (Outcomes (chars text)) (of_property b other) (chars text) stop (h (property_begins b other))

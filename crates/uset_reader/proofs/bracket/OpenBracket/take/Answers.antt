@@ -1,0 +1,20 @@
+use Rattle.std.proofs.Common.{Some, None, refl, ap, ◌∙◌}
+use Rattle.uset_grammar.specs.Arranging.{next}
+use Rattle.uset_reader.specs.Items.{item_seen, awaits_seen, range_steps, own_steps, Arranges}
+use Rattle.uset_reader.proofs.BracketLemmas.{took, refused, not_arranged, becomes_then}
+use Rattle.uset_reader.proofs.bracket.OpenBracket.take.Goals as goal
+
+pub returns-in_default : goal.returns-in_default
+returns-in_default c = λ o i s item.
+    let old = c.args.self.now in
+    let none = not_arranged (item_seen item.tree c.args.item) (next (awaits_seen old.awaits) (item_seen item.tree c.args.item)) (c.in_default.ensures.arranged item.tree) in
+    rw item.is (refused c.arranging.ensures old old o (item_seen item.tree c.args.item) c.refusal.result none (c.refusal.ensures item.tree) s)
+
+pub returns : goal.returns
+returns c = λ o i s item.
+    let old = c.args.self.now in
+    let arranged = c.in-Some.arranged in
+    let is = item_seen item.tree c.args.item in
+    rw item.is (took c.arranging.ensures old _ o is arranged (next (awaits_seen old.awaits) is) refl (c.in-Some.ensures.arranged item.tree) refl
+        (c.gather.ensures.same.opening ∙ c.add_front.ensures.same.opening) (c.gather.ensures.same.before ∙ c.add_front.ensures.same.before)
+        (becomes_then old.gathered c.add_front.new.self.gathered c.gather.new.self.gathered (range_steps arranged.adds) (own_steps arranged.operation is) c.in_ok-add_front.ensures.becomes (c.in_ok-gather.ensures.becomes item.tree item.same)) s)

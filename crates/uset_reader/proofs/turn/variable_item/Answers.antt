@@ -1,0 +1,16 @@
+use Rattle.std.proofs.Common.{ap, sym, ◌∙◌}
+use Rattle.std.specs.Str.{chars}
+use Rattle.cp_strset.specs.StringList.{sole_of}
+use Rattle.uset_reader.proofs.UnitLemmas.{single_item, copied_item, none_kept}
+use Rattle.uset_reader.proofs.turn.variable_item.Goals as goal
+
+pub returns-in-Char-clause-item : goal.returns-in-Char-clause-item
+returns-in-Char-clause-item c = rw c.in-Char.is (single_item c.from_char.result c.in-Char.c c.from_char.ensures)
+
+pub returns-in_ok-from_str-in-String-clause-item : goal.returns-in_ok-from_str-in-String-clause-item
+returns-in_ok-from_str-in-String-clause-item c =
+    rw c.in-String.is (copied_item c.in_ok-from_str-in-String.field-0 _ (c.in_ok-from_str-in-String.ensures.ok ∙ c.as_str.ensures))
+
+pub returns-in_ok-from_str-in-String-clause-proper : goal.returns-in_ok-from_str-in-String-clause-proper
+returns-in_ok-from_str-in-String-clause-proper c =
+    ap (λ bs. sole_of (chars bs)) (c.in_ok-from_str-in-String.ensures.ok ∙ c.as_str.ensures) ∙ none_kept _ (rw c.in-String.is at c.requires)

@@ -1,0 +1,102 @@
+-- The open brackets of the code as those of the grammar, and what becomes of an item.
+use Rattle.std.specs.Prelude.{◌≡◌, ◌≤◌, ℕ, Bool, true, false, List, [], ◌∷◌, ◌++◌, reverse, Option, Some, None, if◌then◌else◌}
+use Rattle.uset_grammar.specs.Text.{Text}
+use Rattle.uset_grammar.specs.Tree.{Tree, Member, has, Steps, gathers, leading_hyphen, negation}
+use Rattle.uset_grammar.specs.Item.{Item, nested, Opening, tree_of}
+use Rattle.uset_grammar.specs.Arranging.{Awaits, element, stuck, on, next, went, run, fit, ending, arrange}
+use Rattle.uset_grammar.specs.Reached.{OpenBracket, with_item}
+use Rattle.uset_grammar.specs.Place.{size}
+use Rattle.uset_grammar.specs.Turn.{greatest, reversed_code}
+use Rattle.uset_gather.specs.declared.gathered.Gathered.{Gathered}
+use Rattle.uset_gather.specs.Gathered.{gathered_in}
+use Rattle.uset_reader.specs.declared.bracket.Opening.{Opening as CodeOpening}
+use Rattle.uset_reader.specs.declared.bracket.OpenBracket.{OpenBracket as CodeBracket}
+use Rattle.uset_reader.specs.declared.bracket.Taken.{Taken}
+use Rattle.uset_reader.specs.declared.bracket.Taken.TheVariants.{Fits, Reversed, Unfit}
+use Rattle.uset_reader.specs.declared.item.Item.{Item as CodeItem}
+use Rattle.uset_reader.specs.Items.{number_of, item_seen, IsTreeOf, awaits_seen}
+
+abbrev pub opening_seen : CodeOpening → Opening
+opening_seen o = record { negated = o.negated; leading = o.leading }
+
+-- The set is what the steps make of another: whatever steps follow.
+abbrev pub Becomes : Gathered → (Steps → Steps) → Gathered → Type 0
+Becomes old steps new = (rest : Steps) (m : Member) → gathers (steps rest) m (gathered_in old m) ≡ gathers rest m (gathered_in new m)
+
+-- What the code keeps of an open bracket: what it begins with and where, what is awaited behind its items, and what
+-- they gather.
+pub record Stands (b : CodeBracket) (o : OpenBracket) : Type 0 where
+  pub header : o.header ≡ opening_seen b.opening
+  pub before : b.before ≡ size o.before
+  pub steps : Steps → Steps
+  pub awaited : run element o.items ≡ on (awaits_seen b.awaits) steps
+  pub gathered : (rest : Steps) (m : Member) →
+      gathers (steps rest) m (leading_hyphen o.header.leading m) ≡ gathers rest m (gathered_in b.gathered m)
+
+-- what was gathered alone has changed
+pub record KeepsFrame (old new : CodeBracket) : Type 0 where
+  pub opening : new.opening ≡ old.opening
+  pub before : new.before ≡ old.before
+  pub awaits : new.awaits ≡ old.awaits
+
+-- how an item is refused behind what is awaited: it ends a reversed range where the greatest code point would fit
+abbrev pub Refuses : Awaits → Item → Taken → Type 0
+Refuses s i Fits = ⊥
+Refuses s i (Reversed c) = next s i ≡ stuck → reversed_code i (went (next s greatest)) ≡ Some (number_of c)
+Refuses s i Unfit = next s i ≡ stuck → reversed_code i (went (next s greatest)) ≡ None
+
+-- a bracket of which nothing was read but what it begins with
+abbrev pub begun : Text → CodeOpening → OpenBracket
+begun before opening = record { before = before; header = opening_seen opening; items = [] }
+
+-- an item of the grammar that the item of the code is
+pub record IsItem (item : CodeItem) (i : Item) : Type 0 where
+  pub tree : Tree
+  pub same : IsTreeOf item tree
+  pub is : i ≡ item_seen tree item
+
+-- the item fits, and was taken
+pub record Took (old new : CodeBracket) (o : OpenBracket) (i : Item) : Type 0 where
+  pub fits : fit (o.items ++ i ∷ []) ≡ true
+  pub stands : Stands new (with_item o i)
+
+-- the item doesn't fit, and ends a reversed range with this code or none
+pub record Refused (o : OpenBracket) (i : Item) (code : Option ℕ) : Type 0 where
+  pub unfit : fit (o.items ++ i ∷ []) ≡ false
+  pub reversed : reversed_code i (fit (o.items ++ greatest ∷ [])) ≡ code
+
+abbrev pub Became : CodeBracket → Taken → CodeBracket → OpenBracket → Item → Type 0
+Became old Fits new o i = Took old new o i
+Became old (Reversed c) new o i = Refused o i (Some (number_of c))
+Became old Unfit new o i = Refused o i None
+
+-- what became of the item, for every bracket that the code's stands for
+abbrev pub Takes : CodeBracket → CodeItem → Taken → CodeBracket → Type 0
+Takes old item taken new = (o : OpenBracket) (i : Item) → Stands old o → IsItem item i → Became old taken new o i
+
+-- a bracket without items that begins so
+abbrev pub IsBegun : CodeOpening → ℕ → CodeBracket → Type 0
+IsBegun opening place b = (before : Text) → place ≡ size before → Stands b (begun before opening)
+
+-- whether a `]` fits, and what is gathered then
+abbrev pub EndedAs : Option Steps → Gathered → Gathered → Bool → Type 0
+EndedAs None old new ends = ends ≡ false
+EndedAs (Some last) old new ends = (ends ≡ true) × ((m : Member) → gathers last m (gathered_in old m) ≡ gathered_in new m)
+
+-- whether something is a member of a bracket, from whether it was gathered
+abbrev pub finished : Bool → Member → Bool → Bool
+finished negated m b = if negated then negation m b else b
+
+-- the set is that of the bracket, whose items are arranged to these steps
+pub record Closed (o : OpenBracket) (set : Gathered) : Type 0 where
+  pub steps : Steps
+  pub arranged : arrange o.items ≡ Some steps
+  pub members : (m : Member) → gathered_in set m ≡ has (tree_of o.header steps) m
+
+abbrev pub ClosedAs : Option Gathered → OpenBracket → Type 0
+ClosedAs None o = arrange o.items ≡ None
+ClosedAs (Some set) o = Closed o set
+
+-- how a bracket closes, for every one that the code's stands for
+abbrev pub Closes : CodeBracket → Option Gathered → Type 0
+Closes b set = (o : OpenBracket) → Stands b o → ClosedAs set o

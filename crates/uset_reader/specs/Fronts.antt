@@ -1,0 +1,49 @@
+-- What stands in front, as the code has it.
+use Rattle.std.specs.Prelude.{◌≡◌, ◌<◌, ℕ, Bool, false, length, List}
+use Rattle.std.specs.Str.{chars}
+use Rattle.uset_grammar.specs.Tree.{Tree, given}
+use Rattle.uset_grammar.specs.Front.{Front, nothing, closing, opening, single, of_name, begins_unit, caret, First, too_short, stray, bare, of_variable, of_bracket, of_property}
+use Rattle.uset_reader.specs.declared.front.Front.{Front as CodeFront}
+use Rattle.uset_reader.specs.declared.front.Front.TheVariants.{Nothing, Closing, Opening, Single, Name, Unit as BeginsUnit, Caret}
+use Rattle.uset_reader.specs.declared.front.First.{First as CodeFirst}
+use Rattle.uset_reader.specs.declared.front.First.TheVariants.{TooShort, Stray, Bare, Variable, Bracket, Property}
+use Rattle.uset_reader.specs.Items.{item_seen, IsProper}
+use Rattle.uset_reader.specs.Brackets.{opening_seen}
+
+abbrev pub no_tree : Tree
+no_tree = given (λ m. false)
+
+abbrev pub front_seen : CodeFront → Front
+front_seen Nothing = nothing
+front_seen (Closing rest) = closing (chars rest.now)
+front_seen (Opening o inner) = opening (opening_seen o) (chars inner.now)
+front_seen (Single item rest) = single (item_seen no_tree item) (chars rest.now)
+front_seen (Name name rest) = of_name (chars name.now) (chars rest.now)
+front_seen BeginsUnit = begins_unit
+front_seen Caret = caret
+
+abbrev pub first_seen : CodeFirst → First
+first_seen TooShort = too_short
+first_seen (Stray c) = stray c
+first_seen Bare = bare
+first_seen (Variable name rest) = of_variable (chars name.now) (chars rest.now)
+first_seen (Bracket o inner) = of_bracket (opening_seen o) (chars inner.now)
+first_seen Property = of_property
+
+-- what stands behind the front is less than the text
+abbrev pub IsBehindFront : CodeFront → List ℕ → Type 0
+IsBehindFront Nothing text = Unit {0}
+IsBehindFront (Closing rest) text = length rest.now < length text
+IsBehindFront (Opening o inner) text = length inner.now < length text
+IsBehindFront (Single item rest) text = IsProper item × length rest.now < length text
+IsBehindFront (Name name rest) text = length rest.now < length text
+IsBehindFront BeginsUnit text = Unit {0}
+IsBehindFront Caret text = Unit {0}
+
+abbrev pub IsBehindFirst : CodeFirst → List ℕ → Type 0
+IsBehindFirst TooShort text = Unit {0}
+IsBehindFirst (Stray c) text = Unit {0}
+IsBehindFirst Bare text = Unit {0}
+IsBehindFirst (Variable name rest) text = length rest.now < length text
+IsBehindFirst (Bracket o inner) text = length inner.now < length text
+IsBehindFirst Property text = Unit {0}

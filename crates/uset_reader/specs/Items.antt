@@ -1,0 +1,102 @@
+-- The items of the code as those of the grammar, and how it arranges them.
+use Rattle.std.specs.Prelude.{◌≡◌, ◌≢◌, ◌≤◌, ℕ, Bool, All, List, [], ◌∷◌, Option, Some, None, is_some}
+use Rattle.std.specs.Str.{chars as characters}
+use Rattle.std.specs.String.{string_bytes}
+use Rattle.cp_invlist.specs.declared.ranges.CodePointRange.{CodePointRange}
+use Rattle.cp_strset.specs.StringList.{sole_of}
+use Rattle.uset_grammar.specs.Tree.{Tree, has, Member, Steps, add, add_text, join, remove, keep}
+use Rattle.uset_grammar.specs.Item.{Item, chars, text, nested, minus, ampersand, dollar}
+use Rattle.uset_grammar.specs.Body.{add_each}
+use Rattle.uset_grammar.specs.Arranging.{Awaits, element, after_single, range_end, hyphen_end, anchor_end, after_set, remove_or_end, keep_set, Next, stuck, on}
+use Rattle.uset_gather.specs.declared.operand.Operand.{Operand}
+use Rattle.uset_gather.specs.Gathered.{operand_in}
+use Rattle.uset_reader.specs.declared.code_point.CodePoint.{CodePoint}
+use Rattle.uset_reader.specs.declared.item.Codes.{Codes}
+use Rattle.uset_reader.specs.declared.item.Item.{Item as CodeItem}
+use Rattle.uset_reader.specs.declared.item.Item.TheVariants.{Minus, Ampersand, Dollar, Single, Several, Text as Spelled, Set}
+use Rattle.uset_reader.specs.declared.arrange.Awaits.{Awaits as CodeAwaits}
+use Rattle.uset_reader.specs.declared.arrange.Awaits.TheVariants.{Element, AfterSingle, RangeEnd, End, AnchorEnd, AfterSet, RemoveOrEnd, Keep}
+use Rattle.uset_reader.specs.declared.arrange.Operation.{Operation}
+use Rattle.uset_reader.specs.declared.arrange.Operation.TheVariants.{Join, Remove, Retain}
+use Rattle.uset_reader.specs.declared.arrange.Arranged.{Arranged}
+
+-- the number of a code point
+abbrev pub number_of : CodePoint → ℕ
+number_of c = c.number
+
+-- an item as the grammar has it, where a set is this tree
+abbrev pub item_seen : Tree → CodeItem → Item
+item_seen tree Minus = minus
+item_seen tree Ampersand = ampersand
+item_seen tree Dollar = dollar
+item_seen tree (Single c) = chars (number_of c ∷ [])
+item_seen tree (Several codes) = chars (codes.first ∷ codes.more.items)
+item_seen tree (Spelled t) = text (characters (string_bytes t))
+item_seen tree (Set operand) = nested tree
+
+-- the tree has the members of the operand
+abbrev pub IsOperand : Operand → Tree → Type 0
+IsOperand operand tree = (m : Member) → has tree m ≡ operand_in operand m
+
+-- where the item is a set, the tree has its members
+abbrev pub IsTreeOf : CodeItem → Tree → Type 0
+IsTreeOf (Set operand) tree = IsOperand operand tree
+IsTreeOf Minus tree = Unit {0}
+IsTreeOf Ampersand tree = Unit {0}
+IsTreeOf Dollar tree = Unit {0}
+IsTreeOf (Single c) tree = Unit {0}
+IsTreeOf (Several codes) tree = Unit {0}
+IsTreeOf (Spelled t) tree = Unit {0}
+
+-- a string isn't one character, and codes are code points
+abbrev pub IsProper : CodeItem → Type 0
+IsProper (Spelled t) = sole_of (characters (string_bytes t)) ≡ None
+IsProper (Several codes) = All (λ n. n ≤ 0x10FFFF) (codes.first ∷ codes.more.items)
+IsProper (Set operand) = Unit {0}
+IsProper Minus = Unit {0}
+IsProper Ampersand = Unit {0}
+IsProper Dollar = Unit {0}
+IsProper (Single c) = Unit {0}
+
+-- what is awaited, as the grammar has it
+abbrev pub awaits_seen : CodeAwaits → Awaits
+awaits_seen Element = element
+awaits_seen (AfterSingle c) = after_single (number_of c)
+awaits_seen (RangeEnd c) = range_end (number_of c)
+awaits_seen End = hyphen_end
+awaits_seen AnchorEnd = anchor_end
+awaits_seen AfterSet = after_set
+awaits_seen RemoveOrEnd = remove_or_end
+awaits_seen Keep = keep_set
+
+-- the steps of an operation
+abbrev pub operated : Operation → Tree → Steps → Steps
+operated Join tree steps = join tree steps
+operated Remove tree steps = remove tree steps
+operated Retain tree steps = keep tree steps
+
+-- the steps of an item by itself; a single character adds nothing before it is known to begin no range
+abbrev pub own_steps : Operation → Item → Steps → Steps
+own_steps operation (chars []) steps = steps
+own_steps operation (chars (c ∷ [])) steps = steps
+own_steps operation (chars (c ∷ d ∷ cs)) steps = add_each (c ∷ d ∷ cs) steps
+own_steps operation (text t) steps = add_text t steps
+own_steps operation (nested tree) steps = operated operation tree steps
+own_steps operation minus steps = steps
+own_steps operation ampersand steps = steps
+own_steps operation dollar steps = steps
+
+abbrev pub range_steps : Option CodePointRange → Steps → Steps
+range_steps None steps = steps
+range_steps (Some range) steps = add range.start range.end steps
+
+-- what becomes of an item in steps
+abbrev pub arranged_steps : Arranged → Item → Steps → Steps
+arranged_steps a i steps = range_steps a.adds (own_steps a.operation i steps)
+
+-- the item is refused, or arranged so
+abbrev pub Arranges : Next → Item → Option Arranged → Type 0
+Arranges stuck i None = Unit {0}
+Arranges (on s f) i (Some a) = (s ≡ awaits_seen a.awaits) × ((steps : Steps) → f steps ≡ arranged_steps a i steps)
+Arranges stuck i (Some a) = ⊥
+Arranges (on s f) i None = ⊥

@@ -1,0 +1,10 @@
+pub mod Items
+pub mod Brackets
+pub mod Values
+pub mod Variables
+pub mod Resolution
+pub mod Syntaxes
+pub mod Fronts
+pub mod Units
+pub mod Faults
+pub mod Turns

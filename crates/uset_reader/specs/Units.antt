@@ -1,0 +1,93 @@
+-- What is read where a unit begins, as an item of the code.
+use Rattle.std.specs.Prelude.{◌≡◌, ◌≤◌, ℕ, Bool, true, false, All, List, [], ◌∷◌, Option}
+use Prim.Native.Char.{code}
+use Rattle.std.specs.Str.{chars}
+use Rattle.prop_data.specs.Tables.{Tables}
+use Rattle.uset_grammar.specs.Text.{Text}
+use Rattle.uset_grammar.specs.Outcome.{got}
+use Rattle.uset_grammar.specs.Property.{Query, PropertyBegins, PropertyOutcome}
+use Rattle.uset_grammar.specs.Unit.{Meaning, begins_property, UnitBegins, UnitOutcome}
+use Rattle.uset_grammar.specs.Item.{Item, chars as item_chars}
+use Rattle.uset_grammar.specs.Language.{Resolved, Language, resolves, lacks, property_tree, stands_for}
+use Rattle.uset_gather.specs.declared.operand.Operand.{Operand}
+use Rattle.uset_read.specs.declared.stop.Stop.{Stop}
+use Rattle.uset_read.specs.declared.escape.Spelled.{Spelled}
+use Rattle.uset_read.specs.declared.escape.Spelled.TheVariants.{Itself, Numbers}
+use Rattle.uset_read.specs.Spelled.{spelled_codes}
+use Rattle.uset_read.specs.UnitRead.{StopsAt}
+use Rattle.uset_reader.specs.declared.item.Item.{Item as CodeItem}
+use Rattle.uset_reader.specs.declared.unit.UnitKind.{UnitKind}
+use Rattle.uset_reader.specs.declared.unit.UnitKind.TheVariants.{String as AString, Escape as AnEscape, Property as AProperty}
+use Rattle.uset_reader.specs.Resolution.{resolve, lacking}
+use Rattle.uset_reader.specs.Items.{IsOperand, IsProper}
+use Rattle.uset_reader.specs.Brackets.{IsItem}
+
+abbrev pub resolved_by : Tables → Query → Option Resolved
+resolved_by tables q = resolve tables q.key q.value
+
+abbrev pub lacked_by : Query → Bool
+lacked_by q = lacking q.key q.value
+
+-- the property at the front of the bytes has this set
+pub record IsRead (l : Language) (text : List ℕ) (operand : Operand) (rest : List ℕ) : Type 0 where
+  pub query : Query
+  pub outcome : PropertyOutcome l.white_space (resolves l) (lacks l) (chars text) (got query (chars rest))
+  pub members : IsOperand operand (property_tree l query)
+
+abbrev pub OperandIs : Language → List ℕ → Operand → List ℕ → Type 0
+OperandIs l text operand rest = PropertyBegins (chars text) → IsRead l text operand rest
+
+-- the property there stops so
+abbrev pub OperandStops : Language → List ℕ → Stop → Type 0
+OperandStops l text stop =
+    PropertyBegins (chars text) → StopsAt (PropertyOutcome l.white_space (resolves l) (lacks l) (chars text)) (chars text) stop
+
+-- the unit at the front of the bytes is this item
+pub record IsReadUnit (l : Language) (several : Bool) (text : List ℕ) (item : CodeItem) (rest : List ℕ) : Type 0 where
+  pub unit : Meaning
+  pub outcome : UnitOutcome l.white_space several (resolves l) (lacks l) (chars text) (got unit (chars rest))
+  pub item_is : IsItem item (stands_for l unit)
+  pub proper : IsProper item
+
+abbrev pub UnitIs : Language → Bool → List ℕ → CodeItem → List ℕ → Type 0
+UnitIs l several text item rest = UnitBegins (chars text) → IsReadUnit l several text item rest
+
+abbrev pub UnitStops : Language → Bool → List ℕ → Stop → Type 0
+UnitStops l several text stop =
+    UnitBegins (chars text) →
+    StopsAt (UnitOutcome l.white_space several (resolves l) (lacks l) (chars text)) (chars text) stop
+
+-- the first character passes the test
+abbrev pub begins_with : (ℕ → Bool) → Text → Bool
+begins_with test [] = false
+begins_with test (c ∷ t) = test c
+
+-- a string begins
+pub record IsString (t : Text) : Type 0 where
+  pub inner : Text
+  pub parts : t ≡ code "{" ∷ inner
+
+-- an escape begins, and no property
+pub record IsEscape (t : Text) : Type 0 where
+  pub inner : Text
+  pub parts : t ≡ code "\\" ∷ inner
+  pub no_property : begins_with begins_property inner ≡ false
+
+-- neither begins
+pub record IsProperty (t : Text) : Type 0 where
+  pub no_string : (inner : Text) → t ≡ code "{" ∷ inner → ⊥
+  pub no_escape : (d : ℕ) (inner : Text) → t ≡ code "\\" ∷ d ∷ inner → begins_property d ≡ true
+
+abbrev pub IsOfKind : UnitKind → Text → Type 0
+IsOfKind AString t = IsString t
+IsOfKind AnEscape t = IsEscape t
+IsOfKind AProperty t = IsProperty t
+
+-- an escape's numbers are code points
+abbrev pub AreCodePoints : Spelled → Type 0
+AreCodePoints (Itself c) = Unit {0}
+AreCodePoints (Numbers first more) = All (λ n. n ≤ 0x10FFFF) (first ∷ more.items)
+
+-- what it spells, as an item
+abbrev pub chars_of : Spelled → Item
+chars_of spelled = item_chars (spelled_codes spelled)

@@ -1,0 +1,16 @@
+-- Variables: what a name is bound to (UTS 35, Unicode Sets).
+use Rattle.std.specs.Prelude.{ℕ, List, Option, option_map, encode_utf8_all}
+use Rattle.std.specs.BTreeMap.{get_by_text}
+use Rattle.uset_grammar.specs.Text.{Text}
+use Rattle.uset_grammar.specs.Language.{Value}
+use Rattle.uset_reader.specs.declared.variable.VariableValue.{VariableValue}
+use Rattle.uset_reader.specs.declared.variables.VariableMap.{VariableMap}
+use Rattle.uset_reader.specs.Values.{value_seen}
+
+-- what the name with these bytes is bound to
+abbrev pub bound : VariableMap → List ℕ → Option VariableValue
+bound map name = get_by_text map.values name
+
+-- what each name is bound to
+abbrev pub variables_of : VariableMap → Text → Option Value
+variables_of map name = option_map value_seen (bound map (encode_utf8_all name))

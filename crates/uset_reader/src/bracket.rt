@@ -1,0 +1,248 @@
+//! An open bracket.
+ghost use Rattle.std.specs.Prelude.{◌≡◌, IfOk};
+ghost use Rattle.uset_grammar.specs.Tree.{Member, leading_hyphen};
+ghost use Rattle.uset_gather.specs.Gathered.{gathered_in};
+
+use crate::arrange::{Awaits, Operation, arranged_behind};
+use crate::code_point::CodePoint;
+use crate::item::Item;
+use cp_invlist::{CodePointRange, NoMemory};
+use std::alloc::Global;
+use std::mem::replace;
+use uset_gather::{Gathered, Operand};
+use uset_grammar::laws::arranging;
+
+/// The range of the hyphen alone.
+const HYPHEN: CodePointRange = CodePointRange {
+    start: 0x2D,
+    end: 0x2D,
+};
+
+/// The range of U+FFFF alone, for which a `$` at the end stands.
+const ANCHOR: CodePointRange = CodePointRange {
+    start: 0xFFFF,
+    end: 0xFFFF,
+};
+
+/// What a bracket begins with.
+#[derive(Clone, Copy)]
+pub(crate) struct Opening {
+    /// Whether the bracket is negated.
+    pub(crate) negated: bool,
+    /// Whether a hyphen is its first member.
+    pub(crate) leading: bool,
+}
+
+/// A bracket whose closing `]` is still to come.
+#[derive(Drop)]
+pub(crate) struct OpenBracket {
+    gathered: Gathered,
+    opening: Opening,
+    awaits: Awaits,
+    /// The number of bytes of the source before the bracket.
+    pub(crate) before: usize,
+}
+
+/// What became of an item.
+#[derive(Clone, Copy)]
+pub(crate) enum Taken {
+    /// It was taken.
+    Fits,
+    /// It ends a range that is reversed, with this code point.
+    Reversed(CodePoint),
+    /// It doesn't fit.
+    Unfit,
+}
+
+/// What a bracket has gathered in front of its items: a hyphen, where one is its first member.
+fn first_gathered(alloc: Global, leading: bool) -> Result<Gathered, NoMemory>
+    ensures { IfOk result (λ g. (m : Member) → gathered_in g m ≡ leading_hyphen leading m) }
+{
+    let mut gathered = Gathered::new(alloc);
+    if !leading {
+        return Ok(gathered);
+    }
+    gathered.add_range(HYPHEN)?;
+    Ok(gathered)
+}
+
+impl OpenBracket {
+    ghost use Rattle.std.specs.Prelude.{◌≡◌, ◌≤◌, ℕ, ◌∷◌, [], All, IfOk, IfSome, OnOk};
+    ghost use Rattle.uset_grammar.specs.Tree.{Tree, Member, add};
+    ghost use Rattle.uset_grammar.specs.Body.{add_each};
+    ghost use Rattle.uset_grammar.specs.Arranging.{went, next, ending};
+    ghost use Rattle.uset_grammar.specs.Turn.{two};
+    ghost use Rattle.uset_gather.specs.Gathered.{gathered_in};
+    ghost use Rattle.uset_reader.specs.Items.{number_of, awaits_seen, item_seen, own_steps, range_steps, operated, IsProper, IsTreeOf, IsOperand};
+    ghost use Rattle.uset_reader.specs.Brackets.{Becomes, IsBegun, Takes, Closes, Refuses, KeepsFrame, EndedAs, finished};
+
+    /// A bracket behind what it begins with.
+    pub(crate) fn open(
+        alloc: Global,
+        opening: Opening,
+        before: usize,
+    ) -> Result<OpenBracket, NoMemory>
+        ensures { IfOk result (IsBegun opening before) }
+    {
+        Ok(OpenBracket {
+            gathered: first_gathered(alloc, opening.leading)?,
+            opening,
+            awaits: Awaits::Element,
+            before,
+        })
+    }
+
+    /// Whether an escape of several numbers fits.
+    pub(crate) fn fits_several(&self) -> bool
+        ensures { result ≡ went (next (awaits_seen self.now.awaits) two) }
+    {
+        match self.awaits {
+            Awaits::Element | Awaits::AfterSingle(_) | Awaits::AfterSet => true,
+            _ => false,
+        }
+    }
+
+    /// Takes an item, where it fits.
+    pub(crate) fn take(&mut self, alloc: Global, item: Item<'_>) -> Result<Taken, NoMemory>
+        requires { IsProper item }
+        ensures { IfOk result (λ taken. Takes self.old item.entry taken self.new) }
+    {
+        arranging();
+        let Some(arranged) = arranged_behind(self.awaits, &item) else {
+            return Ok(self.refusal(&item));
+        };
+        self.add_front(arranged.adds)?;
+        self.gather(alloc, arranged.operation, item)?;
+        self.awaits = arranged.awaits;
+        Ok(Taken::Fits)
+    }
+
+    /// Adds the range, where there is one.
+    fn add_front(&mut self, range: Option<CodePointRange>) -> Result<(), NoMemory>
+        requires { IfSome range (λ r. r.end ≤ 0x10FFFF) }
+        ensures becomes { OnOk result (Becomes self.old.gathered (range_steps range) self.new.gathered) }
+        ensures same { KeepsFrame self.old self.new }
+    {
+        match range {
+            Some(range) => self.gathered.add_range(range),
+            None => Ok(()),
+        }
+    }
+
+    /// How an item doesn't fit.
+    fn refusal(&self, item: &Item<'_>) -> Taken
+        ensures { (tree : Tree) → Refuses (awaits_seen self.now.awaits) (item_seen tree item.now) result }
+    {
+        match (self.awaits, item) {
+            (Awaits::RangeEnd(_), Item::Single(c)) => Taken::Reversed(*c),
+            _ => Taken::Unfit,
+        }
+    }
+
+    /// Gathers what the item adds by itself.
+    fn gather(
+        &mut self,
+        alloc: Global,
+        operation: Operation,
+        item: Item<'_>,
+    ) -> Result<(), NoMemory>
+        requires { IsProper item }
+        ensures becomes { OnOk result ((tree : Tree) → IsTreeOf item.entry tree → Becomes self.old.gathered (own_steps operation (item_seen tree item.entry)) self.new.gathered) }
+        ensures same { KeepsFrame self.old self.new }
+    {
+        match item {
+            Item::Several(codes) => self.add_each(codes.first, &codes.more),
+            Item::Text(text) => self.gathered.add_text(text),
+            Item::Set(operand) => self.gather_set(alloc, operation, operand),
+            Item::Minus | Item::Ampersand | Item::Dollar | Item::Single(_) => Ok(()),
+        }
+    }
+
+    fn gather_set(
+        &mut self,
+        alloc: Global,
+        operation: Operation,
+        operand: Operand<'_>,
+    ) -> Result<(), NoMemory>
+        ensures becomes { OnOk result ((tree : Tree) → IsOperand operand.entry tree → Becomes self.old.gathered (operated operation tree) self.new.gathered) }
+        ensures same { KeepsFrame self.old self.new }
+    {
+        match operation {
+            Operation::Join => self.gathered.join(operand, alloc),
+            Operation::Remove => self.gathered.remove(operand),
+            Operation::Retain => self.gathered.retain(operand, alloc),
+        }
+    }
+
+    /// Adds each of the code points.
+    fn add_each(&mut self, first: u32, more: &[u32]) -> Result<(), NoMemory>
+        requires { All (λ n. n ≤ 0x10FFFF) (first ∷ more.now) }
+        ensures becomes { OnOk result (Becomes self.old.gathered (add_each (first ∷ more.now)) self.new.gathered) }
+        ensures same { KeepsFrame self.old self.new }
+    {
+        self.add(first, first)?;
+        for number in more {
+            self.add(*number, *number)?;
+        }
+        Ok(())
+    }
+
+    fn add(&mut self, first: u32, last: u32) -> Result<(), NoMemory>
+        requires { last ≤ 0x10FFFF }
+        ensures becomes { OnOk result (Becomes self.old.gathered (add first last) self.new.gathered) }
+        ensures same { KeepsFrame self.old self.new }
+    {
+        self.gathered.add_range(CodePointRange {
+            start: first,
+            end: last,
+        })
+    }
+
+    fn add_single(&mut self, c: CodePoint) -> Result<(), NoMemory>
+        ensures becomes { OnOk result (Becomes self.old.gathered (add (number_of c) (number_of c)) self.new.gathered) }
+        ensures same { KeepsFrame self.old self.new }
+    {
+        self.add(c.number(), c.number())
+    }
+
+    /// Adds what is left standing for itself in front of a `]`. The answer says whether a `]` fits.
+    fn add_last(&mut self) -> Result<bool, NoMemory>
+        ensures ended { IfOk result (EndedAs (ending (awaits_seen self.old.awaits)) self.old.gathered self.new.gathered) }
+        ensures same { KeepsFrame self.old self.new }
+    {
+        match self.awaits {
+            Awaits::Element | Awaits::AfterSet => {}
+            Awaits::AfterSingle(first) => self.add_single(first)?,
+            Awaits::RangeEnd(first) => {
+                self.add_single(first)?;
+                self.gathered.add_range(HYPHEN)?;
+            }
+            Awaits::End | Awaits::RemoveOrEnd => self.gathered.add_range(HYPHEN)?,
+            Awaits::AnchorEnd => self.gathered.add_range(ANCHOR)?,
+            Awaits::Keep => return Ok(false),
+        }
+        Ok(true)
+    }
+
+    /// Exchanges the members and the other code points, where the bracket is negated.
+    fn finish(&mut self, alloc: Global)
+        ensures members { (m : Member) → gathered_in self.new.gathered m ≡ finished self.old.opening.negated m (gathered_in self.old.gathered m) }
+        ensures place { self.new.before ≡ self.old.before }
+    {
+        if self.opening.negated {
+            self.gathered.negate(alloc);
+        }
+    }
+
+    /// Takes `]`. The answer is the bracket's set, which is moved out, and `None` where no `]` fits.
+    pub(crate) fn close(&mut self, alloc: Global) -> Result<Option<Gathered>, NoMemory>
+        ensures set { IfOk result (Closes self.old) }
+        ensures place { self.new.before ≡ self.old.before }
+    {
+        if !self.add_last()? {
+            return Ok(None);
+        }
+        self.finish(alloc);
+        Ok(Some(replace(&mut self.gathered, Gathered::new(alloc))))
+    }
+}

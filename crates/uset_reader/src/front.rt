@@ -1,0 +1,135 @@
+//! What stands in front of a text.
+ghost use Rattle.std.specs.Prelude.{◌≡◌, ◌≤◌, ◌<◌, length, IfSome, MatchOption};
+ghost use Rattle.std.specs.Str.{chars};
+ghost use Rattle.uset_grammar.specs.Text.{optional_code};
+ghost use Rattle.uset_grammar.specs.Front.{front, first, header, begins_unit, opening, bracket_or_unit};
+ghost use Rattle.uset_grammar.specs.Reached.{is_short};
+ghost use Rattle.uset_reader.specs.Brackets.{opening_seen};
+ghost use Rattle.uset_reader.specs.Syntaxes.{language_seen};
+ghost use Rattle.uset_reader.specs.Fronts.{front_seen, first_seen, IsBehindFront, IsBehindFirst};
+
+use crate::bracket::Opening;
+use crate::code_point::CodePoint;
+use crate::item::Item;
+use crate::syntax::Syntax;
+use uset_read::{read_name, skip_white_space, split_first};
+
+/// What stands in front of a text in a bracket.
+#[derive(Drop)]
+pub(crate) enum Front<'a> {
+    Nothing,
+    /// A `]`, and the text behind it.
+    Closing(&'a str),
+    /// A bracket with what it begins with, and the text behind that.
+    Opening(Opening, &'a str),
+    /// An item of one character, and the text behind it.
+    Single(Item<'a>, &'a str),
+    /// A name behind a `$`, and the text behind the name.
+    Name(&'a str, &'a str),
+    /// An escape, a string or a property.
+    Unit,
+    /// A `^`, which is no item.
+    Caret,
+}
+
+/// What a source begins with.
+#[derive(Clone, Copy)]
+pub(crate) enum First<'a> {
+    /// Nothing, or a `$` alone.
+    TooShort,
+    /// A character that begins no set.
+    Stray(char),
+    /// A `$` without a name.
+    Bare,
+    /// A name behind a `$`, and the text behind the name.
+    Variable(&'a str, &'a str),
+    /// A bracket with what it begins with, and the text behind that.
+    Bracket(Opening, &'a str),
+    /// A property.
+    Property,
+}
+
+/// Whether nothing is left, or one last character other than `]`.
+pub(crate) fn is_short(text: &str) -> bool
+    ensures { result ≡ is_short (chars text.now) }
+{
+    match split_first(text) {
+        Some((first, rest)) => first != ']' && split_first(rest).is_none(),
+        None => true,
+    }
+}
+
+/// What stands in front of the text, white space aside, that is the rest of a bracket.
+#[tactic(auto, unfolding(uset_grammar::specs::Front::sign))]
+pub(crate) fn look_ahead<'a>(syntax: &Syntax<'_>, text: &'a str) -> Front<'a>
+    ensures front { front_seen result ≡ front (language_seen syntax.now) (chars text.now) }
+    ensures behind { IsBehindFront result text.now }
+{
+    let Some((first, rest)) = split_first(text) else {
+        return Front::Nothing;
+    };
+    match first {
+        '[' => match read_opening(syntax, rest) {
+            Some((opening, inner)) => Front::Opening(opening, inner),
+            None => Front::Unit,
+        },
+        ']' => Front::Closing(rest),
+        '-' => Front::Single(Item::Minus, rest),
+        '&' => Front::Single(Item::Ampersand, rest),
+        '$' => match read_name(syntax.start, syntax.continuing, rest) {
+            Some((name, behind)) => Front::Name(name, behind),
+            None => Front::Single(Item::Dollar, rest),
+        },
+        '\\' | '{' => Front::Unit,
+        '^' => Front::Caret,
+        _ => Front::Single(Item::Single(CodePoint::from_char(first)), rest),
+    }
+}
+
+/// What the source begins with.
+#[tactic(auto, unfolding(uset_grammar::specs::Front::sign))]
+pub(crate) fn look_at_first<'a>(syntax: &Syntax<'_>, source: &'a str) -> First<'a>
+    ensures first { first_seen result ≡ first (language_seen syntax.now) (chars source.now) }
+    ensures behind { IsBehindFirst result source.now }
+{
+    let Some((first, rest)) = split_first(source) else {
+        return First::TooShort;
+    };
+    match first {
+        '[' => match read_opening(syntax, rest) {
+            Some((opening, inner)) => First::Bracket(opening, inner),
+            None => First::Property,
+        },
+        '$' => match read_name(syntax.start, syntax.continuing, rest) {
+            Some((name, behind)) => First::Variable(name, behind),
+            None if split_first(rest).is_none() => First::TooShort,
+            None => First::Bare,
+        },
+        '\\' => First::Property,
+        _ => First::Stray(first),
+    }
+}
+
+/// Reads what stands behind the `[` of a bracket and in front of its items. `None` where a `:` follows at once.
+fn read_opening<'a>(syntax: &Syntax<'_>, text: &'a str) -> Option<(Opening, &'a str)>
+    ensures parts { MatchOption result (bracket_or_unit (language_seen syntax.now) (chars text.now) ≡ begins_unit) (λ p. bracket_or_unit (language_seen syntax.now) (chars text.now) ≡ opening (opening_seen p.0) (chars p.1.now)) }
+    ensures within { IfSome result (λ p. length p.1.now ≤ length text.now) }
+{
+    if let Some((':', _)) = split_first(text) {
+        return None;
+    }
+    let (negated, inner) = strip_optional(text, '^');
+    let (leading, inner) = strip_optional(skip_white_space(syntax.white_space, inner), '-');
+    Some((Opening { negated, leading }, inner))
+}
+
+/// Whether the character is the first, and the text without it there.
+fn strip_optional(text: &str, c: char) -> (bool, &str)
+    ensures parts { (result.0, chars result.1.now) ≡ optional_code c (chars text.now) }
+    ensures within { length result.1.now ≤ length text.now }
+{
+    match split_first(text) {
+        Some((first, rest)) if first == c => (true, rest),
+        _ => (false, text),
+    }
+}

@@ -1,0 +1,32 @@
+//! The items of a bracket.
+ghost use Rattle.std.specs.Prelude.{◌≢◌, []};
+
+use crate::code_point::CodePoint;
+use uset_gather::Operand;
+
+/// The code points of an escape of several numbers: the first, and those behind it.
+#[derive(Drop)]
+pub(crate) struct Codes {
+    pub(crate) first: u32,
+    pub(crate) more: Vec<u32>,
+    ghost several: { more.items ≢ [] },
+}
+
+/// An item of a bracket.
+#[derive(Drop)]
+pub(crate) enum Item<'a> {
+    /// `-`
+    Minus,
+    /// `&`
+    Ampersand,
+    /// `$` that begins no name.
+    Dollar,
+    /// A single character: a character, an escape, a string or a variable of one.
+    Single(CodePoint),
+    /// An escape of several numbers.
+    Several(Codes),
+    /// A string that isn't one character.
+    Text(String),
+    /// A set: a property, or a variable that is bound to one.
+    Set(Operand<'a>),
+}

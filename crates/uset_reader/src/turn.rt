@@ -1,0 +1,237 @@
+//! One turn of the reader: what stands in front in the innermost bracket.
+ghost use Rattle.std.specs.Prelude.{◌≡◌, ◌≤◌, ◌<◌, length, IfOk, true};
+ghost use Rattle.std.specs.Str.{chars};
+ghost use Rattle.uset_read.specs.Cursors.{source_of, left_of};
+ghost use Rattle.uset_reader.specs.Items.{IsProper};
+ghost use Rattle.uset_reader.specs.Syntaxes.{language_seen};
+ghost use Rattle.uset_grammar.specs.Item.{Item as GrammarItem};
+ghost use Rattle.uset_grammar.specs.Language.{item_of};
+ghost use Rattle.uset_reader.specs.Brackets.{IsItem};
+ghost use Rattle.uset_reader.specs.Values.{is_kept, value_seen};
+ghost use Rattle.uset_reader.specs.Turns.{Turns, IsShorter, IsUnfit, TakesAs, TakesVariable, TakesUnit, is_nested, Opens, ClosesAs};
+
+use crate::bracket::{OpenBracket, Opening, Taken};
+use crate::code_point::CodePoint;
+use crate::error::{ParseError, ParseErrorKind};
+use crate::fault::{fault_at, fault_before, stopped};
+use crate::front::{Front, is_short, look_ahead};
+use crate::item::Item;
+use crate::syntax::Syntax;
+use crate::unit::read_unit;
+use crate::variable::VariableValue;
+use cp_invlist::NoMemory;
+use std::alloc::Global;
+use std::mem::replace;
+use uset_gather::{Gathered, Operand};
+use uset_grammar::laws;
+use uset_read::{Cursor, skip_white_space, split_first};
+
+/// What a turn made of the open brackets.
+#[derive(Drop)]
+pub(crate) enum Progress<'a> {
+    /// A bracket is still open, in front of this rest.
+    GoesOn(&'a str),
+    /// The outermost bracket was closed, with this set and in front of this rest.
+    Done(Gathered, &'a str),
+}
+
+/// How an item is written.
+#[derive(Clone, Copy)]
+enum Sort {
+    /// As itself.
+    Written,
+    /// As a variable.
+    Variable,
+}
+
+/// The fault of an item that stands at the front of the text, up to the rest, and doesn't fit.
+fn unfit(cursor: Cursor<'_>, sort: Sort, text: &str, rest: &str) -> ParseError
+    requires within { length text.now ≤ length (left_of cursor) }
+    requires behind { length rest.now < length (left_of cursor) }
+    ensures { IsUnfit cursor.entry sort text.now rest.now result }
+{
+    laws::turns();
+    match (sort, split_first(text)) {
+        (Sort::Variable, _) => fault_before(cursor, ParseErrorKind::UnexpectedVariable, rest),
+        (Sort::Written, Some((c, _))) => fault_at(cursor, ParseErrorKind::UnexpectedChar(c), text),
+        (Sort::Written, None) => ParseErrorKind::Eof.into(),
+    }
+}
+
+/// Takes an item that stands at the front of the text, up to the rest.
+fn take<'a>(
+    alloc: Global,
+    cursor: Cursor<'a>,
+    bracket: &mut OpenBracket,
+    sort: Sort,
+    item: Item<'_>,
+    text: &'a str,
+    rest: &'a str,
+) -> Result<Progress<'a>, ParseError>
+    requires proper { IsProper item }
+    requires within { length text.now ≤ length (left_of cursor) }
+    requires behind { length rest.now < length (left_of cursor) }
+    ensures takes { TakesAs (source_of cursor.entry) bracket.old item.entry sort text.now rest.now bracket.new result }
+    ensures shorter { IfOk result (λ p. IsShorter p (left_of cursor.entry)) }
+{
+    laws::turns();
+    match bracket.take(alloc, item)? {
+        Taken::Fits => Ok(Progress::GoesOn(rest)),
+        Taken::Reversed(last) => {
+            let kind = ParseErrorKind::UnexpectedChar(last.as_character());
+            Err(fault_before(cursor, kind, rest))
+        }
+        Taken::Unfit => Err(unfit(cursor, sort, text, rest)),
+    }
+}
+
+/// The item that a variable stands for.
+fn variable_item<'v>(alloc: Global, value: &'v VariableValue) -> Result<Item<'v>, NoMemory>
+    requires { is_kept value.now ≡ true }
+    ensures item { IfOk result (λ item. IsItem item (item_of (value_seen value.now))) }
+    ensures proper { IfOk result IsProper }
+{
+    match value {
+        VariableValue::Char(c) => Ok(Item::Single(CodePoint::from_char(*c))),
+        VariableValue::String(s) => Ok(Item::Text(String::from_str(alloc, s.as_str())?)),
+        VariableValue::UnicodeSet(set) => Ok(Item::Set(Operand::Set(set))),
+    }
+}
+
+/// Takes the variable of this name, which stands at the front of the text, up to the rest.
+fn take_variable<'a>(
+    alloc: Global,
+    syntax: &Syntax<'_>,
+    cursor: Cursor<'a>,
+    bracket: &mut OpenBracket,
+    name: &str,
+    text: &'a str,
+    rest: &'a str,
+) -> Result<Progress<'a>, ParseError>
+    requires within { length text.now ≤ length (left_of cursor) }
+    requires behind { length rest.now < length (left_of cursor) }
+    ensures takes { TakesVariable (language_seen syntax.now) (source_of cursor.entry) bracket.old name.now text.now rest.now bracket.new result }
+    ensures shorter { IfOk result (λ p. IsShorter p (left_of cursor.entry)) }
+{
+    laws::turns();
+    let Some(value) = syntax.variables.get(name) else {
+        return Err(fault_before(cursor, ParseErrorKind::UnknownVariable, rest));
+    };
+    let item = variable_item(alloc, value)?;
+    take(alloc, cursor, bracket, Sort::Variable, item, text, rest)
+}
+
+/// Whether the item is a set.
+fn is_set(item: &Item<'_>) -> bool
+    ensures { (i : GrammarItem) → IsItem item.now i → result ≡ is_nested i }
+{
+    match item {
+        Item::Set(_) => true,
+        _ => false,
+    }
+}
+
+/// Takes the escape, the string or the property at the front of the text.
+fn take_unit<'a>(
+    alloc: Global,
+    syntax: &Syntax<'_>,
+    cursor: Cursor<'a>,
+    bracket: &mut OpenBracket,
+    text: &'a str,
+) -> Result<Progress<'a>, ParseError>
+    requires within { length text.now ≤ length (left_of cursor) }
+    ensures takes { TakesUnit (language_seen syntax.now) (source_of cursor.entry) bracket.old text.now bracket.new result }
+    ensures shorter { IfOk result (λ p. IsShorter p (left_of cursor.entry)) }
+{
+    laws::arranging();
+    laws::turns();
+    let (item, rest) = match read_unit(alloc, syntax, bracket.fits_several(), text) {
+        Ok(read) => read,
+        Err(stop) => return Err(stopped(cursor, stop)),
+    };
+    if is_set(&item) && rest.is_empty() {
+        return Err(ParseErrorKind::Eof.into());
+    }
+    take(alloc, cursor, bracket, Sort::Written, item, text, rest)
+}
+
+/// Opens a bracket inside the innermost one, at the front of the text.
+fn open<'a>(
+    alloc: Global,
+    cursor: Cursor<'a>,
+    outer: &mut Vec<OpenBracket>,
+    bracket: &mut OpenBracket,
+    opening: Opening,
+    text: &'a str,
+    inner: &'a str,
+) -> Result<Progress<'a>, ParseError>
+    requires within { length text.now ≤ length (left_of cursor) }
+    requires behind { length inner.now < length (left_of cursor) }
+    ensures opens { Opens (source_of cursor.entry) outer.old.items bracket.old opening text.now inner.now outer.new.items bracket.new result }
+    ensures shorter { IfOk result (λ p. IsShorter p (left_of cursor.entry)) }
+{
+    laws::turns();
+    let opened = OpenBracket::open(alloc, opening, cursor.at(text).offset())?;
+    outer.push(replace(bracket, opened))?;
+    Ok(Progress::GoesOn(inner))
+}
+
+/// Closes the innermost bracket, with a `]` at the front of the text and in front of the rest, and gives its set to the
+/// bracket around it.
+fn close<'a>(
+    alloc: Global,
+    cursor: Cursor<'a>,
+    outer: &mut Vec<OpenBracket>,
+    bracket: &mut OpenBracket,
+    text: &'a str,
+    rest: &'a str,
+) -> Result<Progress<'a>, ParseError>
+    requires within { length text.now ≤ length (left_of cursor) }
+    requires behind { length rest.now < length (left_of cursor) }
+    ensures closes { ClosesAs (source_of cursor.entry) outer.old.items bracket.old text.now rest.now outer.new.items bracket.new result }
+    ensures shorter { IfOk result (λ p. IsShorter p (left_of cursor.entry)) }
+{
+    laws::turns();
+    let Some(set) = bracket.close(alloc)? else {
+        return Err(fault_at(cursor, ParseErrorKind::UnexpectedChar(']'), text));
+    };
+    let Some(around) = outer.pop() else {
+        return Ok(Progress::Done(set, rest));
+    };
+    if rest.is_empty() {
+        return Err(ParseErrorKind::Eof.into());
+    }
+    let before = bracket.before;
+    *bracket = around;
+    match bracket.take(alloc, Item::Set(Operand::Gathered(set)))? {
+        Taken::Fits => Ok(Progress::GoesOn(rest)),
+        _ => Err(ParseError::at(ParseErrorKind::UnexpectedChar('['), before)),
+    }
+}
+
+/// Reads what stands in front of what is left, white space aside, in the innermost bracket.
+pub(crate) fn turn<'a>(
+    alloc: Global,
+    syntax: &Syntax<'_>,
+    cursor: Cursor<'a>,
+    outer: &mut Vec<OpenBracket>,
+    bracket: &mut OpenBracket,
+) -> Result<Progress<'a>, ParseError>
+    ensures turns { Turns (language_seen syntax.now) (source_of cursor.entry) (left_of cursor.entry) outer.old.items bracket.old outer.new.items bracket.new result }
+    ensures shorter { IfOk result (λ p. IsShorter p (left_of cursor.entry)) }
+{
+    laws::turns();
+    let text = skip_white_space(syntax.white_space, cursor.rest());
+    if is_short(text) {
+        return Err(ParseErrorKind::Eof.into());
+    }
+    match look_ahead(syntax, text) {
+        Front::Nothing => Err(ParseErrorKind::Eof.into()),
+        Front::Caret => Err(fault_at(cursor, ParseErrorKind::UnexpectedChar('^'), text)),
+        Front::Closing(rest) => close(alloc, cursor, outer, bracket, text, rest),
+        Front::Opening(opening, inner) => open(alloc, cursor, outer, bracket, opening, text, inner),
+        Front::Single(item, rest) => take(alloc, cursor, bracket, Sort::Written, item, text, rest),
+        Front::Name(name, rest) => take_variable(alloc, syntax, cursor, bracket, name, text, rest),
+        Front::Unit => take_unit(alloc, syntax, cursor, bracket, text),
+    }
+}
