@@ -298,6 +298,36 @@ fn long_and_short_names_are_found(rt: HostRuntime) -> Result<(), Fail> {
 }
 
 #[test]
+fn a_copy_of_names_answers_alike(rt: HostRuntime) -> Result<(), Fail> {
+    let database = PropertyDatabase::from_text(rt.alloc(), "names Script\n25 La_tn\nend")?;
+    let names = database.names(NamesTable::SCRIPT).ok_or("no table")?;
+    let copy = names.copy(rt.alloc())?;
+    assert_eq!(rt; copy.get_strict_u16(b"La_tn"), Some(25));
+    assert_eq!(rt; copy.get_loose_u16(b"LATN"), Some(25));
+    Ok(())
+}
+
+#[test]
+fn a_copy_of_long_names_answers_alike(rt: HostRuntime) -> Result<(), Fail> {
+    let database = PropertyDatabase::from_text(rt.alloc(), "long Script\n25 Latin\nend")?;
+    let names = database.long_linear(MapTable::SCRIPT).ok_or("no table")?;
+    let copy = names.copy(rt.alloc())?;
+    assert_eq!(rt; copy.get(25), Some("Latin"));
+    Ok(())
+}
+
+#[test]
+fn a_copy_of_names_kept_apart_answers_alike(rt: HostRuntime) -> Result<(), Fail> {
+    let text = "long Canonical_Combining_Class\n230 Above\nshort Script\n25 Latn\nend";
+    let database = PropertyDatabase::from_text(rt.alloc(), text)?;
+    let above = database.long_ccc().ok_or("no table")?.copy(rt.alloc())?;
+    assert_eq!(rt; above.get(230), Some("Above"));
+    let subtags = database.short_script().ok_or("no table")?.copy(rt.alloc())?;
+    assert_eq!(rt; subtags.get(25), Some("Latn"));
+    Ok(())
+}
+
+#[test]
 fn names_by_number_may_be_absent(rt: HostRuntime) -> Result<(), Fail> {
     let database = PropertyDatabase::from_text(rt.alloc(), "long Block\nend")?;
     assert!(rt; database.long_ccc().is_none());

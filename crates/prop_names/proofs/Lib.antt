@@ -1,3 +1,4 @@
 pub mod SearchLemmas
 pub mod NamesLemmas
+pub mod CopyLemmas
 mod Examples

@@ -41,6 +41,15 @@ impl NameList {
         })
     }
 
+    /// The same names.
+    pub(crate) fn copy(&self, alloc: Global) -> Result<NameList, NoMemory>
+        ensures { IfOk result (λ list. list ≡ self.now) }
+    {
+        Ok(NameList {
+            rows: copy_of(alloc, &self.rows)?,
+        })
+    }
+
     /// The value of the name.
     pub(crate) fn get(&self, name: &[u8]) -> Option<u16>
         ensures { result ≡ lookup (bytes_eq name.now) self.now }
@@ -71,4 +80,15 @@ fn rows_of(alloc: Global, map: BTreeMap<String, u16>) -> Result<Vec<(String, u16
     ensures ordered { IsStrictlySortedBy string_cmp (keys_of map.entries) }
 {
     Ok(map.into_iter().collect(alloc)?)
+}
+
+/// The same rows.
+fn copy_of(alloc: Global, rows: &[(String, u16)]) -> Result<Vec<(String, u16)>, NoMemory>
+    ensures { IfOk result (λ copy. texts copy.items ≡ texts rows.now) }
+{
+    let mut copy = Vec::new(alloc);
+    for (name, value) in rows {
+        copy.push((name.clone()?, *value))?;
+    }
+    Ok(copy)
 }

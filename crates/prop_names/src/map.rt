@@ -5,6 +5,8 @@ ghost use Rattle.std.specs.Str.{bytes_eq};
 ghost use Rattle.prop_names.specs.Names.{exact, loose, value_of_folding};
 
 use crate::list::NameList;
+use cp_invlist::NoMemory;
+use std::alloc::Global;
 use std::marker::Model;
 
 /// The values of a property by their names. A contract sees it as the names with the numbers of their values, in the
@@ -35,6 +37,16 @@ impl PropertyValueNameToEnumMap {
         ensures { result ≡ names }
     {
         PropertyValueNameToEnumMap { names, foldings }
+    }
+
+    /// The same names.
+    pub fn copy(&self, alloc: Global) -> Result<PropertyValueNameToEnumMap, NoMemory>
+        ensures { IfOk result (λ table. table ≡ self.now) }
+    {
+        Ok(PropertyValueNameToEnumMap {
+            names: self.names.copy(alloc)?,
+            foldings: self.foldings.copy(alloc)?,
+        })
     }
 
     /// The number of the value with this name, compared byte for byte.

@@ -1,10 +1,12 @@
 //! The tables that find the name of a value.
-ghost use Rattle.std.specs.Prelude.{◌≡◌, ℕ, List, Option, option_and_then, map};
+ghost use Rattle.std.specs.Prelude.{◌≡◌, ℕ, List, Option, option_and_then, map, IfOk};
 ghost use Rattle.std.specs.Option.{option_copied};
 ghost use Rattle.std.specs.String.{string_bytes};
 
-use crate::texts::{listed, ordered};
+use crate::texts::{copy_listed, copy_ordered, listed, ordered};
+use cp_invlist::NoMemory;
 use prop_values::Subtag;
+use std::alloc::Global;
 use std::collections::BTreeMap;
 
 /// A table of names by the numbers of the values.
@@ -15,6 +17,12 @@ pub trait PropertyEnumToValueNameLookup {
     /// The name of the value with this number.
     fn get(&self, prop: u32) -> Option<&str>
         ensures { option_copied result ≡ name_of self.now prop };
+
+    /// The same names.
+    fn copy(&self, alloc: Global) -> Result<Self, NoMemory>
+    where
+        Self: Sized,
+        ensures { IfOk result (λ table. (n : ℕ) → name_of table n ≡ name_of self.now n) };
 }
 
 /// Names by number: as a list, where an empty text is none, or in the order of the numbers that have one.
@@ -64,6 +72,14 @@ impl PropertyEnumToValueNameLookup for PropertyEnumToValueNameLinearMap {
             LinearNames::Ordered(names) => ordered(names, prop),
         }
     }
+
+    fn copy(&self, alloc: Global) -> Result<PropertyEnumToValueNameLinearMap, NoMemory> {
+        let names = match &self.names {
+            LinearNames::Listed(names) => LinearNames::Listed(copy_listed(alloc, names)?),
+            LinearNames::Ordered(names) => LinearNames::Ordered(copy_ordered(names)?),
+        };
+        Ok(PropertyEnumToValueNameLinearMap { names })
+    }
 }
 
 /// The names of values of which few have one.
@@ -91,6 +107,12 @@ impl PropertyEnumToValueNameLookup for PropertyEnumToValueNameSparseMap {
 
     fn get(&self, prop: u32) -> Option<&str> {
         ordered(&self.names, prop)
+    }
+
+    fn copy(&self, _alloc: Global) -> Result<PropertyEnumToValueNameSparseMap, NoMemory> {
+        Ok(PropertyEnumToValueNameSparseMap {
+            names: copy_ordered(&self.names)?,
+        })
     }
 }
 
@@ -126,5 +148,11 @@ impl PropertyEnumToValueNameLookup for PropertyScriptToIcuScriptMap {
 
     fn get(&self, prop: u32) -> Option<&str> {
         ordered(&self.subtags, prop)
+    }
+
+    fn copy(&self, _alloc: Global) -> Result<PropertyScriptToIcuScriptMap, NoMemory> {
+        Ok(PropertyScriptToIcuScriptMap {
+            subtags: copy_ordered(&self.subtags)?,
+        })
     }
 }

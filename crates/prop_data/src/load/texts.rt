@@ -102,7 +102,8 @@ impl OpenTexts {
     fn keep(&mut self, value: u32, name: String) -> Result<(), NoMemory>
         ensures table { self.new.table ≡ self.old.table }
         ensures length { self.new.length ≡ self.old.length }
-        ensures texts { OnOk result ((n : ℕ) → text_at self.new.texts n ≡ (if nat_eq value n then Some (string_bytes name) else text_at self.old.texts n)) }
+        ensures texts { OnOk result ((n : ℕ) → text_at self.new.texts n ≡
+            (if nat_eq value n then Some (string_bytes name) else text_at self.old.texts n)) }
     {
         self.texts.insert(value, name)?;
         Ok(())
