@@ -1,39 +1,46 @@
 -- Parts of a turn, and their faults.
-use Rattle.std.proofs.Common.{◌≡◌, ℕ, Bool, true, false, cond, List, [], ◌∷◌, ◌++◌, reverse, Option, Some, None, Result, Ok, Err, option_map, encode_utf8_all, refl, sym, ap, ◌∙◌, subst, append_assoc}
+use Rattle.std.proofs.Common.{◌≡◌, ◌-◌, take, append-nil, ℕ, Bool, true, false, cond, List, [], ◌∷◌, ◌++◌, reverse, Option, Some, None, Result, Ok, Err, option_map, encode_utf8_all, refl, sym, ap, ◌∙◌, subst, append_assoc}
+use Rattle.std.proofs.lemmas.List.{reverse-append}
 use Rattle.std.specs.Borrow.{Bor}
 use Rattle.std.specs.Str.{chars}
-use Rattle.uset_grammar.specs.Text.{Text, IsBehind}
+use Rattle.uset_grammar.specs.Text.{Text, skip, IsBehind}
 use Rattle.uset_grammar.specs.Outcome.{Kind, unexpected, unknown_variable, unexpected_variable, eof, Outcome, got, faulty, ended}
-use Rattle.uset_grammar.specs.Item.{Item, chars as item_chars, text as item_text, nested, minus, ampersand, dollar}
+use Rattle.uset_grammar.specs.Item.{Item, nested, tree_of}
 use Rattle.uset_grammar.specs.Language.{Language, Value, item_of, stands_for, resolves, lacks}
 use Rattle.uset_grammar.specs.Unit.{Meaning, UnitOutcome}
-use Rattle.uset_grammar.specs.Front.{front, begins_unit}
+use Rattle.uset_grammar.specs.Front.{Front, single, caret, front, begins_unit}
 use Rattle.uset_grammar.specs.Grammar.{Sort, of_one_character, of_variable_name, of_unit}
 use Rattle.uset_grammar.specs.Fault.{as_character}
 use Rattle.uset_grammar.specs.Reached.{OpenBracket, with_item, is_short, is_last_property}
 use Rattle.uset_grammar.specs.Place.{size, bytes_before, offset_of}
-use Rattle.uset_grammar.specs.Arranging.{next, went, fit}
-use Rattle.uset_grammar.specs.Turn.{Verdict, accepted, rejected, Turn, goes, stops, UnitReader, at, last_at, two, greatest, reversed_code, head, refusal, judged, named_turn, unit_turn, closed, nested_turn, turn}
+use Rattle.uset_grammar.specs.Arranging.{next, went, fit, arrange}
+use Rattle.uset_grammar.specs.Turn.{Verdict, accepted, rejected, Turn, goes, stops, UnitReader, at, last_at, two, greatest, reversed_code, head, refusal, judged, named_turn, unit_turn, closed, nested_turn, front_turn, turn}
 use Rattle.uset_grammar.specs.Laws.{PlacesAre, AwaitedTells, RestsAreBehind}
 use Rattle.uset_read.specs.declared.cursor.Cursor.{Cursor}
-use Rattle.uset_read.specs.Cursors.{source_of}
+use Rattle.uset_read.specs.Cursors.{source_of, left_of}
 use Rattle.uset_read.specs.declared.stop.Stop.{Stop}
 use Rattle.uset_read.specs.declared.stop.Stop.TheVariants.{Fault, Ended, NoMemory as StopNoMemory}
 use Rattle.uset_read.specs.Stops.{kind_seen}
 use Rattle.uset_reader.specs.declared.bracket.OpenBracket.{OpenBracket as CodeBracket}
 use Rattle.uset_reader.specs.declared.error.ParseError.{ParseError}
 use Rattle.uset_reader.specs.declared.turn.Progress.{Progress}
-use Rattle.uset_reader.specs.declared.turn.Progress.TheVariants.{GoesOn}
+use Rattle.uset_reader.specs.declared.turn.Progress.TheVariants.{GoesOn, Done}
 use Rattle.uset_reader.specs.declared.turn.Sort.{Sort as CodeSort}
 use Rattle.uset_reader.specs.declared.turn.Sort.TheVariants.{Written, Variable}
 use Rattle.uset_reader.specs.declared.item.Item.{Item as CodeItem}
 use Rattle.uset_reader.specs.declared.code_point.CodePoint.{CodePoint}
+use Rattle.uset_reader.specs.declared.bracket.Taken.{Taken}
 use Rattle.uset_reader.specs.declared.bracket.Taken.TheVariants.{Fits, Reversed, Unfit}
-use Rattle.uset_reader.specs.Items.{number_of, awaits_seen}
-use Rattle.uset_reader.specs.Brackets.{Stands, IsItem, Took, Refused, Takes}
+use Rattle.uset_reader.specs.Items.{number_of, item_seen, IsTreeOf, awaits_seen}
+use Rattle.uset_reader.specs.Fronts.{no_tree}
+use Rattle.uset_reader.specs.Brackets.{Stands, begun, IsBegun, IsItem, Took, Refused, Takes, Closes}
+use Rattle.uset_reader.specs.declared.bracket.Opening.{Opening as CodeOpening}
+use Rattle.uset_gather.specs.declared.gathered.Gathered.{Gathered}
+use Rattle.uset_gather.specs.declared.operand.Operand.TheVariants.{Gathered as Made}
+use Rattle.uset_reader.specs.declared.item.Item.TheVariants.{Set}
 use Rattle.uset_reader.specs.Faults.{kind_of, offset_in, kind_told, ToldAs, Tells, IsAt, IsBefore, IsStop}
 use Rattle.uset_reader.specs.Units.{UnitIs, UnitStops}
-use Rattle.uset_reader.specs.Turns.{Before, SortIs, Around, AllStand, TurnedTo, Rejects, IsUnfit, TakesAs, TakesVariable, TakesUnit, is_nested, Opens, ClosesAs}
+use Rattle.uset_reader.specs.Turns.{Before, SortIs, Around, AllStand, TurnedTo, ForAll, Turns, Rejects, IsUnfit, TakesAs, TakesVariable, TakesUnit, Opens, ClosesAs}
 use Rattle.uset_reader.specs.declared.syntax.Syntax.{Syntax}
 use Rattle.uset_reader.specs.declared.variable.VariableValue.{VariableValue}
 use Rattle.uset_reader.specs.Values.{value_seen}
@@ -177,30 +184,6 @@ module _ (s : Syntax) where
       (h l units of_variable_name (item_of (value_seen v)) outer refl is here behind o os stands around)
 
 -- UNITS
-last_is_set : (i : Item) (r : Text) → is_nested i ≡ true → r ≡ [] → is_last_property of_unit i r ≡ true
-last_is_set (nested t) r n e = ap (λ z. is_last_property of_unit (nested t) z) e
-last_is_set (item_chars cs) r n e = absurd (let g : false ≡ true = n in cc)
-last_is_set (item_text t) r n e = absurd (let g : false ≡ true = n in cc)
-last_is_set minus r n e = absurd (let g : false ≡ true = n in cc)
-last_is_set ampersand r n e = absurd (let g : false ≡ true = n in cc)
-last_is_set dollar r n e = absurd (let g : false ≡ true = n in cc)
-
-no_set_last : (i : Item) (r : Text) → is_nested i ≡ false → is_last_property of_unit i r ≡ false
-no_set_last (nested t) r n = absurd (let g : true ≡ false = n in cc)
-no_set_last (item_chars cs) r n = refl
-no_set_last (item_text t) r n = refl
-no_set_last minus r n = refl
-no_set_last ampersand r n = refl
-no_set_last dollar r n = refl
-
-more_behind : (i : Item) (r : Text) (c : ℕ) (t : Text) → r ≡ c ∷ t → is_last_property of_unit i r ≡ false
-more_behind (nested u) r c t e = ap (λ z. is_last_property of_unit (nested u) z) e
-more_behind (item_chars cs) r c t e = refl
-more_behind (item_text u) r c t e = refl
-more_behind minus r c t e = refl
-more_behind ampersand r c t e = refl
-more_behind dollar r c t e = refl
-
 module _ (places : PlacesAre) (awaited : AwaitedTells) (l : Language) (cursor : Cursor) (b : CodeBracket) (text : List ℕ) (several : Bool) (fits : several ≡ went (next (awaits_seen b.awaits) two)) where
   abbrev whole : Text
   whole = chars (source_of cursor)
@@ -237,9 +220,9 @@ module _ (places : PlacesAre) (awaited : AwaitedTells) (l : Language) (cursor : 
         (i, found.item_is, ap (λ z. unit_turn l units whole o os (chars text) z) t ∙ ap (λ z. cond z (stops (rejected eof None)) (judged l units whole o os (chars text) of_unit i (chars rest) (fit (o.items ++ i ∷ [])))) (last i found.item_is))
 
     -- a property with nothing behind it
-    pub takes_last : (e : ParseError) → ((i : Item) → IsItem item i → is_nested i ≡ true) → chars rest ≡ [] → kind_told (kind_of e) ≡ Some eof → offset_in e ≡ None → TakesUnit l (source_of cursor) b text b (Err e)
-    takes_last e set none is offset units outer here f long o os stands around =
-        let t = taken_turn units f long o os stands true (λ i h. last_is_set i (chars rest) (set i h) none) in
+    pub takes_last : (e : ParseError) → ((i : Item) → IsItem item i → is_last_property of_unit i (chars rest) ≡ true) → kind_told (kind_of e) ≡ Some eof → offset_in e ≡ None → TakesUnit l (source_of cursor) b text b (Err e)
+    takes_last e last is offset units outer here f long o os stands around =
+        let t = taken_turn units f long o os stands true last in
         tells e eof _ is (None, t.2, offset)
 
     -- any other unit
@@ -251,3 +234,166 @@ module _ (places : PlacesAre) (awaited : AwaitedTells) (l : Language) (cursor : 
         let unit = (found.outcome.reads found.unit (chars rest)).0 refl in
         subst (λ z. TurnedTo z outer new result) (sym t.2)
         (h l units of_unit t.0 outer (λ z. (let g = z in cc)) t.1 here (behind.units several (chars text) (chars rest) found.unit unit) o os stands around)
+
+-- BRACKETS
+reverse-snoc : (bs : List CodeBracket) (b : CodeBracket) → reverse (bs ++ b ∷ []) ≡ b ∷ reverse bs
+reverse-snoc bs b = reverse-append bs (b ∷ [])
+
+-- nothing was taken off a list
+pub none_popped : (old new : List CodeBracket) (n : ℕ) → old ≡ new ++ [] → new ≡ take (n - 1) old → n ≡ 0 → old ≡ []
+none_popped old new n parts rest none = parts ∙ (append-nil new ∙ (rest ∙ ap (λ m. take (m - 1) old) none))
+
+-- an item that wasn't taken doesn't fit
+pub misfits : (old new : CodeBracket) (item : CodeItem) (taken : Taken) → (taken ≡ Fits → ⊥) → Takes old item taken new → (o : OpenBracket) (i : Item) → Stands old o → IsItem item i → fit (o.items ++ i ∷ []) ≡ false
+misfits old new item Fits n h o i s is = absurd (n refl)
+misfits old new item (Reversed c) n h o i s is = (h o i s is).unfit
+misfits old new item Unfit n h o i s is = (h o i s is).unfit
+
+-- a bracket opens inside
+pub opens_inside : (places : PlacesAre) (cursor : Cursor) (outer new_outer : List CodeBracket) (b new : CodeBracket) (opening : CodeOpening) (text : List ℕ) (inner : Bor (List ℕ)) (offset : ℕ) →
+    ((before : Text) → chars (source_of cursor) ≡ before ++ chars text → offset ≡ size before) → IsBegun opening offset new → new_outer ≡ outer ++ b ∷ [] →
+    Opens (source_of cursor) outer b opening text inner.now new_outer new (Ok (GoesOn inner))
+opens_inside places cursor outer new_outer b new opening text inner offset at_text is pushed l units here o os stands around =
+    let whole = chars (source_of cursor) in
+    let place = (places l units whole here.before (chars text)).0 here.is in
+    (begun (at l units whole (chars text)) opening, o ∷ os, refl, is (at l units whole (chars text)) (at_text here.before here.is ∙ ap size (sym place)),
+     subst (λ bs. AllStand bs (o ∷ os)) (sym (ap reverse pushed ∙ reverse-snoc outer b)) (stands, around))
+
+-- a `]` that doesn't fit
+pub closes_unfit : (places : PlacesAre) (cursor : Cursor) (outer new_outer : List CodeBracket) (b new : CodeBracket) (text rest : List ℕ) (e : ParseError) → Closes b None → kind_told (kind_of e) ≡ Some (unexpected 0x5D) →
+    IsAt cursor text (offset_in e) → ClosesAs (source_of cursor) outer b text rest new_outer new (Err e)
+closes_unfit places cursor outer new_outer b new text rest e h is offset l units here o os stands around =
+    stops_so _ (rejected (unexpected 0x5D) (Some (at l units (chars (source_of cursor)) (chars text)))) e new_outer new
+    (ap (λ z. closed l units (chars (source_of cursor)) o os (chars text) (chars rest) z) (h o stands))
+    (rejects_at places l units cursor text e (unexpected 0x5D) here is (λ t. refl) offset)
+
+none_around : (os : List OpenBracket) → AllStand [] os → os ≡ []
+none_around [] h = refl
+none_around (o ∷ os) h = absurd h
+
+-- the outermost bracket closes
+pub closes_outermost : (source : List ℕ) (outer new_outer : List CodeBracket) (b new : CodeBracket) (text : List ℕ) (rest : Bor (List ℕ)) (made : Gathered) → Closes b (Some made) → outer ≡ [] →
+    ClosesAs source outer b text rest.now new_outer new (Ok (Done made rest))
+closes_outermost source outer new_outer b new text rest made h none l units here o os stands around =
+    let shut = h o stands in
+    let alone = none_around os (subst (λ bs. AllStand (reverse bs) os) none around) in
+    (tree_of o.header shut.steps,
+     ap (λ z. closed l units (chars source) o os (chars text) (chars rest.now) z) shut.arranged ∙ ap (λ z. closed l units (chars source) o z (chars text) (chars rest.now) (Some shut.steps)) alone,
+     shut.members)
+
+-- the bracket around the innermost one
+pub record BracketAround (around : CodeBracket) (outer : List CodeBracket) (os : List OpenBracket) : Type 0 where
+  pub next : OpenBracket
+  pub further : List OpenBracket
+  pub are : os ≡ next ∷ further
+  pub stands : Stands around next
+  pub around_too : Around outer further
+
+bracket_around : (outer left : List CodeBracket) (around : CodeBracket) (os : List OpenBracket) → outer ≡ left ++ around ∷ [] → Around outer os → BracketAround around left os
+bracket_around outer left around os is h = by os refl (subst (λ bs. AllStand bs os) (ap reverse is ∙ reverse-snoc left around) h)
+  where
+    by : (xs : List OpenBracket) → os ≡ xs → AllStand (around ∷ reverse left) xs → BracketAround around left os
+    by [] e h = absurd h
+    by (o ∷ more) e h = record { next = o; further = more; are = e; stands = h.0; around_too = h.1 }
+
+-- nothing stands behind a bracket inside
+pub closes_last : (source : List ℕ) (outer new_outer left : List CodeBracket) (b around new : CodeBracket) (text rest : List ℕ) (made : Gathered) (e : ParseError) → Closes b (Some made) → outer ≡ left ++ around ∷ [] →
+    chars rest ≡ [] → kind_told (kind_of e) ≡ Some eof → offset_in e ≡ None → ClosesAs source outer b text rest new_outer new (Err e)
+closes_last source outer new_outer left b around new text rest made e h popped none is offset l units here o os stands around_h =
+    let shut = h o stands in
+    let next = bracket_around outer left around os popped around_h in
+    tells e eof _ is (
+      None,
+      ap (λ z. closed l units (chars source) o os (chars text) (chars rest) z) shut.arranged
+      ∙ (ap (λ z. closed l units (chars source) o z (chars text) (chars rest) (Some shut.steps)) next.are ∙ ap (λ z. closed l units (chars source) o (next.next ∷ next.further) (chars text) z (Some shut.steps)) none),
+      offset,
+    )
+
+module _ (source : List ℕ) (outer left : List CodeBracket) (b around new : CodeBracket) (text : List ℕ) (rest : Bor (List ℕ)) (made : Gathered) (shuts : Closes b (Some made)) (popped : outer ≡ left ++ around ∷ []) (c : ℕ) (t : Text)
+    (more : chars rest.now ≡ c ∷ t) where
+  module _ (l : Language) (units : UnitReader l) (o : OpenBracket) (os : List OpenBracket) (stands : Stands b o) (around_h : Around outer os) where
+    abbrev inside : BracketAround around left os
+    inside = bracket_around outer left around os popped around_h
+
+    abbrev set_item : Item
+    set_item = nested (tree_of o.header (shuts o stands).steps)
+
+    is_set_item : IsItem (Set (Made made)) set_item
+    is_set_item = record { tree = tree_of o.header (shuts o stands).steps; same = λ m. sym ((shuts o stands).members m); is = refl }
+
+    closed_turn : (x : Bool) → fit (inside.next.items ++ set_item ∷ []) ≡ x →
+        closed l units (chars source) o os (chars text) (chars rest.now) (arrange o.items) ≡ nested_turn l units (chars source) o inside.next inside.further (c ∷ t) set_item x
+    closed_turn x fits =
+        ap (λ z. closed l units (chars source) o os (chars text) (chars rest.now) z) (shuts o stands).arranged
+        ∙ (ap (λ z. closed l units (chars source) o z (chars text) (chars rest.now) (Some (shuts o stands).steps)) inside.are
+        ∙ (ap (λ z. closed l units (chars source) o (inside.next ∷ inside.further) (chars text) z (Some (shuts o stands).steps)) more
+        ∙ ap (λ z. nested_turn l units (chars source) o inside.next inside.further (c ∷ t) set_item z) fits))
+
+  -- its set fits outside
+  pub closes_inside : Takes around (Set (Made made)) Fits new → ClosesAs source outer b text rest.now left new (Ok (GoesOn rest))
+  closes_inside h l units here o os stands around_h =
+      let k = inside l units o os stands around_h in
+      let took = h k.next (set_item l units o os stands around_h) k.stands (is_set_item l units o os stands around_h) in
+      (with_item k.next (set_item l units o os stands around_h), k.further,
+       closed_turn l units o os stands around_h true took.fits ∙ ap (λ z. goes (with_item k.next (set_item l units o os stands around_h) ∷ k.further) z) (sym more),
+       took.stands, k.around_too)
+
+  -- its set doesn't fit outside
+  pub closes_misplaced : (unfit : (o : OpenBracket) (i : Item) → Stands around o → IsItem (Set (Made made)) i → fit (o.items ++ i ∷ []) ≡ false) (e : ParseError) →
+      kind_told (kind_of e) ≡ Some (unexpected 0x5B) → offset_in e ≡ Some b.before → ClosesAs source outer b text rest.now left new (Err e)
+  closes_misplaced unfit e is offset l units here o os stands around_h =
+      let k = inside l units o os stands around_h in
+      tells e (unexpected 0x5B) _ is (
+        Some o.before,
+        closed_turn l units o os stands around_h false (unfit k.next (set_item l units o os stands around_h) k.stands (is_set_item l units o os stands around_h)),
+        offset ∙ ap (λ z. Some z) stands.before,
+      )
+
+-- A TURN
+skip_parts : (test : ℕ → Bool) (t : Text) → (w : Text) × (t ≡ w ++ skip test t)
+skip_parts test [] = ([], refl)
+skip_parts test (c ∷ t) = by (test c) (skip_parts test t)
+  where
+    by : (x : Bool) → (w : Text) × (t ≡ w ++ skip test t) → (w : Text) × (c ∷ t ≡ w ++ cond x (skip test t) (c ∷ t))
+    by true (w, e) = (c ∷ w, ap (λ z. c ∷ z) e)
+    by false p = ([], refl)
+
+module _ (s : Syntax) (cursor : Cursor) (outer : List CodeBracket) (b : CodeBracket) (text : List ℕ) (skipped : chars text ≡ skip (language_seen s).white_space (chars (left_of cursor)))
+    (long : is_short (chars text) ≡ false) where
+  abbrev spoken : Language
+  spoken = language_seen s
+
+  abbrev all_of_it : Text
+  all_of_it = chars (source_of cursor)
+
+  text_there : Before (source_of cursor) (left_of cursor) → Before (source_of cursor) text
+  text_there here =
+      let w = skip_parts spoken.white_space (chars (left_of cursor)) in
+      record { before = here.before ++ w.0; is = here.is ∙ (ap (λ t. here.before ++ t) (w.1 ∙ ap (λ t. w.0 ++ t) (sym skipped)) ∙ sym (append_assoc here.before w.0 (chars text))) }
+
+  turn_is : (units : UnitReader spoken) (o : OpenBracket) (os : List OpenBracket) (f : Front) → front spoken (chars text) ≡ f → turn spoken units all_of_it (o ∷ os) (chars (left_of cursor)) ≡ front_turn spoken units all_of_it o os (chars text) f
+  turn_is units o os f e =
+      ap (λ q. cond (is_short q) (stops (rejected eof None)) (front_turn spoken units all_of_it o os q (front spoken q))) (sym skipped)
+      ∙ (ap (λ x. cond x (stops (rejected eof None)) (front_turn spoken units all_of_it o os (chars text) (front spoken (chars text)))) long
+      ∙ ap (λ z. front_turn spoken units all_of_it o os (chars text) z) e)
+
+  pub turned : (f : Front) → front spoken (chars text) ≡ f → (new_outer : List CodeBracket) (new : CodeBracket) (result : Result Progress ParseError) →
+      ((units : UnitReader spoken) → Before (source_of cursor) text → ForAll outer b (λ o os. TurnedTo (front_turn spoken units all_of_it o os (chars text) f) new_outer new result)) →
+      Turns spoken (source_of cursor) (left_of cursor) outer b new_outer new result
+  turned f e new_outer new result h units here o os stands around =
+      subst (λ t. TurnedTo t new_outer new result) (sym (turn_is units o os f e)) (h units (text_there here) o os stands around)
+
+  pub turned_caret : PlacesAre → front spoken (chars text) ≡ caret → (e : ParseError) → kind_told (kind_of e) ≡ Some (unexpected 0x5E) → IsAt cursor text (offset_in e) →
+      Turns spoken (source_of cursor) (left_of cursor) outer b outer b (Err e)
+  turned_caret places f e is offset =
+      turned caret f outer b (Err e) (λ units here o os stands around.
+      stops_so _ (rejected (unexpected 0x5E) (Some (at spoken units all_of_it (chars text)))) e outer b refl
+      (rejects_at places spoken units cursor text e (unexpected 0x5E) here is (λ t. refl) offset))
+
+  pub turned_single : RestsAreBehind spoken → (item : CodeItem) (rest : List ℕ) (new : CodeBracket) (result : Result Progress ParseError) → IsTreeOf item no_tree →
+      front spoken (chars text) ≡ single (item_seen no_tree item) (chars rest) → TakesAs (source_of cursor) b item Written text rest new result →
+      Turns spoken (source_of cursor) (left_of cursor) outer b outer new result
+  turned_single behind item rest new result no_set f h =
+      turned (single (item_seen no_tree item) (chars rest)) f outer new result (λ units here o os stands around.
+      h spoken units of_one_character (item_seen no_tree item) outer (λ z. (let g = z in cc)) (record { tree = no_tree; same = no_set; is = refl }) here
+      (behind.singles (chars text) (chars rest) (item_seen no_tree item) f) o os stands around)

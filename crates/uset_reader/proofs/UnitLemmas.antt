@@ -134,13 +134,12 @@ module _ (s : Syntax) (kinds : KindsTell) (several : Bool) (text : List ℕ) whe
   of_string : (inner : Text) → chars text ≡ 0x7B ∷ inner → (o : Outcome (List Spelled)) → StringOutcome l.white_space (chars text) o → Outcomes (chars text) (meaning a_string o)
   of_string inner e o h = subst (λ z. Outcomes z (meaning a_string o)) (sym e) (units.strings inner o (subst (λ z. StringOutcome l.white_space z o) e h))
 
-  pub string_read : IsString (chars text) → (string rest : List ℕ) (item : CodeItem) → StringIs s.white_space.now text string rest → IsItem item (text_item (chars string)) → IsProper item → UnitIs l several text item rest
-  string_read begins string rest item h is proper b =
+  pub string_read : IsString (chars text) → (string rest : List ℕ) (item : CodeItem) → StringIs s.white_space.now text string rest → IsItem item (text_item (chars string)) → UnitIs l several text item rest
+  string_read begins string rest item h is b =
       let found = h s.apart begins.inner begins.parts in record {
         unit = a_string found.0;
         outcome = of_string begins.inner begins.parts (got found.0 (chars rest)) found.1;
         item_is = subst (λ t. IsItem item (text_item t)) found.2 is;
-        proper = proper;
       }
 
   pub string_stops : IsString (chars text) → (stop : Stop) → StringStops s.white_space.now text stop → UnitStops l several text stop
@@ -165,14 +164,13 @@ module _ (s : Syntax) (kinds : KindsTell) (several : Bool) (text : List ℕ) whe
       let found = h s.apart begins.inner begins.parts in
       allowed_within several spelled ((found.reads (spelled_seen spelled) (chars rest)).0 refl).fits
 
-  pub escape_read : IsEscape (chars text) → (spelled : CodeSpelled) (rest : List ℕ) (item : CodeItem) → EscapeIs s.white_space.now (Bracket several) text spelled rest → IsItem item (chars_of spelled) → IsProper item →
+  pub escape_read : IsEscape (chars text) → (spelled : CodeSpelled) (rest : List ℕ) (item : CodeItem) → EscapeIs s.white_space.now (Bracket several) text spelled rest → IsItem item (chars_of spelled) →
       UnitIs l several text item rest
-  escape_read begins spelled rest item h is proper b =
+  escape_read begins spelled rest item h is b =
       let letter = letter_of begins.inner begins.parts begins.no_property b in record {
         unit = an_escape (spelled_seen spelled);
         outcome = of_escape letter.0 letter.1 letter.2 letter.3 (got (spelled_seen spelled) (chars rest)) (h s.apart begins.inner begins.parts);
         item_is = is;
-        proper = proper;
       }
 
   pub escape_stops : IsEscape (chars text) → (stop : Stop) → EscapeStops s.white_space.now (Bracket several) text stop → UnitStops l several text stop
@@ -204,7 +202,6 @@ module _ (s : Syntax) (kinds : KindsTell) (several : Bool) (text : List ℕ) whe
         unit = a_property found.query;
         outcome = of_property b other (got found.query (chars rest)) found.outcome;
         item_is = record { tree = property_tree l found.query; same = found.members; is = refl };
-        proper = tt;
       }
 
   pub property_stops : IsProperty (chars text) → (stop : Stop) → OperandStops l text stop → UnitStops l several text stop

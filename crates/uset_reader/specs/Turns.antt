@@ -4,7 +4,7 @@ use Rattle.std.specs.Str.{chars}
 use Rattle.uset_grammar.specs.Text.{Text, IsBehind}
 use Rattle.uset_grammar.specs.Outcome.{Kind}
 use Rattle.uset_grammar.specs.Tree.{Tree, Member, has}
-use Rattle.uset_grammar.specs.Item.{Item, chars as item_chars, text as item_text, nested, minus, ampersand, dollar}
+use Rattle.uset_grammar.specs.Item.{Item}
 use Rattle.uset_grammar.specs.Language.{Language}
 use Rattle.uset_grammar.specs.Grammar.{Sort, of_one_character, of_variable_name, of_unit}
 use Rattle.uset_grammar.specs.Reached.{OpenBracket, is_short}
@@ -91,14 +91,6 @@ abbrev pub TakesUnit : Language → List ℕ → CodeBracket → List ℕ → Co
 TakesUnit l source b text new result =
     (units : UnitReader l) (outer : List CodeBracket) → Before source text → front l (chars text) ≡ begins_unit → is_short (chars text) ≡ false →
     ForAll outer b (λ o os. TurnedTo (unit_turn l units (chars source) o os (chars text) (units.unit_at (fit (o.items ++ two ∷ [])) (chars text))) outer new result)
-
-abbrev pub is_nested : Item → Bool
-is_nested (nested t) = true
-is_nested (item_chars cs) = false
-is_nested (item_text t) = false
-is_nested minus = false
-is_nested ampersand = false
-is_nested dollar = false
 
 abbrev pub Opens : List ℕ → List CodeBracket → CodeBracket → CodeOpening → List ℕ → List ℕ → List CodeBracket → CodeBracket → Result Progress ParseError → Type 0
 Opens source outer b opening text inner new_outer new result =

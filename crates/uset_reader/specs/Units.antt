@@ -19,7 +19,7 @@ use Rattle.uset_reader.specs.declared.item.Item.{Item as CodeItem}
 use Rattle.uset_reader.specs.declared.unit.UnitKind.{UnitKind}
 use Rattle.uset_reader.specs.declared.unit.UnitKind.TheVariants.{String as AString, Escape as AnEscape, Property as AProperty}
 use Rattle.uset_reader.specs.Resolution.{resolve, lacking}
-use Rattle.uset_reader.specs.Items.{IsOperand, IsProper}
+use Rattle.uset_reader.specs.Items.{IsOperand}
 use Rattle.uset_reader.specs.Brackets.{IsItem}
 
 abbrev pub resolved_by : Tables → Query → Option Resolved
@@ -47,7 +47,6 @@ pub record IsReadUnit (l : Language) (several : Bool) (text : List ℕ) (item : 
   pub unit : Meaning
   pub outcome : UnitOutcome l.white_space several (resolves l) (lacks l) (chars text) (got unit (chars rest))
   pub item_is : IsItem item (stands_for l unit)
-  pub proper : IsProper item
 
 abbrev pub UnitIs : Language → Bool → List ℕ → CodeItem → List ℕ → Type 0
 UnitIs l several text item rest = UnitBegins (chars text) → IsReadUnit l several text item rest

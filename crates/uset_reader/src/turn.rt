@@ -6,9 +6,11 @@ ghost use Rattle.uset_reader.specs.Items.{IsProper};
 ghost use Rattle.uset_reader.specs.Syntaxes.{language_seen};
 ghost use Rattle.uset_grammar.specs.Item.{Item as GrammarItem};
 ghost use Rattle.uset_grammar.specs.Language.{item_of};
+ghost use Rattle.uset_grammar.specs.Grammar.{of_unit};
+ghost use Rattle.uset_grammar.specs.Reached.{is_last_property};
 ghost use Rattle.uset_reader.specs.Brackets.{IsItem};
 ghost use Rattle.uset_reader.specs.Values.{is_kept, value_seen};
-ghost use Rattle.uset_reader.specs.Turns.{Turns, IsShorter, IsUnfit, TakesAs, TakesVariable, TakesUnit, is_nested, Opens, ClosesAs};
+ghost use Rattle.uset_reader.specs.Turns.{Turns, IsShorter, IsUnfit, TakesAs, TakesVariable, TakesUnit, Opens, ClosesAs};
 
 use crate::bracket::{OpenBracket, Opening, Taken};
 use crate::code_point::CodePoint;
@@ -121,12 +123,12 @@ fn take_variable<'a>(
     take(alloc, cursor, bracket, Sort::Variable, item, text, rest)
 }
 
-/// Whether the item is a set.
-fn is_set(item: &Item<'_>) -> bool
-    ensures { (i : GrammarItem) → IsItem item.now i → result ≡ is_nested i }
+/// Whether the unit is a property with nothing behind it.
+fn is_last_property(item: &Item<'_>, rest: &str) -> bool
+    ensures { (i : GrammarItem) → IsItem item.now i → result ≡ is_last_property of_unit i (chars rest.now) }
 {
     match item {
-        Item::Set(_) => true,
+        Item::Set(_) => split_first(rest).is_none(),
         _ => false,
     }
 }
@@ -149,7 +151,7 @@ fn take_unit<'a>(
         Ok(read) => read,
         Err(stop) => return Err(stopped(cursor, stop)),
     };
-    if is_set(&item) && rest.is_empty() {
+    if is_last_property(&item, rest) {
         return Err(ParseErrorKind::Eof.into());
     }
     take(alloc, cursor, bracket, Sort::Written, item, text, rest)
@@ -198,9 +200,9 @@ fn close<'a>(
     let Some(around) = outer.pop() else {
         return Ok(Progress::Done(set, rest));
     };
-    if rest.is_empty() {
+    let Some(_) = split_first(rest) else {
         return Err(ParseErrorKind::Eof.into());
-    }
+    };
     let before = bracket.before;
     *bracket = around;
     match bracket.take(alloc, Item::Set(Operand::Gathered(set)))? {

@@ -74,6 +74,7 @@ fn read_text<'v, 'a>(
 ) -> Result<(Item<'v>, &'a str), Stop<'a>>
     requires { IsString (chars text.now) }
     ensures read { IfOk result (λ p. UnitIs (language_seen syntax.now) several text.now p.0 p.1.now) }
+    ensures proper { IfOk result (λ p. IsProper p.0) }
     ensures stopped { IfErr result (UnitStops (language_seen syntax.now) several text.now) }
     ensures place { IfErr result (λ stop. left_at stop ≤ length text.now) }
     ensures shorter { IfOk result (λ p. length p.1.now < length text.now) }
@@ -92,6 +93,7 @@ fn read_escaped<'v, 'a>(
 ) -> Result<(Item<'v>, &'a str), Stop<'a>>
     requires { IsEscape (chars text.now) }
     ensures read { IfOk result (λ p. UnitIs (language_seen syntax.now) several text.now p.0 p.1.now) }
+    ensures proper { IfOk result (λ p. IsProper p.0) }
     ensures stopped { IfErr result (UnitStops (language_seen syntax.now) several text.now) }
     ensures place { IfErr result (λ stop. left_at stop ≤ length text.now) }
     ensures shorter { IfOk result (λ p. length p.1.now < length text.now) }
@@ -111,6 +113,7 @@ fn read_set<'v, 'a>(
 ) -> Result<(Item<'v>, &'a str), Stop<'a>>
     requires { IsProperty (chars text.now) }
     ensures read { IfOk result (λ p. UnitIs (language_seen syntax.now) several text.now p.0 p.1.now) }
+    ensures proper { IfOk result (λ p. IsProper p.0) }
     ensures stopped { IfErr result (UnitStops (language_seen syntax.now) several text.now) }
     ensures place { IfErr result (λ stop. left_at stop ≤ length text.now) }
     ensures shorter { IfOk result (λ p. length p.1.now < length text.now) }
@@ -140,6 +143,7 @@ pub(crate) fn read_unit<'v, 'a>(
     text: &'a str,
 ) -> Result<(Item<'v>, &'a str), Stop<'a>>
     ensures read { IfOk result (λ p. UnitIs (language_seen syntax.now) several text.now p.0 p.1.now) }
+    ensures proper { IfOk result (λ p. IsProper p.0) }
     ensures stopped { IfErr result (UnitStops (language_seen syntax.now) several text.now) }
     ensures place { IfErr result (λ stop. left_at stop ≤ length text.now) }
     ensures shorter { IfOk result (λ p. length p.1.now < length text.now) }

@@ -1,27 +1,21 @@
-use Rattle.std.proofs.Common.{rules, ◌≡◌, ◌≤◌, ◌<◌, length, IfOk, true, ℕ, ◌+◌, ◌-◌, ◌*◌, ◌/◌, ◌%◌, Bool, false, nat_eq, nat_lt, List, [], ◌∷◌, ◌++◌, slice_index_or, slice_set, bit_and, bit_or, Fits, w8, w32, w64, Bor, MutBor}
-use Rattle.std.specs.Str.{chars}
-use Rattle.uset_read.specs.Cursors.{source_of, left_of}
-use Rattle.uset_reader.specs.Items.{IsProper}
+use Rattle.std.proofs.Common.{sym, ap, ◌∙◌}
+use Rattle.uset_reader.specs.Faults.{kind_told}
 use Rattle.uset_reader.specs.Syntaxes.{language_seen}
-use Rattle.uset_grammar.specs.Item.{Item as GrammarItem}
-use Rattle.uset_grammar.specs.Language.{item_of}
-use Rattle.uset_reader.specs.Brackets.{IsItem}
-use Rattle.uset_reader.specs.Values.{is_kept, value_seen}
-use Rattle.uset_reader.specs.Turns.{Turns, IsShorter, IsUnfit, TakesAs, TakesVariable, TakesUnit, is_nested, Opens, ClosesAs}
+use Rattle.uset_reader.proofs.TurnLemmas.{takes_stopped, takes_last, takes_unit}
 use Rattle.uset_reader.proofs.turn.take_unit.Goals as goal
 
--- src/turn.rt:150:22
 pub returns-in-Err-clause-takes : goal.returns-in-Err-clause-takes
-returns-in-Err-clause-takes c = ?
+returns-in-Err-clause-takes c =
+    takes_stopped c.turns.ensures.places c.arranging.ensures (language_seen c.args.syntax.now) c.args.cursor c.args.bracket.now c.args.text.now c.fits_several.result c.fits_several.ensures
+    c.in-Err.stop c.stopped.result c.in-Err.ensures.stopped c.stopped.ensures
 
--- src/turn.rt:153:9
-pub returns-then-is_empty-clause-takes : goal.returns-then-is_empty-clause-takes
-returns-then-is_empty-clause-takes c = ?
+pub returns-then-is_last_property-clause-takes : goal.returns-then-is_last_property-clause-takes
+returns-then-is_last_property-clause-takes c =
+    takes_last c.turns.ensures.places c.arranging.ensures (language_seen c.args.syntax.now) c.args.cursor c.args.bracket.now c.args.text.now c.fits_several.result c.fits_several.ensures
+    c.in-Ok.read.0 c.in-Ok.read.1.now c.in-Ok.ensures.read c.into.result (λ i h. sym (c.is_last_property.ensures i h) ∙ c.if-is_last_property.true) (ap kind_told c.into.ensures.0) c.into.ensures.1
 
--- src/turn.rt:155:5
-pub take-requires-clause-proper : goal.take-requires-clause-proper
-take-requires-clause-proper c = ?
-
--- src/turn.rt:135:1
 pub returns-clause-takes : goal.returns-clause-takes
-returns-clause-takes c = ?
+returns-clause-takes c =
+    takes_unit c.turns.ensures.places c.arranging.ensures (language_seen c.args.syntax.now) c.args.cursor c.args.bracket.now c.args.text.now c.fits_several.result c.fits_several.ensures
+    c.in-Ok.read.0 c.in-Ok.read.1.now c.in-Ok.ensures.read c.take.new.bracket c.take.result (c.turns.ensures.behind (language_seen c.args.syntax.now))
+    (λ i h. sym (c.is_last_property.ensures i h) ∙ c.if-is_last_property.false) c.take.ensures.takes

@@ -14,4 +14,4 @@ escape_item-requires c =
 pub returns-clause-read : goal.returns-clause-read
 returns-clause-read c =
     escape_read c.args.syntax.now c.kinds_of_units.ensures c.args.several c.args.text.now c.requires c.in_ok-spelled.spelled c.in_ok-spelled.rest.now c.escape_item.result
-    c.in_ok-spelled.ensures.read c.escape_item.ensures.item c.escape_item.ensures.proper
+    c.in_ok-spelled.ensures.read c.escape_item.ensures.item
