@@ -2,3 +2,4 @@ pub mod BracketLemmas
 pub mod PropertyLemmas
 pub mod UnitLemmas
 pub mod TurnLemmas
+pub mod ReaderLemmas

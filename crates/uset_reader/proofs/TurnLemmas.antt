@@ -100,8 +100,8 @@ refusal_of_variable l units source q r of_unit e = absurd (let g = e in cc)
 refusal_as_written : (l : Language) (units : UnitReader l) (source q r : Text) (s : Sort) → (s ≡ of_variable_name → ⊥) →
     refusal l units source s q r None ≡ rejected (unexpected (head q)) (Some (at l units source q))
 refusal_as_written l units _ q r of_variable_name e = absurd (e refl)
-refusal_as_written l units source q r of_one_character e = refl
-refusal_as_written l units source q r of_unit e = refl
+refusal_as_written _ _ _ _ _ of_one_character e = refl
+refusal_as_written _ _ _ _ _ of_unit e = refl
 
 pub unfit_variable : (places : PlacesAre) (cursor : Cursor) (text rest : List ℕ) (e : ParseError) → kind_told (kind_of e) ≡ Some unexpected_variable → IsBefore cursor rest (offset_in e) →
     IsUnfit cursor Variable text rest e

@@ -8,3 +8,4 @@ pub mod Fronts
 pub mod Units
 pub mod Faults
 pub mod Turns
+pub mod Readings

@@ -1,6 +1,6 @@
 //! Faults of a pattern.
 use cp_invlist::NoMemory;
-use std::alloc::{AllocFailed, Global};
+use std::alloc::AllocFailed;
 use thiserror::Error;
 
 /// What is wrong with a pattern.
@@ -71,83 +71,6 @@ impl ParseError {
     {
         self.offset
     }
-
-    /// The text of the fault, shown with its source: the source up to the place, an arrow, and what is wrong. The
-    /// character at the place is shown whole.
-    pub fn fmt_with_source(&self, alloc: Global, source: &str) -> Result<String, NoMemory> {
-        let mut text = String::from_str(alloc, self.shown(source))?;
-        if self.points_into(source) {
-            text.push_str("← ")?;
-        }
-        text.push_str("error: ")?;
-        push_words(&mut text, self.kind)?;
-        Ok(text)
-    }
-
-    /// Whether an arrow points at a place of the source.
-    fn points_into(&self, source: &str) -> bool {
-        match self.offset {
-            _ if self.kind == ParseErrorKind::Eof => true,
-            Some(offset) => offset < source.len(),
-            None => false,
-        }
-    }
-
-    /// The front of the source that is shown.
-    fn shown<'a>(&self, source: &'a str) -> &'a str {
-        match self.offset {
-            _ if self.kind == ParseErrorKind::Eof => source,
-            Some(offset) if offset < source.len() => &source[..source.ceil_char_boundary(offset + 1)],
-            _ => "",
-        }
-    }
-}
-
-/// Appends what is wrong, in words.
-fn push_words(text: &mut String, kind: ParseErrorKind) -> Result<(), NoMemory> {
-    match kind {
-        ParseErrorKind::UnexpectedChar(c) => {
-            text.push_str("unexpected character '")?;
-            push_quoted(text, c)?;
-            text.push_str("'")?;
-        }
-        ParseErrorKind::UnknownProperty => text.push_str("unknown property")?,
-        ParseErrorKind::UnknownVariable => text.push_str("unknown variable")?,
-        ParseErrorKind::UnexpectedVariable => text.push_str("unexpected variable")?,
-        ParseErrorKind::Eof => text.push_str("unexpected end of input")?,
-        ParseErrorKind::Internal => text.push_str("internal error")?,
-        ParseErrorKind::Unimplemented => text.push_str("unimplemented")?,
-        ParseErrorKind::InvalidEscape => text.push_str("invalid escape sequence")?,
-        ParseErrorKind::NoMemory => text.push_str("out of memory")?,
-    }
-    Ok(())
-}
-
-/// Appends the character between quotes: quotes, the backslash and ASCII's controls are escaped.
-fn push_quoted(text: &mut String, c: char) -> Result<(), NoMemory> {
-    match c {
-        '\0' => text.push_str("\\0")?,
-        '\t' => text.push_str("\\t")?,
-        '\r' => text.push_str("\\r")?,
-        '\n' => text.push_str("\\n")?,
-        '\'' => text.push_str("\\'")?,
-        '"' => text.push_str("\\\"")?,
-        '\\' => text.push_str("\\\\")?,
-        '\u{1}'..='\u{1F}' | '\u{7F}' => push_control(text, c as u32)?,
-        _ => text.push(c)?,
-    }
-    Ok(())
-}
-
-/// Appends a control character by its number.
-fn push_control(text: &mut String, number: u32) -> Result<(), NoMemory> {
-    text.push_str("\\u{")?;
-    if number >= 0x10 {
-        text.push(char::from_digit(number / 0x10, 16).unwrap_or('0'))?;
-    }
-    text.push(char::from_digit(number % 0x10, 16).unwrap_or('0'))?;
-    text.push('}')?;
-    Ok(())
 }
 
 impl From<ParseErrorKind> for ParseError {

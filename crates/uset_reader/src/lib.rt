@@ -3,7 +3,6 @@
 
 mod arrange;
 mod bracket;
-mod calls;
 mod code_point;
 mod error;
 mod fault;
@@ -20,6 +19,7 @@ mod variable;
 mod variables;
 
 pub use error::{ParseError, ParseErrorKind};
-pub use calls::{parse, parse_unstable, parse_unstable_with_variables, parse_with_variables};
+pub use reader::read_set;
+pub use syntax::Syntax;
 pub use variable::{VariableString, VariableValue};
 pub use variables::VariableMap;

@@ -1,4 +1,13 @@
 //! The reader: one loop over the open brackets.
+ghost use Rattle.std.specs.Prelude.{◌≡◌, ◌<◌, length, IfOk, IfErr};
+ghost use Rattle.std.specs.Str.{chars};
+ghost use Rattle.uset_grammar.specs.Tree.{Member};
+ghost use Rattle.uset_grammar.specs.Front.{first, of_bracket, of_variable, of_property};
+ghost use Rattle.uset_gather.specs.Gathered.{gathered_in, operand_in};
+ghost use Rattle.uset_reader.specs.Brackets.{opening_seen};
+ghost use Rattle.uset_reader.specs.Syntaxes.{language_seen};
+ghost use Rattle.uset_reader.specs.Readings.{IsReading, IsRefusal};
+
 use crate::bracket::{OpenBracket, Opening};
 use crate::error::{ParseError, ParseErrorKind};
 use crate::fault::{fault_at, fault_before, stopped};
@@ -6,79 +15,110 @@ use crate::front::{First, look_at_first};
 use crate::property::read_operand;
 use crate::syntax::Syntax;
 use crate::turn::{Progress, turn};
-use crate::variable::VariableValue;
+use cp_invlist::NoMemory;
 use std::alloc::Global;
 use uset_gather::{Gathered, Operand};
+use uset_grammar::laws;
 use uset_read::Cursor;
 
-/// Reads the bracket that begins in front of what is left, up to its `]`.
+/// Reads the bracket that begins the source, up to its `]`.
 fn read_bracket<'a>(
     alloc: Global,
     syntax: &Syntax<'_>,
-    cursor: Cursor<'a>,
+    source: &'a str,
     opening: Opening,
     inner: &'a str,
-) -> Result<(Gathered, Cursor<'a>), ParseError> {
+) -> Result<(Gathered, Cursor<'a>), ParseError>
+    requires begins { first (language_seen syntax.now) (chars source.now) ≡ of_bracket (opening_seen opening) (chars inner.now) }
+    requires behind { length inner.now < length source.now }
+    ensures read { IfOk result (λ p. IsReading (language_seen syntax.now) source.now p.0 p.1) }
+    ensures refused { IfErr result (IsRefusal (language_seen syntax.now) source.now) }
+{
+    laws::turns();
     // The brackets around the innermost one, the outermost first.
     let mut outer = Vec::new(alloc);
-    let mut bracket = OpenBracket::open(alloc, opening, cursor.offset())?;
-    let mut place = cursor.at(inner);
+    let mut bracket = OpenBracket::open(alloc, opening, 0)?;
+    let mut place = Cursor::new(source).at(inner);
     loop {
-        match turn(alloc, syntax, place, &mut outer, &mut bracket)? {
+        let progress = match turn(alloc, syntax, place, &mut outer, &mut bracket) {
+            Ok(progress) => progress,
+            Err(error) => return Err(error),
+        };
+        match progress {
             Progress::GoesOn(rest) => place = place.at(rest),
             Progress::Done(set, rest) => return Ok((set, place.at(rest))),
         }
     }
 }
 
-/// Reads the variable of this name, as a set.
-fn read_variable<'a>(
-    alloc: Global,
-    syntax: &Syntax<'_>,
-    cursor: Cursor<'a>,
-    name: &str,
-    rest: &'a str,
-) -> Result<(Gathered, Cursor<'a>), ParseError> {
-    let set = match syntax.variables.get(name) {
-        Some(VariableValue::UnicodeSet(set)) => set,
-        Some(_) => return Err(fault_before(cursor, ParseErrorKind::UnexpectedVariable, rest)),
-        None => return Err(fault_before(cursor, ParseErrorKind::UnknownVariable, rest)),
-    };
-    Ok((gathered(alloc, Operand::Set(set))?, cursor.at(rest)))
-}
-
 /// The set of the operand alone.
-fn gathered(alloc: Global, operand: Operand<'_>) -> Result<Gathered, ParseError> {
+fn gathered(alloc: Global, operand: Operand<'_>) -> Result<Gathered, NoMemory>
+    ensures { IfOk result (λ g. (m : Member) → gathered_in g m ≡ operand_in operand.entry m) }
+{
     let mut gathered = Gathered::new(alloc);
     gathered.join(operand, alloc)?;
     Ok(gathered)
 }
 
-/// Reads the property in front of what is left, as a set.
-fn read_property<'a>(
-    alloc: Global,
-    syntax: &Syntax<'_>,
-    cursor: Cursor<'a>,
-) -> Result<(Gathered, Cursor<'a>), ParseError> {
-    match read_operand(alloc, syntax, cursor.rest()) {
-        Ok((operand, rest)) => Ok((gathered(alloc, operand)?, cursor.at(rest))),
-        Err(stop) => Err(stopped(cursor, stop)),
-    }
-}
-
-/// Reads the set at the front of the source. The answer is the set, and the cursor behind it.
-pub(crate) fn read_set<'a>(
+/// Reads the variable of this name, which begins the source, as a set.
+fn read_variable<'a>(
     alloc: Global,
     syntax: &Syntax<'_>,
     source: &'a str,
-) -> Result<(Gathered, Cursor<'a>), ParseError> {
+    name: &str,
+    rest: &'a str,
+) -> Result<(Gathered, Cursor<'a>), ParseError>
+    requires begins { first (language_seen syntax.now) (chars source.now) ≡ of_variable (chars name.now) (chars rest.now) }
+    requires behind { length rest.now < length source.now }
+    ensures read { IfOk result (λ p. IsReading (language_seen syntax.now) source.now p.0 p.1) }
+    ensures refused { IfErr result (IsRefusal (language_seen syntax.now) source.now) }
+{
+    laws::turns();
+    let cursor = Cursor::new(source);
+    let Some(value) = syntax.variables.get(name) else {
+        return Err(fault_before(cursor, ParseErrorKind::UnknownVariable, rest));
+    };
+    let Some(set) = value.as_set() else {
+        return Err(fault_before(cursor, ParseErrorKind::UnexpectedVariable, rest));
+    };
+    Ok((gathered(alloc, Operand::Set(set))?, cursor.at(rest)))
+}
+
+/// Reads the property that begins the source, as a set.
+fn read_property<'a>(
+    alloc: Global,
+    syntax: &Syntax<'_>,
+    source: &'a str,
+) -> Result<(Gathered, Cursor<'a>), ParseError>
+    requires { first (language_seen syntax.now) (chars source.now) ≡ of_property }
+    ensures read { IfOk result (λ p. IsReading (language_seen syntax.now) source.now p.0 p.1) }
+    ensures refused { IfErr result (IsRefusal (language_seen syntax.now) source.now) }
+{
+    laws::turns();
+    let cursor = Cursor::new(source);
+    let (operand, rest) = match read_operand(alloc, syntax, source) {
+        Ok(read) => read,
+        Err(stop) => return Err(stopped(cursor, stop)),
+    };
+    Ok((gathered(alloc, operand)?, cursor.at(rest)))
+}
+
+/// Reads the set at the front of the source. The answer is the set, and the cursor behind it.
+pub fn read_set<'a>(
+    alloc: Global,
+    syntax: &Syntax<'_>,
+    source: &'a str,
+) -> Result<(Gathered, Cursor<'a>), ParseError>
+    ensures read { IfOk result (λ p. IsReading (language_seen syntax.now) source.now p.0 p.1) }
+    ensures refused { IfErr result (IsRefusal (language_seen syntax.now) source.now) }
+{
     let cursor = Cursor::new(source);
     match look_at_first(syntax, source) {
         First::TooShort => Err(ParseErrorKind::Eof.into()),
         First::Stray(c) => Err(fault_at(cursor, ParseErrorKind::UnexpectedChar(c), source)),
         First::Bare => Err(fault_at(cursor, ParseErrorKind::UnexpectedChar('$'), source)),
-        First::Variable(name, rest) => read_variable(alloc, syntax, cursor, name, rest),
-        First::Bracket(opening, inner) => read_bracket(alloc, syntax, cursor, opening, inner),
-        First::Property => read_property(alloc, syntax, cursor),
+        First::Variable(name, rest) => read_variable(alloc, syntax, source, name, rest),
+        First::Bracket(opening, inner) => read_bracket(alloc, syntax, source, opening, inner),
+        First::Property => read_property(alloc, syntax, source),
     }
 }

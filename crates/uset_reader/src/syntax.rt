@@ -5,12 +5,12 @@ ghost use Rattle.uset_grammar.specs.Escape.{Apart};
 
 use crate::variables::VariableMap;
 use cp_invlist::CodePointInversionList;
-use prop_data::{PropertyDatabase, SetTable};
+use prop_data::PropertyDatabase;
 
 /// What patterns are read by: the three tables of the syntax (UAX 31), white space of patterns and the characters that
 /// begin and continue a name; the variables; and the database, which has the sets of properties.
 #[derive(Clone, Copy)]
-pub(crate) struct Syntax<'a> {
+pub struct Syntax<'a> {
     pub(crate) white_space: &'a CodePointInversionList,
     pub(crate) start: &'a CodePointInversionList,
     pub(crate) continuing: &'a CodePointInversionList,
@@ -21,24 +21,31 @@ pub(crate) struct Syntax<'a> {
 }
 
 impl<'a> Syntax<'a> {
-    ghost use Rattle.std.specs.Prelude.{◌≡◌, None, Some, MatchOption};
+    ghost use Rattle.std.specs.Prelude.{◌≡◌, false};
+    ghost use Rattle.cp_invlist.specs.InversionList.{contains};
     ghost use Rattle.prop_data.specs.Database.{tables_of};
+    ghost use Rattle.uset_grammar.specs.Escape.{Apart};
     ghost use Rattle.uset_reader.specs.Variables.{variables_of};
-    ghost use Rattle.uset_reader.specs.Syntaxes.{language_of, language_seen};
+    ghost use Rattle.uset_reader.specs.Syntaxes.{language_by, language_seen};
 
-    /// The syntax of a database, with these variables. `None` where one of the three tables is absent.
-    pub(crate) fn of(variables: &'a VariableMap, database: &'a PropertyDatabase) -> Option<Syntax<'a>>
-        ensures { MatchOption result (language_of (tables_of database.now) (variables_of variables.now) ≡ None) (λ s. language_of (tables_of database.now) (variables_of variables.now) ≡ Some (language_seen s)) }
+    /// The syntax of these sets, with these variables, over the sets of this database.
+    pub fn new(
+        white_space: &'a CodePointInversionList,
+        start: &'a CodePointInversionList,
+        continuing: &'a CodePointInversionList,
+        variables: &'a VariableMap,
+        database: &'a PropertyDatabase,
+    ) -> Syntax<'a>
+        requires apart { Apart (contains white_space.now) }
+        requires letter { contains white_space.now 0x61 ≡ false }
+        ensures { language_seen result ≡ language_by (contains white_space.now) (contains start.now) (contains continuing.now) (variables_of variables.now) (tables_of database.now) }
     {
-        let white_space = database.set(SetTable::PATTERN_WHITE_SPACE)?;
-        let continuing = database.set(SetTable::XID_CONTINUE)?;
-        let start = database.set(SetTable::XID_START)?;
-        Some(Syntax {
+        Syntax {
             white_space,
             start,
             continuing,
             variables,
             database,
-        })
+        }
     }
 }

@@ -39,11 +39,23 @@ pub enum VariableValue {
 }
 
 impl VariableValue {
-    ghost use Rattle.std.specs.Prelude.{◌≡◌, true};
-    ghost use Rattle.uset_reader.specs.Values.{kept, is_kept};
+    ghost use Rattle.std.specs.Prelude.{◌≡◌, true, false, MatchOption};
+    ghost use Rattle.uset_grammar.specs.Language.{is_set};
+    ghost use Rattle.uset_reader.specs.declared.variable.VariableValue.TheVariants.{UnicodeSet};
+    ghost use Rattle.uset_reader.specs.Values.{kept, is_kept, value_seen};
+
+    /// The set, where it is one.
+    pub fn as_set(&self) -> Option<&CodePointInversionListAndStringList>
+        ensures { MatchOption result (is_set (value_seen self.now) ≡ false) (λ set. self.now ≡ UnicodeSet set.now) }
+    {
+        match self {
+            VariableValue::UnicodeSet(set) => Some(set),
+            _ => None,
+        }
+    }
 
     /// The value as a map keeps it: a string of exactly one character as that character.
-    pub(crate) fn kept(self) -> VariableValue
+    pub fn kept(self) -> VariableValue
         ensures value { result ≡ kept self }
         ensures kept { is_kept result ≡ true }
     {

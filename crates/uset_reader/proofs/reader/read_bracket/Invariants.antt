@@ -1,0 +1,13 @@
+use Rattle.std.proofs.Common.{◌≡◌, length}
+use Rattle.uset_read.specs.Cursors.{source_of, left_of}
+use Rattle.uset_reader.specs.Syntaxes.{language_seen}
+use Rattle.uset_reader.proofs.ReaderLemmas.{OpenAt}
+use Rattle.uset_reader.proofs.reader.read_bracket.Given as goal
+
+abbrev pub invariant-loop-progress : goal.invariant-loop-progress
+invariant-loop-progress l =
+    (source_of l.place ≡ l.fn.source)
+    × OpenAt (language_seen l.fn.syntax) l.fn.source (left_of l.place) l.outer.items l.bracket
+
+abbrev pub decreases-loop-progress : goal.decreases-loop-progress
+decreases-loop-progress l = length (left_of l.place)

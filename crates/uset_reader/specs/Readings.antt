@@ -1,0 +1,27 @@
+-- What the reader answers for a source.
+use Rattle.std.specs.Prelude.{◌≡◌, ℕ, List, Option}
+use Rattle.std.specs.Str.{chars}
+use Rattle.uset_grammar.specs.Text.{Text}
+use Rattle.uset_grammar.specs.Tree.{Tree, Member, has}
+use Rattle.uset_grammar.specs.Language.{Language}
+use Rattle.uset_grammar.specs.Grammar.{Reads}
+use Rattle.uset_grammar.specs.Fault.{Fault}
+use Rattle.uset_grammar.specs.Place.{offset_of}
+use Rattle.uset_gather.specs.declared.gathered.Gathered.{Gathered}
+use Rattle.uset_gather.specs.Gathered.{gathered_in}
+use Rattle.uset_read.specs.declared.cursor.Cursor.{Cursor}
+use Rattle.uset_read.specs.Cursors.{source_of, left_of}
+use Rattle.uset_reader.specs.declared.error.ParseError.{ParseError}
+use Rattle.uset_reader.specs.Faults.{Tells}
+
+-- the source is read up to the cursor, with this set
+pub record IsReading (l : Language) (source : List ℕ) (set : Gathered) (end : Cursor) : Type 0 where
+  pub tree : Tree
+  pub read : Reads l (chars source) tree (chars (left_of end))
+  pub members : (m : Member) → gathered_in set m ≡ has tree m
+  pub same : source_of end ≡ source
+
+-- the error is the fault of the source, with its place in bytes; or memory was refused
+abbrev pub IsRefusal : Language → List ℕ → ParseError → Type 0
+IsRefusal l source error =
+    Tells error (λ kind offset. (place : Option Text) × Fault l (chars source) kind place × (offset ≡ offset_of kind place))
