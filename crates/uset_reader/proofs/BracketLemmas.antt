@@ -1,12 +1,12 @@
 -- Brackets that gather.
-use Rattle.std.proofs.Common.{◌≡◌, ◌≢◌, ◌<◌, ◌+◌, ℕ, suc, Bool, true, false, ◌||◌, if◌then◌else◌, List, [], ◌∷◌, ◌++◌, length, take, slice_index_or, Option, Some, None, refl, sym, ap, ◌∙◌, subst, arith}
+use Rattle.std.proofs.Common.{◌≡◌, ◌≢◌, ◌<◌, ◌+◌, ℕ, suc, Bool, true, false, List, [], ◌∷◌, ◌++◌, length, take, slice_index_or, Option, Some, None, refl, sym, ap, ◌∙◌, subst, arith}
 use Rattle.std.proofs.Math.Seq.{take-suc}
-use Rattle.uset_grammar.specs.Tree.{Tree, Member, has, Steps, add, gathers, in_range, leading_hyphen, negation}
+use Rattle.uset_grammar.specs.Tree.{Member, has, Steps, add, gathers, leading_hyphen}
 use Rattle.uset_grammar.specs.Item.{Item, chars, tree_of}
 use Rattle.uset_grammar.specs.Body.{add_each}
 use Rattle.uset_grammar.specs.Text.{Text}
-use Rattle.uset_grammar.specs.Arranging.{Awaits, element, same, Next, stuck, on, next, after, went, run, fit, finish, ending, arranged, arrange}
-use Rattle.uset_grammar.specs.Reached.{OpenBracket, with_item}
+use Rattle.uset_grammar.specs.Arranging.{same, Next, stuck, on, next, after, went, finish, ending, arranged, arrange}
+use Rattle.uset_grammar.specs.Reached.{OpenBracket}
 use Rattle.uset_grammar.specs.Place.{size}
 use Rattle.uset_grammar.specs.Turn.{greatest, reversed_code}
 use Rattle.uset_grammar.specs.Laws.{AwaitedTells}
@@ -16,12 +16,11 @@ use Rattle.uset_reader.specs.declared.bracket.Opening.{Opening as CodeOpening}
 use Rattle.uset_reader.specs.declared.bracket.OpenBracket.{OpenBracket as CodeBracket}
 use Rattle.uset_reader.specs.declared.bracket.Taken.{Taken}
 use Rattle.uset_reader.specs.declared.bracket.Taken.TheVariants.{Fits, Reversed, Unfit}
-use Rattle.uset_reader.specs.declared.item.Item.{Item as CodeItem}
 use Rattle.uset_reader.specs.declared.arrange.Arranged.{Arranged}
 use Rattle.uset_reader.specs.declared.arrange.Operation.{Operation}
 use Rattle.uset_reader.specs.declared.arrange.Awaits.TheVariants.{Element}
-use Rattle.uset_reader.specs.Items.{number_of, item_seen, awaits_seen, arranged_steps, Arranges, own_steps}
-use Rattle.uset_reader.specs.Brackets.{opening_seen, KeepsFrame, Becomes, Stands, begun, IsItem, Took, Refused, Became, Refuses, Closed, EndedAs, finished}
+use Rattle.uset_reader.specs.Items.{number_of, awaits_seen, arranged_steps, Arranges, own_steps}
+use Rattle.uset_reader.specs.Brackets.{opening_seen, KeepsFrame, Becomes, Stands, begun, Took, Refused, Became, Refuses, Closed, EndedAs, finished}
 
 -- a bracket that begins
 pub begins : (b : CodeBracket) (opening : CodeOpening) (before : Text) (place : ℕ) → b.opening ≡ opening → b.awaits ≡ Element → b.before ≡ place → place ≡ size before →

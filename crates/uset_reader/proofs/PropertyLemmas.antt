@@ -1,32 +1,29 @@
 -- Properties that are read and resolved.
-use Rattle.std.proofs.Common.{◌≡◌, ℕ, Bool, true, false, cond, List, ◌++◌, Option, Some, None, option_map, Result, Ok, Err, MatchResult, IfOk, refl, sym, ap, ◌∙◌, subst, encode_utf8_all}
-use Rattle.std.specs.Prelude.{is_some}
+use Rattle.std.proofs.Common.{◌≡◌, ℕ, List, ◌++◌, Option, Some, None, option_map, Result, Ok, Err, IfOk, sym, ap, ◌∙◌, subst, encode_utf8_all}
 use Rattle.std.specs.Borrow.{Bor}
 use Rattle.std.specs.Global.{Global}
 use Rattle.std.specs.declared.string.String.{String}
 use Rattle.std.proofs.lemmas.Str.{encodes-chars, IsUtf8-string_bytes}
 use Rattle.std.specs.Str.{chars}
 use Rattle.std.specs.String.{string_bytes}
-use Rattle.cp_invlist.specs.InversionList.{contains}
 use Rattle.prop_data.specs.Database.{tables_of}
 use Rattle.prop_data.specs.Tables.{Tables}
-use Rattle.uset_grammar.specs.Text.{Text}
-use Rattle.uset_grammar.specs.Outcome.{Outcome, got, faulty, internal, unknown_property}
-use Rattle.uset_grammar.specs.Property.{Query, PropertyBegins, PropertyOutcome}
-use Rattle.uset_grammar.specs.Language.{Language, resolves, lacks, found}
+use Rattle.uset_grammar.specs.Outcome.{got, faulty}
+use Rattle.uset_grammar.specs.Property.{PropertyOutcome}
+use Rattle.uset_grammar.specs.Language.{Language, resolves, lacks}
 use Rattle.uset_gather.specs.declared.operand.Operand.{Operand}
 use Rattle.uset_read.specs.declared.property.Form.{Form as CodeForm}
 use Rattle.uset_read.specs.declared.property.Query.{Query as CodeQuery}
 use Rattle.uset_read.specs.declared.stop.Kind.{Kind as CodeKind}
 use Rattle.uset_read.specs.declared.stop.Stop.{Stop}
 use Rattle.uset_read.specs.declared.stop.Stop.TheVariants.{Fault}
-use Rattle.uset_read.specs.Stops.{Stops, kind_seen}
+use Rattle.uset_read.specs.Stops.{Stops}
 use Rattle.uset_read.specs.Queries.{form_seen, query_seen, close_in, PropertyIs, PropertyStops}
 use Rattle.uset_reader.specs.declared.syntax.Syntax.{Syntax}
 use Rattle.uset_reader.specs.declared.property.Resolution.{Resolution}
 use Rattle.uset_reader.specs.Resolution.{resolve_bytes, lacking_bytes, Answers, IsOperandOf}
 use Rattle.uset_reader.specs.Syntaxes.{language_seen}
-use Rattle.uset_reader.specs.Units.{resolved_by, lacked_by, IsRead, OperandIs, OperandStops}
+use Rattle.uset_reader.specs.Units.{resolved_by, lacked_by, OperandIs, OperandStops}
 
 pub if_ok : {A E : Type 0} (result : Result A E) {P Q : A → Type 0} → ((x : A) → P x → Q x) → IfOk result P → IfOk result Q
 if_ok (Ok x) f h = f x h
@@ -42,7 +39,7 @@ by_bytes tables query resolution h =
   where
     by : (v : Option (String Global)) → Answers resolution (resolve_bytes tables (string_bytes query.key) (option_map string_bytes v)) (lacking_bytes (string_bytes query.key) (option_map string_bytes v)) →
         Answers resolution (resolve_bytes tables (string_bytes query.key) (option_map encode_utf8_all (option_map (λ s. chars (string_bytes s)) v)))
-            (lacking_bytes (string_bytes query.key) (option_map encode_utf8_all (option_map (λ s. chars (string_bytes s)) v)))
+        (lacking_bytes (string_bytes query.key) (option_map encode_utf8_all (option_map (λ s. chars (string_bytes s)) v)))
     by None h = h
     by (Some s) h =
         subst (λ k. Answers resolution (resolve_bytes tables (string_bytes query.key) (Some k)) (lacking_bytes (string_bytes query.key) (Some k))) (sym (encodes-chars (string_bytes s) (IsUtf8-string_bytes s))) h

@@ -1,18 +1,17 @@
 -- The reader on a whole source.
-use Rattle.std.proofs.Common.{◌≡◌, ℕ, Bool, true, false, List, [], ◌∷◌, ◌++◌, Option, Some, None, Result, Ok, Err, refl, sym, ap, ◌∙◌, subst, append_assoc, option_map, encode_utf8_all}
+use Rattle.std.proofs.Common.{◌≡◌, ℕ, false, List, [], ◌∷◌, Option, Some, None, Ok, Err, refl, sym, ap, ◌∙◌, subst, option_map, encode_utf8_all}
 use Rattle.std.specs.Borrow.{Bor}
 use Rattle.std.specs.Str.{chars}
-use Rattle.uset_grammar.specs.Text.{Text, Ends, IsBehind}
-use Rattle.uset_grammar.specs.Outcome.{Kind, unexpected, unknown_variable, unexpected_variable, eof, Outcome, got, faulty, ended}
-use Rattle.uset_grammar.specs.Tree.{Tree, Member, has, given}
-use Rattle.uset_grammar.specs.Property.{PropertyOutcome}
-use Rattle.uset_grammar.specs.Language.{Language, Lawful, Value, set, is_set, resolves, lacks, property_tree}
+use Rattle.uset_grammar.specs.Text.{Text, IsBehind}
+use Rattle.uset_grammar.specs.Outcome.{Kind, unexpected, unknown_variable, unexpected_variable, eof}
+use Rattle.uset_grammar.specs.Tree.{Member, given}
+use Rattle.uset_grammar.specs.Language.{Language, Lawful, is_set, property_tree}
 use Rattle.uset_grammar.specs.Front.{too_short, stray, bare, of_variable, of_bracket, of_property, first}
-use Rattle.uset_grammar.specs.Grammar.{Reads, a_bracket, a_property, a_variable}
+use Rattle.uset_grammar.specs.Grammar.{Reads, a_property, a_variable}
 use Rattle.uset_grammar.specs.Reached.{OpenBracket, Moves, opens_first, Reached, whole, further}
-use Rattle.uset_grammar.specs.Fault.{FaultAt, empty, no_set, no_name, unbound_first, no_set_variable, property_fails, property_ends, Fault}
-use Rattle.uset_grammar.specs.Place.{size, bytes_before, offset_of}
-use Rattle.uset_grammar.specs.Turn.{Verdict, accepted, rejected, Turn, goes, stops, UnitReader, turn, Means}
+use Rattle.uset_grammar.specs.Fault.{FaultAt, empty, no_set, no_name, unbound_first, no_set_variable, property_fails, property_ends}
+use Rattle.uset_grammar.specs.Place.{size, offset_of}
+use Rattle.uset_grammar.specs.Turn.{accepted, rejected, Turn, goes, stops, UnitReader, turn, Means}
 use Rattle.uset_grammar.specs.Laws.{UnitsAreRead, TurnsMean, ReadAtLast, MovesOn, AllRestsAreBehind}
 use Rattle.uset_gather.specs.declared.gathered.Gathered.{Gathered}
 use Rattle.uset_gather.specs.declared.operand.Operand.{Operand}
@@ -33,7 +32,7 @@ use Rattle.uset_reader.specs.Values.{value_seen}
 use Rattle.uset_reader.specs.Variables.{bound}
 use Rattle.uset_reader.specs.declared.turn.Progress.TheVariants.{GoesOn, Done}
 use Rattle.uset_reader.specs.Brackets.{opening_seen, Stands, begun, IsBegun}
-use Rattle.uset_reader.specs.Faults.{kind_of, offset_in, kind_told, Tells, IsAt, IsBefore, IsStop}
+use Rattle.uset_reader.specs.Faults.{kind_of, offset_in, kind_told, IsAt, IsBefore, IsStop}
 use Rattle.uset_reader.specs.Syntaxes.{language_seen}
 use Rattle.uset_reader.specs.Turns.{Around, Before, Turns}
 use Rattle.uset_reader.specs.Units.{OperandIs, OperandStops}

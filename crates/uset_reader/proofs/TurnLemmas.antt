@@ -14,7 +14,7 @@ use Rattle.uset_grammar.specs.Fault.{as_character}
 use Rattle.uset_grammar.specs.Reached.{OpenBracket, with_item, is_short, is_last_property}
 use Rattle.uset_grammar.specs.Place.{size, bytes_before, offset_of}
 use Rattle.uset_grammar.specs.Arranging.{next, went, fit, arrange}
-use Rattle.uset_grammar.specs.Turn.{Verdict, accepted, rejected, Turn, goes, stops, UnitReader, at, last_at, two, greatest, reversed_code, head, refusal, judged, named_turn, unit_turn, closed, nested_turn, front_turn, turn}
+use Rattle.uset_grammar.specs.Turn.{Verdict, rejected, Turn, goes, stops, UnitReader, at, last_at, two, greatest, reversed_code, head, refusal, judged, named_turn, unit_turn, closed, nested_turn, front_turn, turn}
 use Rattle.uset_grammar.specs.Laws.{PlacesAre, AwaitedTells, RestsAreBehind}
 use Rattle.uset_read.specs.declared.cursor.Cursor.{Cursor}
 use Rattle.uset_read.specs.Cursors.{source_of, left_of}
@@ -33,14 +33,14 @@ use Rattle.uset_reader.specs.declared.bracket.Taken.{Taken}
 use Rattle.uset_reader.specs.declared.bracket.Taken.TheVariants.{Fits, Reversed, Unfit}
 use Rattle.uset_reader.specs.Items.{number_of, item_seen, IsTreeOf, awaits_seen}
 use Rattle.uset_reader.specs.Fronts.{no_tree}
-use Rattle.uset_reader.specs.Brackets.{Stands, begun, IsBegun, IsItem, Took, Refused, Takes, Closes}
+use Rattle.uset_reader.specs.Brackets.{Stands, begun, IsBegun, IsItem, Takes, Closes}
 use Rattle.uset_reader.specs.declared.bracket.Opening.{Opening as CodeOpening}
 use Rattle.uset_gather.specs.declared.gathered.Gathered.{Gathered}
 use Rattle.uset_gather.specs.declared.operand.Operand.TheVariants.{Gathered as Made}
 use Rattle.uset_reader.specs.declared.item.Item.TheVariants.{Set}
 use Rattle.uset_reader.specs.Faults.{kind_of, offset_in, kind_told, ToldAs, Tells, IsAt, IsBefore, IsStop}
 use Rattle.uset_reader.specs.Units.{UnitIs, UnitStops}
-use Rattle.uset_reader.specs.Turns.{Before, SortIs, Around, AllStand, TurnedTo, ForAll, Turns, Rejects, IsUnfit, TakesAs, TakesVariable, TakesUnit, Opens, ClosesAs}
+use Rattle.uset_reader.specs.Turns.{Before, Around, AllStand, TurnedTo, ForAll, Turns, Rejects, IsUnfit, TakesAs, TakesVariable, TakesUnit, Opens, ClosesAs}
 use Rattle.uset_reader.specs.declared.syntax.Syntax.{Syntax}
 use Rattle.uset_reader.specs.declared.variable.VariableValue.{VariableValue}
 use Rattle.uset_reader.specs.Values.{value_seen}
@@ -255,9 +255,13 @@ pub opens_inside : (places : PlacesAre) (cursor : Cursor) (outer new_outer : Lis
     Opens (source_of cursor) outer b opening text inner.now new_outer new (Ok (GoesOn inner))
 opens_inside places cursor outer new_outer b new opening text inner offset at_text is pushed l units here o os stands around =
     let whole = chars (source_of cursor) in
-    let place = (places l units whole here.before (chars text)).0 here.is in
-    (begun (at l units whole (chars text)) opening, o ∷ os, refl, is (at l units whole (chars text)) (at_text here.before here.is ∙ ap size (sym place)),
-     subst (λ bs. AllStand bs (o ∷ os)) (sym (ap reverse pushed ∙ reverse-snoc outer b)) (stands, around))
+    let place = (places l units whole here.before (chars text)).0 here.is in (
+      begun (at l units whole (chars text)) opening,
+      o ∷ os,
+      refl,
+      is (at l units whole (chars text)) (at_text here.before here.is ∙ ap size (sym place)),
+      subst (λ bs. AllStand bs (o ∷ os)) (sym (ap reverse pushed ∙ reverse-snoc outer b)) (stands, around),
+    )
 
 -- a `]` that doesn't fit
 pub closes_unfit : (places : PlacesAre) (cursor : Cursor) (outer new_outer : List CodeBracket) (b new : CodeBracket) (text rest : List ℕ) (e : ParseError) → Closes b None → kind_told (kind_of e) ≡ Some (unexpected 0x5D) →
@@ -276,10 +280,11 @@ pub closes_outermost : (source : List ℕ) (outer new_outer : List CodeBracket) 
     ClosesAs source outer b text rest.now new_outer new (Ok (Done made rest))
 closes_outermost source outer new_outer b new text rest made h none l units here o os stands around =
     let shut = h o stands in
-    let alone = none_around os (subst (λ bs. AllStand (reverse bs) os) none around) in
-    (tree_of o.header shut.steps,
-     ap (λ z. closed l units (chars source) o os (chars text) (chars rest.now) z) shut.arranged ∙ ap (λ z. closed l units (chars source) o z (chars text) (chars rest.now) (Some shut.steps)) alone,
-     shut.members)
+    let alone = none_around os (subst (λ bs. AllStand (reverse bs) os) none around) in (
+      tree_of o.header shut.steps,
+      ap (λ z. closed l units (chars source) o os (chars text) (chars rest.now) z) shut.arranged ∙ ap (λ z. closed l units (chars source) o z (chars text) (chars rest.now) (Some shut.steps)) alone,
+      shut.members,
+    )
 
 -- the bracket around the innermost one
 pub record BracketAround (around : CodeBracket) (outer : List CodeBracket) (os : List OpenBracket) : Type 0 where
@@ -305,7 +310,7 @@ closes_last source outer new_outer left b around new text rest made e h popped n
     tells e eof _ is (
       None,
       ap (λ z. closed l units (chars source) o os (chars text) (chars rest) z) shut.arranged
-      ∙ (ap (λ z. closed l units (chars source) o z (chars text) (chars rest) (Some shut.steps)) next.are ∙ ap (λ z. closed l units (chars source) o (next.next ∷ next.further) (chars text) z (Some shut.steps)) none),
+          ∙ (ap (λ z. closed l units (chars source) o z (chars text) (chars rest) (Some shut.steps)) next.are ∙ ap (λ z. closed l units (chars source) o (next.next ∷ next.further) (chars text) z (Some shut.steps)) none),
       offset,
     )
 
@@ -333,10 +338,13 @@ module _ (source : List ℕ) (outer left : List CodeBracket) (b around new : Cod
   pub closes_inside : Takes around (Set (Made made)) Fits new → ClosesAs source outer b text rest.now left new (Ok (GoesOn rest))
   closes_inside h l units here o os stands around_h =
       let k = inside l units o os stands around_h in
-      let took = h k.next (set_item l units o os stands around_h) k.stands (is_set_item l units o os stands around_h) in
-      (with_item k.next (set_item l units o os stands around_h), k.further,
-       closed_turn l units o os stands around_h true took.fits ∙ ap (λ z. goes (with_item k.next (set_item l units o os stands around_h) ∷ k.further) z) (sym more),
-       took.stands, k.around_too)
+      let took = h k.next (set_item l units o os stands around_h) k.stands (is_set_item l units o os stands around_h) in (
+        with_item k.next (set_item l units o os stands around_h),
+        k.further,
+        closed_turn l units o os stands around_h true took.fits ∙ ap (λ z. goes (with_item k.next (set_item l units o os stands around_h) ∷ k.further) z) (sym more),
+        took.stands,
+        k.around_too,
+      )
 
   -- its set doesn't fit outside
   pub closes_misplaced : (unfit : (o : OpenBracket) (i : Item) → Stands around o → IsItem (Set (Made made)) i → fit (o.items ++ i ∷ []) ≡ false) (e : ParseError) →

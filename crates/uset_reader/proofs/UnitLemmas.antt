@@ -1,6 +1,5 @@
 -- Units that are read.
-use mathlib.Core.Logic.{◌⊎◌}
-use Rattle.std.proofs.Common.{zero, suc, length, Option, Some, None, inl, inr, ◌≡◌, ◌≤◌, ◌<◌, ℕ, Bool, true, false, ◌&&◌, not, nat_lt, All, List, [], ◌∷◌, ◌++◌, refl, sym, ap, ◌∙◌, subst, arith}
+use Rattle.std.proofs.Common.{zero, suc, length, Option, Some, None, inl, inr, ◌≡◌, ◌≤◌, ℕ, Bool, true, false, ◌&&◌, not, nat_lt, All, List, [], ◌∷◌, refl, sym, ap, ◌∙◌, subst, arith}
 use Rattle.std.specs.Prelude.{◌==◌, is_some}
 use Rattle.std.proofs.lemmas.Bool.{eqb-true}
 use Rattle.std.proofs.lemmas.Bool.Decides.{nat_tests}
@@ -12,13 +11,13 @@ use Rattle.std.specs.Str.{chars}
 use Rattle.std.specs.String.{string_bytes}
 use Rattle.uset_grammar.specs.Text.{Text}
 use Rattle.uset_grammar.specs.Outcome.{Outcome, got, faulty, ended, meaning}
-use Rattle.uset_grammar.specs.Escape.{Spelled, itself, numbers, is_above}
+use Rattle.uset_grammar.specs.Escape.{Spelled, is_above}
 use Rattle.uset_grammar.specs.EscapeSlips.{in_bracket, fits_in, so_many, allowed, EscapeOutcome}
-use Rattle.uset_grammar.specs.BracedString.{StringOutcome, text_of}
+use Rattle.uset_grammar.specs.BracedString.{StringOutcome}
 use Rattle.uset_grammar.specs.Property.{Query, PropertyBegins, PropertyOutcome}
 use Rattle.uset_grammar.specs.Unit.{Meaning, an_escape, a_string, a_property, begins_property, UnitBegins, brace_begins, posix_begins, backslash_begins, UnitOutcome}
-use Rattle.uset_grammar.specs.Item.{Item, chars as item_chars, text as item_text, text_item}
-use Rattle.uset_grammar.specs.Language.{Language, resolves, lacks, property_tree, stands_for}
+use Rattle.uset_grammar.specs.Item.{chars as item_chars, text as item_text, text_item}
+use Rattle.uset_grammar.specs.Language.{Language, resolves, lacks, property_tree}
 use Rattle.uset_grammar.specs.Laws.{KindsTell, UnitsOfKinds}
 use Rattle.uset_gather.specs.declared.operand.Operand.{Operand}
 use Rattle.uset_read.specs.declared.stop.Stop.{Stop}
@@ -26,7 +25,7 @@ use Rattle.uset_read.specs.declared.stop.Stop.TheVariants.{Fault, Ended, NoMemor
 use Rattle.uset_read.specs.declared.escape.Spelled.{Spelled as CodeSpelled}
 use Rattle.uset_read.specs.declared.escape.Spelled.TheVariants.{Itself, Numbers}
 use Rattle.uset_read.specs.declared.escape.Around.TheVariants.{Bracket}
-use Rattle.uset_read.specs.Spelled.{spelled_seen, spelled_codes, EscapeIs, EscapeStops}
+use Rattle.uset_read.specs.Spelled.{spelled_seen, EscapeIs, EscapeStops}
 use Rattle.uset_read.specs.Pieces.{StringIs, StringStops}
 use Rattle.uset_read.specs.UnitRead.{StopsAt}
 use Rattle.uset_reader.specs.declared.syntax.Syntax.{Syntax}
@@ -34,11 +33,11 @@ use Rattle.uset_reader.specs.declared.item.Item.{Item as CodeItem}
 use Rattle.uset_reader.specs.declared.item.Item.TheVariants.{Single, Several, Text as Spelled_text, Set}
 use Rattle.uset_reader.specs.declared.item.Codes.{Codes}
 use Rattle.uset_reader.specs.declared.code_point.CodePoint.{CodePoint}
-use Rattle.uset_reader.specs.Items.{number_of, IsProper}
+use Rattle.uset_reader.specs.Items.{number_of}
 use Rattle.uset_reader.specs.Fronts.{no_tree}
 use Rattle.uset_reader.specs.Brackets.{IsItem}
 use Rattle.uset_reader.specs.Syntaxes.{language_seen}
-use Rattle.uset_reader.specs.Units.{begins_with, AreCodePoints, chars_of, IsString, IsEscape, IsProperty, OperandIs, OperandStops, IsReadUnit, UnitIs, UnitStops}
+use Rattle.uset_reader.specs.Units.{begins_with, AreCodePoints, chars_of, IsString, IsEscape, IsProperty, OperandIs, OperandStops, UnitIs, UnitStops}
 
 heads : {c d : ℕ} {t u : Text} → c ∷ t ≡ d ∷ u → c ≡ d
 heads h = cc

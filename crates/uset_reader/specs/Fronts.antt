@@ -1,5 +1,5 @@
 -- What stands in front, as the code has it.
-use Rattle.std.specs.Prelude.{◌≡◌, ◌<◌, ℕ, Bool, false, length, List}
+use Rattle.std.specs.Prelude.{◌<◌, ℕ, false, length, List}
 use Rattle.std.specs.Str.{chars}
 use Rattle.uset_grammar.specs.Tree.{Tree, given}
 use Rattle.uset_grammar.specs.Front.{Front, nothing, closing, opening, single, of_name, begins_unit, caret, First, too_short, stray, bare, of_variable, of_bracket, of_property}

@@ -1,5 +1,5 @@
 -- The items of the code as those of the grammar, and how it arranges them.
-use Rattle.std.specs.Prelude.{◌≡◌, ◌≢◌, ◌≤◌, ℕ, Bool, All, List, [], ◌∷◌, Option, Some, None, is_some}
+use Rattle.std.specs.Prelude.{◌≡◌, ◌≤◌, ℕ, All, [], ◌∷◌, Option, Some, None}
 use Rattle.std.specs.Str.{chars as characters}
 use Rattle.std.specs.String.{string_bytes}
 use Rattle.cp_invlist.specs.declared.ranges.CodePointRange.{CodePointRange}
@@ -11,7 +11,6 @@ use Rattle.uset_grammar.specs.Arranging.{Awaits, element, after_single, range_en
 use Rattle.uset_gather.specs.declared.operand.Operand.{Operand}
 use Rattle.uset_gather.specs.Gathered.{operand_in}
 use Rattle.uset_reader.specs.declared.code_point.CodePoint.{CodePoint}
-use Rattle.uset_reader.specs.declared.item.Codes.{Codes}
 use Rattle.uset_reader.specs.declared.item.Item.{Item as CodeItem}
 use Rattle.uset_reader.specs.declared.item.Item.TheVariants.{Minus, Ampersand, Dollar, Single, Several, Text as Spelled, Set}
 use Rattle.uset_reader.specs.declared.arrange.Awaits.{Awaits as CodeAwaits}

@@ -4,7 +4,6 @@ use Rattle.std.specs.Prelude.{◌≡◌, ℕ, Bool, true, false, not, ◌==◌, 
 use Rattle.std.specs.Char.{to_ascii_lowercase}
 use Rattle.std.specs.List.{list_any}
 use Rattle.std.specs.Str.{bytes_eq}
-use Rattle.std.specs.String.{string_bytes}
 use Rattle.cp_invlist.specs.InversionList.{contains}
 use Rattle.prop_binary.specs.Ecma262.{ecma262_number}
 use Rattle.prop_data.specs.Tables.{Tables}
@@ -91,4 +90,4 @@ abbrev pub IsOperandOf : Resolution → Bool → Result Operand CodeKind → Typ
 IsOperandOf resolution negated result =
     (resolved : Option Resolved) (lacks : Bool) → Answers resolution resolved lacks →
     MatchResult result (λ operand. (is_some resolved ≡ true) × IsOperand operand (found negated resolved))
-        (λ kind. (is_some resolved ≡ false) × (kind_seen kind ≡ (if lacks then internal else unknown_property)))
+    (λ kind. (is_some resolved ≡ false) × (kind_seen kind ≡ (if lacks then internal else unknown_property)))

@@ -1,12 +1,11 @@
 -- What one turn of the reader does, as the grammar's turn does it.
-use Rattle.std.specs.Prelude.{◌≡◌, ◌<◌, ℕ, Bool, true, false, length, List, [], ◌∷◌, ◌++◌, reverse, Option, Some, None, Result, Ok, Err}
+use Rattle.std.specs.Prelude.{◌≡◌, ◌<◌, ℕ, false, length, List, [], ◌∷◌, ◌++◌, reverse, Option, None, Result, Ok, Err}
 use Rattle.std.specs.Str.{chars}
 use Rattle.uset_grammar.specs.Text.{Text, IsBehind}
-use Rattle.uset_grammar.specs.Outcome.{Kind}
 use Rattle.uset_grammar.specs.Tree.{Tree, Member, has}
 use Rattle.uset_grammar.specs.Item.{Item}
 use Rattle.uset_grammar.specs.Language.{Language}
-use Rattle.uset_grammar.specs.Grammar.{Sort, of_one_character, of_variable_name, of_unit}
+use Rattle.uset_grammar.specs.Grammar.{Sort, of_variable_name}
 use Rattle.uset_grammar.specs.Reached.{OpenBracket, is_short}
 use Rattle.uset_grammar.specs.Front.{front, begins_unit}
 use Rattle.uset_grammar.specs.Arranging.{fit, arrange}

@@ -102,14 +102,35 @@ pub(crate) fn arranged_behind(awaits: Awaits, item: &Item<'_>) -> Option<Arrange
         (Awaits::AfterSet, Item::Minus) => Arranged::goes_on(Awaits::RemoveOrEnd),
         (Awaits::AfterSet, Item::Ampersand) => Arranged::goes_on(Awaits::Keep),
         (Awaits::Element | Awaits::AfterSet, Item::Dollar) => Arranged::goes_on(Awaits::AnchorEnd),
-        (Awaits::AfterSingle(first), Item::Dollar) => Arranged::adds(first, first, Awaits::AnchorEnd),
-        (Awaits::Element | Awaits::AfterSet, Item::Single(c)) => Arranged::goes_on(Awaits::AfterSingle(*c)),
-        (Awaits::AfterSingle(first), Item::Single(c)) => Arranged::adds(first, first, Awaits::AfterSingle(*c)),
-        (Awaits::RangeEnd(first), Item::Single(last)) if first.number() <= last.number() => Arranged::adds(first, *last, Awaits::Element),
-        (Awaits::Element | Awaits::AfterSet, Item::Several(_) | Item::Text(_)) => Arranged::goes_on(Awaits::Element),
-        (Awaits::AfterSingle(first), Item::Several(_) | Item::Text(_)) => Arranged::adds(first, first, Awaits::Element),
+        (Awaits::AfterSingle(first), Item::Dollar) => Arranged::adds(
+            first,
+            first,
+            Awaits::AnchorEnd,
+        ),
+        (Awaits::Element | Awaits::AfterSet, Item::Single(c)) => Arranged::goes_on(
+            Awaits::AfterSingle(*c),
+        ),
+        (Awaits::AfterSingle(first), Item::Single(c)) => Arranged::adds(
+            first,
+            first,
+            Awaits::AfterSingle(*c),
+        ),
+        (Awaits::RangeEnd(first), Item::Single(last)) if first.number() <= last.number() =>
+            Arranged::adds(first, *last, Awaits::Element),
+        (Awaits::Element | Awaits::AfterSet, Item::Several(_) | Item::Text(_)) => Arranged::goes_on(
+            Awaits::Element,
+        ),
+        (Awaits::AfterSingle(first), Item::Several(_) | Item::Text(_)) => Arranged::adds(
+            first,
+            first,
+            Awaits::Element,
+        ),
         (Awaits::Element | Awaits::AfterSet, Item::Set(_)) => Arranged::gathers(Operation::Join),
-        (Awaits::AfterSingle(first), Item::Set(_)) => Arranged::adds(first, first, Awaits::AfterSet),
+        (Awaits::AfterSingle(first), Item::Set(_)) => Arranged::adds(
+            first,
+            first,
+            Awaits::AfterSet,
+        ),
         (Awaits::RemoveOrEnd, Item::Set(_)) => Arranged::gathers(Operation::Remove),
         (Awaits::Keep, Item::Set(_)) => Arranged::gathers(Operation::Retain),
         _ => None,

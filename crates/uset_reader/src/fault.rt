@@ -41,7 +41,10 @@ pub(crate) fn stopped(cursor: Cursor<'_>, stop: Stop<'_>) -> ParseError
         Kind::UnexpectedChar(c) => ParseError::at(ParseErrorKind::UnexpectedChar(c), offset),
         Kind::Unimplemented => ParseError::at(ParseErrorKind::Unimplemented, offset),
         Kind::InvalidEscape => ParseError::at(ParseErrorKind::InvalidEscape, offset),
-        Kind::UnknownProperty => ParseError::at(ParseErrorKind::UnknownProperty, offset.saturating_sub(1)),
+        Kind::UnknownProperty => ParseError::at(
+            ParseErrorKind::UnknownProperty,
+            offset.saturating_sub(1),
+        ),
         Kind::Internal => ParseError::at(ParseErrorKind::Internal, offset.saturating_sub(1)),
     }
 }

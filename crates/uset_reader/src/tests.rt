@@ -7,7 +7,7 @@ use std::test::Fail;
 const TABLES: &str = "set ASCII_Hex_Digit\n30-39\n41-46\n61-66\nend\n";
 
 #[test]
-fn a_bracket_at_the_front_is_read(rt: HostRuntime) -> Result<(), Fail> {
+fn a_set_at_the_front_is_read(rt: HostRuntime) -> Result<(), Fail> {
     let alloc = rt.alloc();
     let database = PropertyDatabase::from_text(alloc, TABLES)?;
     let variables = VariableMap::new(alloc);
@@ -19,10 +19,47 @@ fn a_bracket_at_the_front_is_read(rt: HostRuntime) -> Result<(), Fail> {
         ("[]", &[], 2),
         ("[-]", &[0x2D, 0x2E], 3),
         ("[[a-f]-[:AHex:]-]", &[0x2D, 0x2E], 17),
+        ("\\p{AHex}z", &[0x30, 0x3A, 0x41, 0x47, 0x61, 0x67], 8),
+        ("[:^AHex=no:]", &[0x30, 0x3A, 0x41, 0x47, 0x61, 0x67], 12),
     ] {
         let (set, place) = read_set(alloc, &syntax, source)?;
-        assert_eq!(rt; set.into_set(alloc)?.code_points().get_inversion_list(), list);
-        assert_eq!(rt; place.offset(), read);
+        assert_eq!(rt;
+            set.into_set(alloc)?.code_points().get_inversion_list(),
+            list,
+            "at {source}"
+        );
+        assert_eq!(rt; place.offset(), read, "at {source}");
+    }
+    Ok(())
+}
+
+#[test]
+fn each_fault_has_its_place(rt: HostRuntime) -> Result<(), Fail> {
+    let alloc = rt.alloc();
+    let database = PropertyDatabase::from_text(alloc, TABLES)?;
+    let variables = VariableMap::new(alloc);
+    let none = CodePointInversionList::try_from_inversion_list(alloc, &[])?;
+    let letters = CodePointInversionList::try_from_inversion_list(alloc, &[0x61, 0x7B])?;
+    let syntax = Syntax::new(&none, &letters, &letters, &variables, &database);
+    for (source, kind, offset) in [
+        ("[a", ParseErrorKind::Eof, None),
+        ("$", ParseErrorKind::Eof, None),
+        ("[[a]&[^b]", ParseErrorKind::Eof, None),
+        ("x", ParseErrorKind::UnexpectedChar('x'), Some(0)),
+        ("[é-a]", ParseErrorKind::UnexpectedChar('a'), Some(4)),
+        ("[b-\\u{61}]", ParseErrorKind::UnexpectedChar('a'), Some(8)),
+        ("[a-[b]]", ParseErrorKind::UnexpectedChar('['), Some(3)),
+        ("[\\N]", ParseErrorKind::Unimplemented, Some(2)),
+        ("[$zz]", ParseErrorKind::UnknownVariable, Some(3)),
+        ("$zz", ParseErrorKind::UnknownVariable, Some(2)),
+        ("[:zz:]", ParseErrorKind::UnknownProperty, Some(3)),
+        ("[:blk=zz:]", ParseErrorKind::Internal, Some(7)),
+    ] {
+        let Err(error) = read_set(alloc, &syntax, source) else {
+            panic!(rt; "{source} is read");
+        };
+        assert_eq!(rt; error.kind(), kind, "at {source}");
+        assert_eq!(rt; error.offset(), offset, "at {source}");
     }
     Ok(())
 }

@@ -1,4 +1,4 @@
-use Rattle.std.proofs.Common.{IfOk, sym, ap, subst, Ok, Err}
+use Rattle.std.proofs.Common.{sym}
 use Rattle.prop_data.specs.Database.{tables_of}
 use Rattle.uset_reader.proofs.PropertyLemmas.{by_bytes, if_ok}
 use Rattle.uset_reader.proofs.property.resolve.Goals as goal

@@ -3,7 +3,7 @@ use Rattle.uset_read.specs.Cursors.{source_of, left_of}
 use Rattle.uset_reader.specs.Syntaxes.{language_seen}
 use Rattle.uset_reader.specs.Turns.{Turns}
 use Rattle.uset_reader.specs.declared.turn.Progress.TheVariants.{GoesOn, Done}
-use Rattle.uset_reader.proofs.ReaderLemmas.{OpenAt, begins, goes_on, is_read, is_refused}
+use Rattle.uset_reader.proofs.ReaderLemmas.{begins, goes_on, is_read, is_refused}
 use Rattle.uset_reader.proofs.reader.read_bracket.Goals as goal
 
 pub loop-progress-init : goal.loop-progress-init
@@ -30,7 +30,7 @@ returns-in-Done-clause-read c =
     let here = c.loop-progress.invariant.0 in
     is_read c.turns.ensures.units c.turns.ensures.means c.turns.ensures.last c.turns.ensures.onward s c.args.source.now (left_of c.loop-progress.place) c.loop-progress.outer.items c.loop-progress.bracket c.loop-progress.invariant.1
     c.turn.new.outer.items c.turn.new.bracket c.in-Done.set c.in-Done.rest c.at.result (subst (λ z. Turns (language_seen s) z (left_of c.loop-progress.place) c.loop-progress.outer.items c.loop-progress.bracket c.turn.new.outer.items c.turn.new.bracket (Ok (Done c.in-Done.set c.in-Done.rest))) here
-          (subst (λ p. Turns (language_seen s) (source_of c.loop-progress.place) (left_of c.loop-progress.place) c.loop-progress.outer.items c.loop-progress.bracket c.turn.new.outer.items c.turn.new.bracket (Ok p)) c.in-Done.is c.in-Ok.ensures.turns)) (c.at.ensures.source ∙ here) c.at.ensures.left
+    (subst (λ p. Turns (language_seen s) (source_of c.loop-progress.place) (left_of c.loop-progress.place) c.loop-progress.outer.items c.loop-progress.bracket c.turn.new.outer.items c.turn.new.bracket (Ok p)) c.in-Done.is c.in-Ok.ensures.turns)) (c.at.ensures.source ∙ here) c.at.ensures.left
 
 pub returns-in-Err-clause-refused : goal.returns-in-Err-clause-refused
 returns-in-Err-clause-refused c =

@@ -1,5 +1,4 @@
 use Rattle.std.proofs.Common.{◌∷◌, [], ◌++◌, ap, ◌∙◌}
-use Rattle.uset_reader.specs.Brackets.{IsBegun}
 use Rattle.uset_reader.proofs.TurnLemmas.{opens_inside}
 use Rattle.uset_reader.proofs.turn.open.Goals as goal
 

@@ -1,4 +1,4 @@
-use Rattle.std.proofs.Common.{sym, ap, ◌∙◌}
+use Rattle.std.proofs.Common.{sym, ap}
 use Rattle.std.proofs.lemmas.Str.{encodes-chars}
 use Rattle.uset_read.specs.Cursors.{source_of}
 use Rattle.uset_reader.specs.Faults.{kind_told}

@@ -1,8 +1,6 @@
 use Rattle.std.proofs.Common.{sym, ap, ◌∙◌}
 use Rattle.std.specs.Str.{chars}
-use Rattle.uset_grammar.specs.Text.{skip}
 use Rattle.uset_grammar.specs.Front.{closing, opening, of_name, begins_unit}
-use Rattle.uset_read.specs.Cursors.{left_of}
 use Rattle.uset_reader.specs.Faults.{kind_told}
 use Rattle.uset_reader.specs.Brackets.{opening_seen}
 use Rattle.uset_reader.specs.Syntaxes.{language_seen}
@@ -37,7 +35,7 @@ returns-in-Name-clause-turns c =
     turned c.args.syntax.now c.args.cursor c.args.outer.now.items c.args.bracket.now c.skip_white_space-text.result.now (rw c.rest.ensures at c.skip_white_space-text.ensures.skipped)
     (sym c.is_short.ensures ∙ c.if-is_short.false) (of_name (chars c.in-Name.name.now) (chars c.in-Name.rest.now)) (sym c.in-Name.ensures.front) c.args.outer.now.items c.take_variable.new.bracket c.take_variable.result
     (λ units here. c.take_variable.ensures.takes units c.args.outer.now.items here
-        ((c.turns.ensures.behind (language_seen c.args.syntax.now)).names (chars c.skip_white_space-text.result.now) (chars c.in-Name.name.now) (chars c.in-Name.rest.now) (sym c.in-Name.ensures.front)))
+    ((c.turns.ensures.behind (language_seen c.args.syntax.now)).names (chars c.skip_white_space-text.result.now) (chars c.in-Name.name.now) (chars c.in-Name.rest.now) (sym c.in-Name.ensures.front)))
 
 pub returns-in-Unit-clause-turns : goal.returns-in-Unit-clause-turns
 returns-in-Unit-clause-turns c =

@@ -1,6 +1,6 @@
 use Rattle.std.proofs.Common.{ap}
 use Rattle.uset_reader.specs.Faults.{kind_told}
-use Rattle.uset_reader.proofs.TurnLemmas.{unfit_variable, unfit_written, unfit_nothing}
+use Rattle.uset_reader.proofs.TurnLemmas.{unfit_variable}
 use Rattle.uset_reader.proofs.turn.unfit.Goals as goal
 
 pub returns-in-Variable-default : goal.returns-in-Variable-default

@@ -1,4 +1,4 @@
-use Rattle.std.proofs.Common.{ap, sym, ◌∙◌}
+use Rattle.std.proofs.Common.{ap, ◌∙◌}
 use Rattle.std.specs.Str.{chars}
 use Rattle.cp_strset.specs.StringList.{sole_of}
 use Rattle.uset_reader.proofs.UnitLemmas.{single_item, copied_item, none_kept}

@@ -1,4 +1,3 @@
-use Rattle.std.proofs.Common.{sym}
 use Rattle.uset_reader.proofs.UnitLemmas.{single_item, one_item, none_left, several_item}
 use Rattle.uset_reader.proofs.unit.escape_item.Goals as goal
 

@@ -1,7 +1,7 @@
 use Rattle.std.proofs.Common.{ap, ◌∙◌}
 use Rattle.uset_gather.specs.Gathered.{gathered_in}
 use Rattle.uset_reader.specs.Brackets.{finished}
-use Rattle.uset_reader.proofs.BracketLemmas.{closes, stays_open}
+use Rattle.uset_reader.proofs.BracketLemmas.{closes}
 use Rattle.uset_reader.proofs.bracket.OpenBracket.close.Goals as goal
 
 pub returns-clause-set : goal.returns-clause-set

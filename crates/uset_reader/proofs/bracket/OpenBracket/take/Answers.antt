@@ -1,6 +1,6 @@
-use Rattle.std.proofs.Common.{Some, None, refl, ap, ◌∙◌}
+use Rattle.std.proofs.Common.{refl, ◌∙◌}
 use Rattle.uset_grammar.specs.Arranging.{next}
-use Rattle.uset_reader.specs.Items.{item_seen, awaits_seen, range_steps, own_steps, Arranges}
+use Rattle.uset_reader.specs.Items.{item_seen, awaits_seen, range_steps, own_steps}
 use Rattle.uset_reader.proofs.BracketLemmas.{took, refused, not_arranged, becomes_then}
 use Rattle.uset_reader.proofs.bracket.OpenBracket.take.Goals as goal
 
@@ -16,5 +16,5 @@ returns c = λ o i s item.
     let arranged = c.in-Some.arranged in
     let is = item_seen item.tree c.args.item in
     rw item.is (took c.arranging.ensures old _ o is arranged (next (awaits_seen old.awaits) is) refl (c.in-Some.ensures.arranged item.tree) refl
-        (c.gather.ensures.same.opening ∙ c.add_front.ensures.same.opening) (c.gather.ensures.same.before ∙ c.add_front.ensures.same.before)
-        (becomes_then old.gathered c.add_front.new.self.gathered c.gather.new.self.gathered (range_steps arranged.adds) (own_steps arranged.operation is) c.in_ok-add_front.ensures.becomes (c.in_ok-gather.ensures.becomes item.tree item.same)) s)
+    (c.gather.ensures.same.opening ∙ c.add_front.ensures.same.opening) (c.gather.ensures.same.before ∙ c.add_front.ensures.same.before)
+    (becomes_then old.gathered c.add_front.new.self.gathered c.gather.new.self.gathered (range_steps arranged.adds) (own_steps arranged.operation is) c.in_ok-add_front.ensures.becomes (c.in_ok-gather.ensures.becomes item.tree item.same)) s)

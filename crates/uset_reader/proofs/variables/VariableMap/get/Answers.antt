@@ -1,4 +1,4 @@
-use Rattle.std.proofs.Common.{ℕ, List, Option, Some, None, IfSome, ◌≡◌, true, sym}
+use Rattle.std.proofs.Common.{Option, Some, None, IfSome, ◌≡◌, true, sym}
 use Rattle.std.specs.Borrow.{Bor}
 use Rattle.std.specs.Option.{option_copied}
 use Rattle.uset_reader.specs.declared.variable.VariableValue.{VariableValue}
