@@ -1,4 +1,4 @@
-use crate::{ParseErrorKind, Syntax, VariableMap, read_set};
+use crate::{ParseErrorKind, Syntax, VariableMap, VariableString, VariableValue, read_set};
 use cp_invlist::CodePointInversionList;
 use prop_data::PropertyDatabase;
 use std::test::Fail;
@@ -60,6 +60,40 @@ fn each_fault_has_its_place(rt: HostRuntime) -> Result<(), Fail> {
         };
         assert_eq!(rt; error.kind(), kind, "at {source}");
         assert_eq!(rt; error.offset(), offset, "at {source}");
+    }
+    Ok(())
+}
+
+#[test]
+fn variables_stand_for_what_they_are_bound_to(rt: HostRuntime) -> Result<(), Fail> {
+    let alloc = rt.alloc();
+    let database = PropertyDatabase::from_text(alloc, TABLES)?;
+    let none = CodePointInversionList::try_from_inversion_list(alloc, &[])?;
+    let letters = CodePointInversionList::try_from_inversion_list(alloc, &[0x61, 0x7B])?;
+    let empty = VariableMap::new(alloc);
+    let syntax = Syntax::new(&none, &letters, &letters, &empty, &database);
+    let (hex, _) = read_set(alloc, &syntax, "[:AHex:]")?;
+    let one = VariableString::new(String::from_str(alloc, "z")?);
+    let mut variables = VariableMap::new(alloc);
+    variables.bind(String::from_str(alloc, "a")?, VariableValue::Char('x'))?;
+    variables.bind(String::from_str(alloc, "ab")?, VariableValue::String(one))?;
+    variables.bind(
+        String::from_str(alloc, "hex")?,
+        VariableValue::UnicodeSet(hex.into_set(alloc)?),
+    )?;
+    let syntax = Syntax::new(&none, &letters, &letters, &variables, &database);
+    for (source, list, read) in [
+        ("[$a-$ab]", [0x78, 0x7B].as_slice(), 8),
+        ("$hex;", &[0x30, 0x3A, 0x41, 0x47, 0x61, 0x67], 4),
+        ("[$hex-[0-9A-F]]", &[0x61, 0x67], 15),
+    ] {
+        let (set, place) = read_set(alloc, &syntax, source)?;
+        assert_eq!(rt;
+            set.into_set(alloc)?.code_points().get_inversion_list(),
+            list,
+            "at {source}"
+        );
+        assert_eq!(rt; place.offset(), read, "at {source}");
     }
     Ok(())
 }

@@ -55,7 +55,7 @@ impl VariableValue {
     }
 
     /// The value as a map keeps it: a string of exactly one character as that character.
-    pub fn kept(self) -> VariableValue
+    pub(crate) fn kept(self) -> VariableValue
         ensures value { result ≡ kept self }
         ensures kept { is_kept result ≡ true }
     {

@@ -5,6 +5,7 @@ ghost use Rattle.uset_reader.specs.declared.variable.VariableValue.{VariableValu
 ghost use Rattle.uset_reader.specs.Values.{is_kept};
 
 use crate::variable::VariableValue;
+use cp_invlist::NoMemory;
 use std::alloc::Global;
 use std::collections::BTreeMap;
 
@@ -16,9 +17,11 @@ pub struct VariableMap {
 }
 
 impl VariableMap {
-    ghost use Rattle.std.specs.Prelude.{◌≡◌, ℕ, List, None, IfSome, true};
+    ghost use Rattle.std.specs.Prelude.{◌≡◌, ℕ, List, None, Some, IfSome, OnOk, OnErr, true};
     ghost use Rattle.std.specs.Option.{option_copied};
-    ghost use Rattle.uset_reader.specs.Variables.{bound};
+    ghost use Rattle.std.specs.String.{string_bytes};
+    ghost use Rattle.uset_reader.specs.Values.{kept};
+    ghost use Rattle.uset_reader.specs.Variables.{bound, Binds, IsSame};
 
     /// The map that binds no name.
     pub fn new(alloc: Global) -> VariableMap
@@ -35,5 +38,23 @@ impl VariableMap {
         ensures kept { IfSome result (λ v. is_kept v.now ≡ true) }
     {
         self.values.get(key)
+    }
+
+    /// Frees the name. The answer is the value that it was bound to.
+    pub fn remove(&mut self, key: &str) -> Option<VariableValue>
+        ensures value { result ≡ bound self.old key.now }
+        ensures removes { Binds self.old key.now None self.new }
+    {
+        self.values.remove(key)
+    }
+
+    /// Binds the name to the value, in place of what it was bound to. A string of exactly one character is kept as that
+    /// character. Where memory is refused, all names are bound as they were.
+    pub fn bind(&mut self, key: String, value: VariableValue) -> Result<(), NoMemory>
+        ensures ok { OnOk result (Binds self.old (string_bytes key) (Some (kept value)) self.new) }
+        ensures err { OnErr result (IsSame self.old self.new) }
+    {
+        self.values.insert(key, value.kept())?;
+        Ok(())
     }
 }
