@@ -6,7 +6,7 @@ use Rattle.prop_data.specs.declared.error.TableErrorKind.TheVariants.{RangeOrder
 use Rattle.prop_data.specs.Line.{set_header, header, line_of, line_of_one, line_of_two, line_of_three, is_header_word}
 use Rattle.prop_data.specs.Numbers.{spelled, hyphen_parts, range}
 use Rattle.prop_binary.specs.Tables.{properties}
-use Rattle.prop_data.specs.LineFault.{range_fault, syntax_fault, value_fault}
+use Rattle.prop_data.specs.LineFault.{range_fault, syntax_fault, value_fault, lacks_some_list}
 use Rattle.prop_data.specs.TableText.{at_line, table_fault, tables_in}
 
 lines-example : lines (0x61 ∷ 0x0D ∷ 0x0A ∷ 0x62 ∷ 0x0D ∷ []) ≡ codes "a" ∷ (0x62 ∷ 0x0D ∷ []) ∷ []
@@ -28,7 +28,7 @@ abbrev text : List (List ℕ)
 text = codes "set XID_Start" ∷ codes "41-5A" ∷ codes "61" ∷ codes "end" ∷ []
 
 table_fault-example : table_fault text ≡ None
-unfolding line_of_one line_of_two line_of_three is_header_word range hyphen_parts spelled properties range_fault syntax_fault value_fault
+unfolding lacks_some_list line_of_one line_of_two line_of_three is_header_word range hyphen_parts spelled properties range_fault syntax_fault value_fault
 table_fault-example = refl
 
 tables_in-example : (option_map (λ members. members 0x5A ∷ members 0x5B ∷ members 0x61 ∷ []) ((tables_in text).sets 68) ≡ Some (true ∷ false ∷ true ∷ [])) × ((tables_in text).sets 67 ≡ None)
@@ -37,22 +37,22 @@ tables_in-example = (refl, refl)
 
 -- the second row is not above the first
 table_fault-order : table_fault (codes "set XID_Start" ∷ codes "61" ∷ codes "41-5A" ∷ codes "end" ∷ []) ≡ Some (at_line 3 RangeOrder)
-unfolding line_of_one line_of_two line_of_three is_header_word range hyphen_parts spelled properties range_fault syntax_fault value_fault
+unfolding lacks_some_list line_of_one line_of_two line_of_three is_header_word range hyphen_parts spelled properties range_fault syntax_fault value_fault
 table_fault-order = refl
 
 -- the exclamation mark is no white space
 table_fault-ascii : table_fault (codes "set Pattern_White_Space" ∷ codes "20-21" ∷ codes "end" ∷ []) ≡ Some (at_line 2 SyntaxAscii)
-unfolding line_of_one line_of_two line_of_three is_header_word range hyphen_parts spelled properties range_fault syntax_fault value_fault
+unfolding lacks_some_list line_of_one line_of_two line_of_three is_header_word range hyphen_parts spelled properties range_fault syntax_fault value_fault
 table_fault-ascii = refl
 
 -- the missing `end` is told at the line behind the last
 table_fault-no_end : table_fault (codes "set XID_Start" ∷ codes "41" ∷ []) ≡ Some (at_line 3 NoEnd)
-unfolding line_of_one line_of_two line_of_three is_header_word range hyphen_parts spelled properties range_fault syntax_fault value_fault
+unfolding lacks_some_list line_of_one line_of_two line_of_three is_header_word range hyphen_parts spelled properties range_fault syntax_fault value_fault
 table_fault-no_end = refl
 
 -- no other set is tested so
 table_fault-other_set : table_fault (codes "set Dash" ∷ codes "2D" ∷ codes "end" ∷ []) ≡ None
-unfolding line_of_one line_of_two line_of_three is_header_word range hyphen_parts spelled properties range_fault syntax_fault value_fault
+unfolding lacks_some_list line_of_one line_of_two line_of_three is_header_word range hyphen_parts spelled properties range_fault syntax_fault value_fault
 table_fault-other_set = refl
 
 -- a map with a row of two code points
@@ -60,11 +60,11 @@ abbrev map_text : List (List ℕ)
 map_text = codes "map Script 103" ∷ codes "41-42 25" ∷ codes "end" ∷ []
 
 table_fault-map : table_fault map_text ≡ None
-unfolding line_of_one line_of_two line_of_three is_header_word range hyphen_parts spelled properties range_fault syntax_fault value_fault
+unfolding lacks_some_list line_of_one line_of_two line_of_three is_header_word range hyphen_parts spelled properties range_fault syntax_fault value_fault
 table_fault-map = refl
 
 tables_in-map : option_map (λ at. at 0x40 ∷ at 0x42 ∷ at 0x11_0000 ∷ []) ((tables_in map_text).maps 4) ≡ Some (103 ∷ 25 ∷ 103 ∷ [])
-unfolding line_of_one line_of_two line_of_three is_header_word range hyphen_parts spelled
+unfolding lacks_some_list line_of_one line_of_two line_of_three is_header_word range hyphen_parts spelled
 tables_in-map = refl
 
 -- there are no more than thirty general categories

@@ -112,6 +112,6 @@ accepted-taken t n v h = by_test (accepts_value t n) h
     by_test false h = cc
 
 -- tables of names have no ranges
-pub last_after-texts : (l : Length) (t : ℕ) (r : Row) → None ≡ last_after (Some (table_of_length l t)) r
+pub last_after-texts : (l : Length) (t : ℕ) (r : Row) → None ≡ last_after (Some (table_of_length l t)) r None
 last_after-texts Long t r = refl
 last_after-texts Short t r = refl

@@ -5,7 +5,8 @@ use Rattle.text_lines.specs.Fields.{fields}
 use Rattle.prop_data.specs.declared.error.TableError.{TableError}
 use Rattle.prop_data.specs.declared.error.TableErrorKind.TheVariants.{NoEnd}
 use Rattle.prop_data.specs.Line.{Line, line_of}
-use Rattle.prop_data.specs.LinesAbove.{or_else, tables_of_lines}
+use Rattle.prop_data.specs.LinesAbove.{tables_of_lines}
+use Rattle.prop_data.specs.Rows.{or_else}
 use Rattle.prop_data.specs.declared.error.LoadError.{LoadError}
 use Rattle.prop_data.specs.declared.error.LoadError.TheVariants.{Table, NoMemory}
 use Rattle.prop_data.specs.Database.{IsFault}

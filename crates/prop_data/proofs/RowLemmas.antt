@@ -1,12 +1,15 @@
 -- Rows without a fault.
-use Rattle.std.proofs.Common.{◌≡◌, ℕ, ◌≤◌, Bool, true, false, ◌&&◌, nat_le, nat_lt, Option, Some, None, unwrap_or, cond, refl, sym, ap, ◌∙◌, arith}
+use Rattle.std.proofs.Common.{◌≡◌, ℕ, ◌≤◌, Bool, true, false, ◌&&◌, ◌||◌, nat_le, nat_lt, List, [], ◌∷◌, Option, Some, None, unwrap_or, cond, inl, inr, refl, sym, ap, ◌∙◌, arith}
+use mathlib.Core.Logic.{◌⊎◌}
+use Rattle.std.proofs.lemmas.Bool.{both_ways, or_from, cases_Bool}
 use Rattle.std.proofs.lemmas.Bool.Decides.{nat_tests}
+use Rattle.std.specs.List.{list_any}
 use Rattle.cp_invlist.specs.Ranges.{in_range, in_code_points}
-use Rattle.prop_data.specs.declared.error.TableErrorKind.TheVariants.{ValueOutOfType}
-use Rattle.prop_data.specs.LinesAbove.{or_else}
+use Rattle.prop_data.specs.declared.error.TableErrorKind.TheVariants.{ValueOutOfType, SyntaxAscii, ExtensionOrder}
+use Rattle.prop_data.specs.Rows.{or_else, holds}
 use Rattle.prop_data.specs.MapBuilder.{next_of}
-use Rattle.prop_data.specs.Rows.{holds}
-use Rattle.prop_data.specs.LineFault.{is_behind, range_fault, syntax_fault, value_fault, accepts_value, set_row_fault, map_row_fault}
+use Rattle.prop_data.specs.Forbidden.{is_forbidden, IsAllowed}
+use Rattle.prop_data.specs.LineFault.{overlaps, forbidden, is_behind, order_fault, range_fault, syntax_fault, value_fault, accepts_value, set_row_fault, map_row_fault}
 
 -- a range that passes its tests
 pub record InOrder (last : Option ℕ) (r : ℕ × ℕ) : Type 0 where
@@ -59,3 +62,34 @@ values-grown (start, end) spelled v n number past new old c is number_is same wi
     by_test : (b : Bool) → nat_lt 0x10_FFFF c ≡ b → cond b past (cond (nat_le start c && nat_le c end) n old) ≡ cond (nat_le start c && nat_le c end) n (cond b past old)
     by_test true far = (let off : (nat_le start c && nat_le c end) ≡ false = grind (arith, nat_tests, far) in rw off refl)
     by_test false near = refl
+
+-- a code point of a range that overlaps none of these lies in none
+pub apart-within : (first last c : ℕ) (ss : List (ℕ × ℕ)) → list_any (overlaps (first, last)) ss ≡ false → first ≤ c → c ≤ last → list_any (overlaps (c, c)) ss ≡ false
+apart-within first last c [] h below above = refl
+apart-within first last c ((a, b) ∷ ss) h below above =
+    let rest = apart-within first last c ss (grind (arith, nat_tests)) below above in
+    grind (arith, nat_tests, rest)
+
+no_syntax : (b : Bool) → cond b (Some SyntaxAscii) None ≡ None → b ≡ false
+no_syntax true h = cc
+no_syntax false h = refl
+
+-- a set that holds nothing forbidden holds none with the range of a row that passes its tests
+pub allowed-grown : (t start end : ℕ) (old new : ℕ → Bool) → IsAllowed t old → syntax_fault t (start, end) ≡ None → ((c : ℕ) → new c ≡ (old c || in_code_points (record { start = start; end = end }) c)) → IsAllowed t new
+unfolding syntax_fault
+allowed-grown t start end old new allowed fine grown = λ c forbidden_here. grown c ∙ or_from (old c) _ (allowed c forbidden_here) (outside c forbidden_here)
+  where
+    outside : (c : ℕ) → is_forbidden t c ≡ true → in_code_points (record { start = start; end = end }) c ≡ false
+    outside c forbidden_here = by (cases_Bool (in_code_points (record { start = start; end = end }) c))
+      where
+        by : (in_code_points (record { start = start; end = end }) c ≡ true) ⊎ (in_code_points (record { start = start; end = end }) c ≡ false) → in_code_points (record { start = start; end = end }) c ≡ false
+        by (inr off) = off
+        by (inl inside) =
+            let below : start ≤ c = grind (arith, nat_tests) in
+            let above : c ≤ end = grind (arith, nat_tests) in
+            absurd (both_ways _ (apart-within start end c (forbidden t) (no_syntax _ fine) below above) forbidden_here)
+
+-- a script above the one before it
+pub order_fault-none : (last : Option ℕ) (v n : ℕ) → v ≡ n → is_behind last v ≡ false → order_fault last n ≡ None
+unfolding order_fault
+order_fault-none last v n same above = ap (λ (b : Bool). cond b (Some ExtensionOrder) None) (ap (is_behind last) (sym same) ∙ above)

@@ -1,5 +1,5 @@
 -- The tables that a database holds.
-use Rattle.std.specs.Prelude.{◌≡◌, ℕ, nat_eq, List, Option, Some, option_map, if◌then◌else◌}
+use Rattle.std.specs.Prelude.{◌≡◌, ℕ, nat_eq, List, Option, None, Some, option_map, if◌then◌else◌}
 use Rattle.std.specs.Ordering.{nat_cmp}
 use Rattle.std.specs.BTreeMap.{get}
 use Rattle.cp_invlist.specs.InversionList.{contains}
@@ -9,7 +9,12 @@ use Rattle.prop_names.specs.ValueNameTables.{linear_text, sparse_text, subtag_te
 use Rattle.prop_data.specs.declared.database.PropertyDatabase.{PropertyDatabase}
 use Rattle.prop_data.specs.declared.error.LoadError.{LoadError}
 use Rattle.prop_data.specs.declared.error.LoadError.TheVariants.{Table, NoMemory}
-use Rattle.prop_data.specs.Tables.{Tables}
+use Rattle.cp_strset.specs.StringSet.{StringSet}
+use Rattle.cp_strset.specs.StringList.{holds}
+use Rattle.prop_data.specs.Tables.{EmojiMembers, ExtensionList, ScriptNumbers, Tables}
+use Rattle.prop_data.specs.Extensions.{list_in, list_of, scripts_map}
+use Rattle.prop_data.specs.declared.scripts.ScriptTable.{ScriptTable}
+use Rattle.prop_data.specs.declared.scripts.ScriptWithExtensionsProperty.{ScriptWithExtensionsProperty}
 use Rattle.prop_data.specs.TableText.{table_fault}
 
 -- the inversion list of a set table, by the table's number
@@ -37,6 +42,30 @@ short_of database t =
     else if nat_eq t 4 then option_map subtag_text database.short_script
     else option_map linear_text (get nat_cmp database.short_linear t)
 
+-- the emoji set of an emoji table, by the table's number
+abbrev pub emoji_of : PropertyDatabase → ℕ → Option StringSet
+emoji_of database t = get nat_cmp database.emoji t
+
+-- an emoji set by its members
+abbrev pub emoji_seen : StringSet → EmojiMembers
+emoji_seen set = record { code_points = contains set.code_points; strings = holds set.strings }
+
+-- the scripts with extensions
+abbrev pub scripts_of : PropertyDatabase → Option ScriptWithExtensionsProperty
+scripts_of database = option_map (λ s. s.property) database.scripts
+
+abbrev pub numbers_seen : ScriptTable → ScriptNumbers
+numbers_seen s = record { values = value_at (scripts_map s.property); named = s.named.items }
+
+-- the lists where no scripts with extensions are there, and those beside these
+abbrev pub lists_beside : Option ScriptTable → (ℕ → Option ExtensionList) → ℕ → Option ExtensionList
+lists_beside None lists n = lists n
+lists_beside (Some s) lists n = list_of s.property n
+
+-- the extension list at each index
+abbrev pub list_at : PropertyDatabase → ℕ → Option ExtensionList
+list_at database n = lists_beside database.scripts (list_in database.lists) n
+
 -- the tables of a database: sets by their members, maps by their values
 abbrev pub tables_of : PropertyDatabase → Tables
 tables_of database = record {
@@ -45,6 +74,9 @@ tables_of database = record {
   names = λ t. names_of database t;
   long = λ t. long_of database t;
   short = λ t. short_of database t;
+  emoji = λ t. option_map emoji_seen (emoji_of database t);
+  scripts = option_map numbers_seen database.scripts;
+  extensions = λ n. list_at database n;
 }
 
 -- the fault of the lines, where it is no want of memory

@@ -15,6 +15,12 @@ pub data Header : Type 0 where
   long_header : List ℕ → Header
   -- `short NAME`
   short_header : List ℕ → Header
+  -- `emoji NAME`
+  emoji_header : List ℕ → Header
+  -- `scx DEFAULT`
+  scx_header : List ℕ → Header
+  -- `ext INDEX`, or `ext INDEX SCRIPT`
+  ext_header : List ℕ → Option (List ℕ) → Header
 
 -- the one or two fields of a row
 abbrev pub Row : Type 0
@@ -31,7 +37,7 @@ pub data Line : Type 0 where
   -- anything else
   other : Line
 
--- the words that begin a header, also of tables that are not read
+-- the words that begin a header
 abbrev pub header_words : List (List ℕ)
 header_words =
     codes "set" ∷ codes "map" ∷ codes "names" ∷ codes "long" ∷ codes "short" ∷ codes "scx" ∷ codes "ext" ∷ codes "emoji" ∷ []
@@ -53,12 +59,18 @@ line_of_two first second =
     else if bytes_eq first (codes "names") then header (names_header second)
     else if bytes_eq first (codes "long") then header (long_header second)
     else if bytes_eq first (codes "short") then header (short_header second)
+    else if bytes_eq first (codes "emoji") then header (emoji_header second)
+    else if bytes_eq first (codes "scx") then header (scx_header second)
+    else if bytes_eq first (codes "ext") then header (ext_header second None)
     else if is_end first || is_header_word first then other
     else row (first, Some second)
 
 -- a line of three fields
 unfoldable pub line_of_three : List ℕ → List ℕ → List ℕ → Line
-line_of_three first second third = if bytes_eq first (codes "map") then header (map_header second third) else other
+line_of_three first second third =
+    if bytes_eq first (codes "map") then header (map_header second third)
+    else if bytes_eq first (codes "ext") then header (ext_header second (Some third))
+    else other
 
 abbrev pub line_of : List (List ℕ) → Line
 line_of [] = blank

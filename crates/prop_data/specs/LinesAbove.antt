@@ -1,10 +1,10 @@
 -- What the lines above a line say, the nearest line first.
 use Rattle.std.specs.Prelude.{ℕ, Bool, true, false, nat_eq, List, [], ◌∷◌, Option, Some, None, if◌then◌else◌}
 use Rattle.prop_names.specs.Names.{Names}
-use Rattle.prop_data.specs.Headers.{Table, set_table, map_table, names_table, long_table, short_table, table_of}
+use Rattle.prop_data.specs.Headers.{Table, set_table, map_table, names_table, long_table, short_table, emoji_table, scx_table, ext_table, table_of}
 use Rattle.prop_data.specs.Line.{Row, Line, blank, header, row, closing, other}
-use Rattle.prop_data.specs.Rows.{last_of, members, value, names_in, texts_in, is_subtags}
-use Rattle.prop_data.specs.Tables.{Tables}
+use Rattle.prop_data.specs.Rows.{or_else, last_of, members, value, names_in, texts_in, is_subtags, emoji_members, script_numbers, extension_list}
+use Rattle.prop_data.specs.Tables.{EmojiMembers, ScriptNumbers, ExtensionList, Tables}
 
 -- `end` stands above
 abbrev pub is_closed : List Line → Bool
@@ -41,14 +41,10 @@ abbrev pub table_of_row : List Section → Option Table
 table_of_row [] = None
 table_of_row (s ∷ sections) = Some s.0
 
--- the last code point of the row above in its table
+-- what a row must be above in its table
 abbrev pub last_in_table : List Section → Option ℕ
 last_in_table [] = None
 last_in_table (s ∷ sections) = last_of s.0 s.1
-
-abbrev pub or_else : {A : Type 0} → Option A → Option A → Option A
-or_else None other_one = other_one
-or_else (Some x) other_one = Some x
 
 -- what the nearest section says that says something
 abbrev pub found : {A : Type 0} → (Table → List Row → Option A) → List Section → Option A
@@ -58,42 +54,42 @@ found says (s ∷ sections) = or_else (says s.0 s.1) (found says sections)
 -- the members of the set with this number
 abbrev pub set_at : ℕ → Table → List Row → Option (ℕ → Bool)
 set_at n (set_table t) rows = if nat_eq t n then Some (members rows) else None
-set_at n (map_table t default) rows = None
-set_at n (names_table t) rows = None
-set_at n (long_table t) rows = None
-set_at n (short_table t) rows = None
+set_at n other_table rows = None
 
 -- the values of the map with this number
 abbrev pub map_at : ℕ → Table → List Row → Option (ℕ → ℕ)
 map_at n (map_table t default) rows = if nat_eq t n then Some (value t default rows) else None
-map_at n (set_table t) rows = None
-map_at n (names_table t) rows = None
-map_at n (long_table t) rows = None
-map_at n (short_table t) rows = None
+map_at n other_table rows = None
 
 -- the names of the table of names with this number
 abbrev pub names_at : ℕ → Table → List Row → Option Names
 names_at n (names_table t) rows = if nat_eq t n then Some (names_in rows) else None
-names_at n (set_table t) rows = None
-names_at n (map_table t default) rows = None
-names_at n (long_table t) rows = None
-names_at n (short_table t) rows = None
+names_at n other_table rows = None
 
 -- the long names of the table with this number
 abbrev pub long_at : ℕ → Table → List Row → Option (ℕ → Option (List ℕ))
 long_at n (long_table t) rows = if nat_eq t n then Some (texts_in false rows) else None
-long_at n (set_table t) rows = None
-long_at n (map_table t default) rows = None
-long_at n (names_table t) rows = None
-long_at n (short_table t) rows = None
+long_at n other_table rows = None
 
 -- the short names of the table with this number
 abbrev pub short_at : ℕ → Table → List Row → Option (ℕ → Option (List ℕ))
 short_at n (short_table t) rows = if nat_eq t n then Some (texts_in (is_subtags t) rows) else None
-short_at n (set_table t) rows = None
-short_at n (map_table t default) rows = None
-short_at n (names_table t) rows = None
-short_at n (long_table t) rows = None
+short_at n other_table rows = None
+
+-- the members of the emoji table with this number
+abbrev pub emoji_at : ℕ → Table → List Row → Option EmojiMembers
+emoji_at n (emoji_table t) rows = if nat_eq t n then Some (emoji_members rows) else None
+emoji_at n other_table rows = None
+
+-- the scripts with extensions
+abbrev pub scx_at : Table → List Row → Option ScriptNumbers
+scx_at (scx_table default) rows = Some (script_numbers default rows)
+scx_at other_table rows = None
+
+-- the extension list at this index
+abbrev pub ext_at : ℕ → Table → List Row → Option ExtensionList
+ext_at n (ext_table t script) rows = if nat_eq t n then Some (extension_list script rows) else None
+ext_at n other_table rows = None
 
 -- the tables that the sections mean
 abbrev pub tables_of_sections : List Section → Tables
@@ -103,6 +99,9 @@ tables_of_sections ss = record {
   names = λ n. found (names_at n) ss;
   long = λ n. found (long_at n) ss;
   short = λ n. found (short_at n) ss;
+  emoji = λ n. found (emoji_at n) ss;
+  scripts = found scx_at ss;
+  extensions = λ n. found (ext_at n) ss;
 }
 
 -- the tables that the lines mean

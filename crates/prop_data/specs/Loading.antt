@@ -1,5 +1,5 @@
 -- What the loader keeps of the lines that it has read, and what a line makes of it.
-use Rattle.std.specs.Prelude.{◌≡◌, ℕ, Bool, true, false, ◌||◌, nat_eq, nat_lt, List, [], ◌∷◌, Option, Some, None, option_map, option_and_then, Result, Ok, Err, if◌then◌else◌}
+use Rattle.std.specs.Prelude.{◌≡◌, ℕ, Bool, true, false, ◌||◌, nat_eq, nat_lt, List, [], ◌∷◌, ◌++◌, Option, Some, None, is_some, option_map, option_and_then, Result, Ok, Err, if◌then◌else◌}
 use Rattle.std.specs.Option.{option_copied}
 use Rattle.cp_invlist.specs.InversionList.{contains}
 use Rattle.cp_trie.specs.Runs.{value_in}
@@ -8,27 +8,33 @@ use Rattle.prop_names.specs.ValueNames.{text_at}
 use Rattle.prop_values.specs.Tables.{default_number}
 use Rattle.prop_data.specs.declared.database.PropertyDatabase.{PropertyDatabase}
 use Rattle.prop_data.specs.declared.line.Header.{Header as CodeHeader}
-use Rattle.prop_data.specs.declared.line.Header.TheVariants.{Set as SetHeader, Map as MapHeader, Names as NamesHeader, Long as LongHeader, Short as ShortHeader}
+use Rattle.prop_data.specs.declared.line.Header.TheVariants.{Set as SetHeader, Map as MapHeader, Names as NamesHeader, Long as LongHeader, Short as ShortHeader, Emoji as EmojiHeader, Scripts as ScxHeader, Extensions as ExtHeader}
 use Rattle.prop_data.specs.declared.line.Row.{Row as CodeRow}
 use Rattle.prop_data.specs.declared.line.Line.{Line as CodeLine}
 use Rattle.prop_data.specs.declared.line.Line.TheVariants.{Blank, Header as HeaderLine, Row as RowLine, Closing, Other}
 use Rattle.prop_data.specs.declared.error.LoadError.{LoadError}
 use Rattle.prop_data.specs.declared.error.LoadError.TheVariants.{Table as TableFault, NoMemory}
+use Rattle.prop_data.specs.declared.error.TableErrorKind.{TableErrorKind}
 use Rattle.prop_data.specs.declared.error.TableErrorKind.TheVariants.{NoEnd}
 use Rattle.prop_data.specs.declared.load.Loader.{Loader}
 use Rattle.prop_data.specs.declared.load.OpenTable.{OpenTable}
-use Rattle.prop_data.specs.declared.load.OpenTable.TheVariants.{Set, Map, Names, Texts}
+use Rattle.prop_data.specs.declared.load.OpenTable.TheVariants.{Set, Map, Names, Texts, Emoji, Scripts, List as Listed}
 use Rattle.prop_data.specs.declared.load.texts.Length.{Length}
 use Rattle.prop_data.specs.declared.load.texts.Length.TheVariants.{Long, Short}
+use Rattle.prop_data.specs.declared.load.emoji.OpenEmoji.{OpenEmoji}
+use Rattle.prop_data.specs.declared.load.extensions.OpenList.{OpenList}
 use Rattle.prop_data.specs.declared.load.map.OpenMap.{OpenMap}
+use Rattle.prop_data.specs.declared.load.scripts.OpenScripts.{OpenScripts}
+use Rattle.std.specs.BTreeSet.{contains_text}
 use Rattle.prop_data.specs.Database.{tables_of}
-use Rattle.prop_data.specs.Headers.{Table, set_table, map_table, names_table, long_table, short_table, table_of}
-use Rattle.prop_data.specs.Line.{Header, set_header, map_header, names_header, long_header, short_header, Row, Line, blank, header, row, closing, other}
-use Rattle.prop_data.specs.Numbers.{range}
-use Rattle.prop_data.specs.Rows.{holds, last_of, value_of, text_of, value_outside, as_kept, is_subtags}
-use Rattle.prop_data.specs.Changes.{with_set, with_map, with_names, with_texts}
-use Rattle.prop_data.specs.Tables.{Tables}
-use Rattle.prop_data.specs.LineFault.{Above, line_fault, header_fault, row_fault, no_text}
+use Rattle.prop_data.specs.Headers.{Table, set_table, map_table, names_table, long_table, short_table, emoji_table, scx_table, ext_table, ext_of, table_of}
+use Rattle.prop_data.specs.Line.{Header, set_header, map_header, names_header, long_header, short_header, emoji_header, scx_header, ext_header, Row, Line, blank, header, row, closing, other}
+use Rattle.prop_data.specs.Numbers.{range, decimal_number}
+use Rattle.prop_data.specs.Rows.{or_else, holds, last_behind, value_of, text_of, value_outside, as_kept, is_subtags, first_scripts}
+use Rattle.prop_data.specs.Strings.{is_text, string_in, range_in}
+use Rattle.prop_data.specs.Changes.{with_set, with_map, with_names, with_texts, with_emoji, with_scripts, with_list}
+use Rattle.prop_data.specs.Tables.{EmojiMembers, ScriptNumbers, ExtensionList, Tables}
+use Rattle.prop_data.specs.LineFault.{Above, line_fault, header_fault, row_fault, index_fault, no_text, no_emoji}
 use Rattle.prop_data.specs.TableText.{at_line}
 
 abbrev pub header_seen : CodeHeader → Header
@@ -37,6 +43,9 @@ header_seen (MapHeader name default) = map_header name.now default.now
 header_seen (NamesHeader name) = names_header name.now
 header_seen (LongHeader name) = long_header name.now
 header_seen (ShortHeader name) = short_header name.now
+header_seen (EmojiHeader name) = emoji_header name.now
+header_seen (ScxHeader default) = scx_header default.now
+header_seen (ExtHeader index script) = ext_header index.now (option_copied script)
 
 abbrev pub row_seen : CodeRow → Row
 row_seen r = (r.first.now, option_copied r.second)
@@ -69,6 +78,9 @@ table_seen (Set o) = set_table o.table
 table_seen (Map o) = map_table o.table o.builder.default
 table_seen (Names o) = names_table o.table
 table_seen (Texts o) = table_of_length o.length o.table
+table_seen (Emoji o) = emoji_table o.table
+table_seen (Scripts o) = scx_table o.builder.default
+table_seen (Listed o) = ext_table o.index o.script
 
 -- the last code point of its row above
 abbrev pub last_seen : OpenTable → Option ℕ
@@ -76,6 +88,24 @@ last_seen (Set o) = o.last
 last_seen (Map o) = o.builder.last
 last_seen (Names o) = None
 last_seen (Texts o) = None
+last_seen (Emoji o) = o.last
+last_seen (Scripts o) = o.builder.last
+last_seen (Listed o) = o.last
+
+-- the members of an emoji table whose rows are being read
+abbrev pub emoji_read : OpenEmoji → EmojiMembers
+emoji_read o = record { code_points = contains o.builder; strings = contains_text o.strings }
+
+-- the scripts with extensions whose rows are being read
+abbrev pub scripts_read : OpenScripts → ScriptNumbers
+scripts_read o = record {
+  values = λ c. if nat_lt 0x10_FFFF c then default_number 4 else value_in o.builder.runs.items o.builder.default c;
+  named = o.named.items;
+}
+
+-- the extension list whose rows are being read
+abbrev pub list_read : OpenList → ExtensionList
+list_read o = record { has_script = is_some o.script; scripts = o.scripts.items }
 
 -- the tables, and the open one beside them
 abbrev pub tables_with : Option OpenTable → Tables → Tables
@@ -84,6 +114,9 @@ tables_with (Some (Set o)) tables = with_set o.table (contains o.builder) tables
 tables_with (Some (Map o)) tables = with_map o.table (values_of o) tables
 tables_with (Some (Names o)) tables = with_names o.table o.builder tables
 tables_with (Some (Texts o)) tables = with_texts o.length o.table (text_at o.texts) tables
+tables_with (Some (Emoji o)) tables = with_emoji o.table (emoji_read o) tables
+tables_with (Some (Scripts o)) tables = with_scripts (scripts_read o) tables
+tables_with (Some (Listed o)) tables = with_list o.index (list_read o) tables
 
 -- what the loader keeps of the lines above
 abbrev pub kept : Loader → Above
@@ -102,10 +135,31 @@ tables_begun (Some (map_table n default)) tables = with_map n (value_outside n d
 tables_begun (Some (names_table n)) tables = with_names n [] tables
 tables_begun (Some (long_table n)) tables = with_texts Long n no_text tables
 tables_begun (Some (short_table n)) tables = with_texts Short n no_text tables
+tables_begun (Some (emoji_table n)) tables = with_emoji n no_emoji tables
+tables_begun (Some (scx_table default)) tables = with_scripts (record { values = value_outside 4 default; named = default ∷ [] }) tables
+tables_begun (Some (ext_table n script)) tables = with_list n (record { has_script = is_some script; scripts = first_scripts script }) tables
 
 -- the names with one more
 abbrev pub with_text : Bool → Row → (ℕ → Option (List ℕ)) → ℕ → Option (List ℕ)
 with_text is_subtag r texts n = if nat_eq (value_of (Some r.0)) n then Some (as_kept is_subtag (text_of r.1)) else texts n
+
+-- the members with those of one more row
+abbrev pub emoji_with : Row → EmojiMembers → EmojiMembers
+emoji_with r members = record {
+  code_points = λ c. members.code_points c || holds (range_in r.0) c;
+  strings = λ bytes. members.strings bytes || is_text (string_in r.0) bytes;
+}
+
+-- the numbers with that of one more row
+abbrev pub numbers_with : Row → ScriptNumbers → ScriptNumbers
+numbers_with r numbers = record {
+  values = λ c. if holds (range r.0) c then value_of r.1 else numbers.values c;
+  named = numbers.named ++ value_of r.1 ∷ [];
+}
+
+-- the list with the script of one more row
+abbrev pub list_with : Row → ExtensionList → ExtensionList
+list_with r list = record list { scripts = list.scripts ++ value_of (Some r.0) ∷ [] }
 
 -- the same tables, and a row in one of them
 abbrev pub tables_grown : Option Table → Row → Tables → Tables
@@ -125,19 +179,26 @@ tables_grown (Some (long_table n)) r tables = record tables {
 tables_grown (Some (short_table n)) r tables = record tables {
   short = λ t. if nat_eq n t then option_map (with_text (is_subtags n) r) (tables.short t) else tables.short t;
 }
+tables_grown (Some (emoji_table n)) r tables = record tables {
+  emoji = λ t. if nat_eq n t then option_map (emoji_with r) (tables.emoji t) else tables.emoji t;
+}
+tables_grown (Some (scx_table default)) r tables = record tables { scripts = option_map (numbers_with r) tables.scripts }
+tables_grown (Some (ext_table n script)) r tables = record tables {
+  extensions = λ t. if nat_eq n t then option_map (list_with r) (tables.extensions t) else tables.extensions t;
+}
 
--- the last code point of a row that is a range
-abbrev pub last_after : Option Table → Row → Option ℕ
-last_after None r = None
-last_after (Some t) r = last_of t (r ∷ [])
+-- the last code point of a row that is a range, behind that of the rows above it
+abbrev pub last_after : Option Table → Row → Option ℕ → Option ℕ
+last_after None r last = None
+last_after (Some t) r last = last_behind t r last
 
 -- what a line without a fault makes of what stands above the next one
 abbrev pub after : Above → Line → Above
 after a blank = a
 after a other = a
-after a closing = record a { closed = true }
+after a closing = record { closed = true; table = None; last = None; tables = a.tables }
 after a (header h) = record { closed = a.closed; table = table_of h; last = None; tables = tables_begun (table_of h) a.tables }
-after a (row r) = record a { last = last_after a.table r; tables = tables_grown a.table r a.tables }
+after a (row r) = record a { last = last_after a.table r a.last; tables = tables_grown a.table r a.tables }
 
 -- A line was taken, or its fault was told, or memory was refused.
 abbrev pub Takes : Above → Line → ℕ → Result (Unit {0}) LoadError → Above → Type 0
@@ -151,6 +212,9 @@ IsNew (Set o) = (o.builder ≡ []) × (o.last ≡ None)
 IsNew (Map o) = (o.builder.runs.items ≡ []) × (o.builder.last ≡ None)
 IsNew (Names o) = o.builder ≡ []
 IsNew (Texts o) = (n : ℕ) → text_at o.texts n ≡ None
+IsNew (Scripts o) = (o.builder.runs.items ≡ []) × (o.builder.last ≡ None) × (o.named.items ≡ o.builder.default ∷ [])
+IsNew (Listed o) = (o.scripts.items ≡ first_scripts o.script) × (o.last ≡ None)
+IsNew (Emoji o) = (o.builder ≡ []) × (o.last ≡ None) × ((bytes : List ℕ) → contains_text o.strings bytes ≡ false)
 
 -- A table was begun, or the fault of its header was told, or memory was refused.
 abbrev pub Begins : Tables → Header → ℕ → Result OpenTable LoadError → Type 0
@@ -163,11 +227,27 @@ abbrev pub TakesRow : OpenTable → Row → ℕ → Result (Unit {0}) LoadError 
 TakesRow old r n (Ok _) new =
     ((tables : Tables) → row_fault (tables_with (Some old) tables) (Some (table_seen old)) (last_seen old) r ≡ None)
     × (table_seen new ≡ table_seen old)
-    × (last_seen new ≡ last_after (Some (table_seen old)) r)
+    × (last_seen new ≡ last_after (Some (table_seen old)) r (last_seen old))
     × ((tables : Tables) → tables_with (Some new) tables ≡ tables_grown (Some (table_seen old)) r (tables_with (Some old) tables))
 TakesRow old r n (Err (TableFault fault)) new =
     (tables : Tables) → option_map (at_line n) (row_fault (tables_with (Some old) tables) (Some (table_seen old)) (last_seen old) r) ≡ Some fault
 TakesRow old r n (Err NoMemory) new = Unit {0}
+
+-- An open emoji table took a row that has this fault, or spells this range or this text, or the fault was told, or memory was refused.
+abbrev pub TakesEmoji : OpenEmoji → Option TableErrorKind → Option (ℕ × ℕ) → Option (List ℕ) → ℕ → Result (Unit {0}) LoadError → OpenEmoji → Type 0
+TakesEmoji old found r text n (Ok _) new =
+    (found ≡ None)
+    × (new.table ≡ old.table)
+    × (new.last ≡ or_else (option_map (λ range. range.1) r) old.last)
+    × ((c : ℕ) → contains new.builder c ≡ (contains old.builder c || holds r c))
+    × ((bytes : List ℕ) → contains_text new.strings bytes ≡ (contains_text old.strings bytes || is_text text bytes))
+TakesEmoji old found r text n (Err (TableFault fault)) new = option_map (at_line n) found ≡ Some fault
+TakesEmoji old found r text n (Err NoMemory) new = Unit {0}
+
+-- the script of a header with this index, or the first test that both fail
+abbrev pub IsListed : ℕ → Option (List ℕ) → Result (Option ℕ) TableErrorKind → Type 0
+IsListed i script (Ok s) = (index_fault i (option_map decimal_number script) ≡ None) × (ext_of script i ≡ Some (ext_table i s))
+IsListed i script (Err kind) = index_fault i (option_map decimal_number script) ≡ Some kind
 
 -- the open table was moved into the database
 abbrev pub TakesFinished : OpenTable → PropertyDatabase → PropertyDatabase → Type 0

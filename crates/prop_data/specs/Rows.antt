@@ -1,11 +1,13 @@
 -- What the rows of a table mean, the nearest row first.
-use Rattle.std.specs.Prelude.{ℕ, Bool, false, ◌||◌, ◌&&◌, nat_eq, nat_le, nat_lt, List, [], ◌∷◌, Option, Some, None, unwrap_or, option_map, option_and_then, if◌then◌else◌}
+use Rattle.std.specs.Prelude.{ℕ, Bool, false, ◌||◌, ◌&&◌, nat_eq, nat_le, nat_lt, List, [], ◌∷◌, ◌++◌, Option, Some, None, is_some, unwrap_or, option_map, option_and_then, if◌then◌else◌}
 use Rattle.prop_values.specs.Subtag.{in_subtag_case}
 use Rattle.prop_values.specs.Tables.{default_number}
 use Rattle.prop_names.specs.Names.{Names, with_name}
-use Rattle.prop_data.specs.Headers.{Table, set_table, map_table, names_table, long_table, short_table}
+use Rattle.prop_data.specs.Headers.{Table, set_table, map_table, emoji_table, scx_table, ext_table}
 use Rattle.prop_data.specs.Line.{Row}
 use Rattle.prop_data.specs.Numbers.{range, decimal_number}
+use Rattle.prop_data.specs.Strings.{is_text, string_in, range_in}
+use Rattle.prop_data.specs.Tables.{EmojiMembers, ScriptNumbers, ExtensionList}
 
 -- the range, where there is one, holds the number
 abbrev pub holds : Option (ℕ × ℕ) → ℕ → Bool
@@ -16,14 +18,24 @@ holds (Some r) c = nat_le r.0 c && nat_le c r.1
 abbrev pub end_of : List ℕ → Option ℕ
 end_of field = option_map (λ r. r.1) (range field)
 
--- the last code point of the nearest row, where a table's rows are ranges
+abbrev pub or_else : {A : Type 0} → Option A → Option A → Option A
+or_else None other_one = other_one
+or_else (Some x) other_one = Some x
+
+-- What the next row of the table must be above: the last code point of a row, where rows are ranges, and the script of an extension
+-- list. A string has no last code point, and then that of the row before it stands.
+abbrev pub last_behind : Table → Row → Option ℕ → Option ℕ
+last_behind (set_table n) r last = end_of r.0
+last_behind (map_table n default) r last = end_of r.0
+last_behind (emoji_table n) r last = or_else (option_map (λ range. range.1) (range_in r.0)) last
+last_behind (scx_table default) r last = end_of r.0
+last_behind (ext_table i script) r last = decimal_number r.0
+last_behind t r last = None
+
+-- what the next row of the table must be above
 abbrev pub last_of : Table → List Row → Option ℕ
 last_of t [] = None
-last_of (set_table n) (r ∷ rows) = end_of r.0
-last_of (map_table n default) (r ∷ rows) = end_of r.0
-last_of (names_table n) (r ∷ rows) = None
-last_of (long_table n) (r ∷ rows) = None
-last_of (short_table n) (r ∷ rows) = None
+last_of t (r ∷ rows) = last_behind t r (last_of t rows)
 
 -- the members of a set: the numbers that a row holds
 abbrev pub members : List Row → ℕ → Bool
@@ -64,3 +76,37 @@ texts_in is_subtag (r ∷ rows) n = if nat_eq (value_of (Some r.0)) n then Some 
 -- the short names of scripts are subtags
 abbrev pub is_subtags : ℕ → Bool
 is_subtags table = nat_eq table 4
+
+-- the code points of an emoji table: those that a range holds
+abbrev pub emoji_code_points : List Row → ℕ → Bool
+emoji_code_points [] c = false
+emoji_code_points (r ∷ rows) c = emoji_code_points rows c || holds (range_in r.0) c
+
+-- the strings of an emoji table
+abbrev pub emoji_strings : List Row → List ℕ → Bool
+emoji_strings [] bytes = false
+emoji_strings (r ∷ rows) bytes = emoji_strings rows bytes || is_text (string_in r.0) bytes
+
+abbrev pub emoji_members : List Row → EmojiMembers
+emoji_members rows = record { code_points = emoji_code_points rows; strings = emoji_strings rows }
+
+-- the numbers that the header and the rows of the scripts with extensions name
+abbrev pub named_in : ℕ → List Row → List ℕ
+named_in default [] = default ∷ []
+named_in default (r ∷ rows) = named_in default rows ++ value_of r.1 ∷ []
+
+-- the scripts with extensions: past the last code point the script Unknown, as in the table of scripts (4)
+abbrev pub script_numbers : ℕ → List Row → ScriptNumbers
+script_numbers default rows = record { values = value 4 default rows; named = named_in default rows }
+
+abbrev pub first_scripts : Option ℕ → List ℕ
+first_scripts None = []
+first_scripts (Some script) = script ∷ []
+
+-- the script of the header, if it has one, and those of the rows
+abbrev pub scripts_in : Option ℕ → List Row → List ℕ
+scripts_in script [] = first_scripts script
+scripts_in script (r ∷ rows) = scripts_in script rows ++ value_of (Some r.0) ∷ []
+
+abbrev pub extension_list : Option ℕ → List Row → ExtensionList
+extension_list script rows = record { has_script = is_some script; scripts = scripts_in script rows }

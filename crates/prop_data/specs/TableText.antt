@@ -6,7 +6,8 @@ use Rattle.prop_data.specs.declared.error.TableErrorKind.TheVariants.{NoEnd}
 use Rattle.prop_data.specs.declared.error.TableError.{TableError}
 use Rattle.prop_data.specs.Line.{Line, line_of}
 use Rattle.prop_data.specs.LineFault.{above}
-use Rattle.prop_data.specs.LinesAbove.{or_else, is_closed, tables_of_lines}
+use Rattle.prop_data.specs.LinesAbove.{is_closed, tables_of_lines}
+use Rattle.prop_data.specs.Rows.{or_else}
 use Rattle.prop_data.specs.Tables.{Tables}
 use Rattle.prop_data.specs.Tests.{fault_of_line}
 

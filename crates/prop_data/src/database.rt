@@ -1,17 +1,30 @@
 //! The database.
+ghost use Rattle.std.specs.Prelude.{◌≡◌, ℕ, List, Some};
+ghost use Rattle.std.specs.BTreeMap.{get};
+ghost use Rattle.std.specs.Ordering.{nat_cmp};
+ghost use Rattle.cp_invlist.specs.InversionList.{contains};
+ghost use Rattle.prop_data.specs.Forbidden.{IsAllowed};
+
+use crate::count::table_count;
 use crate::error::LoadError;
 use crate::linear::keep_linear;
 use crate::load::{Length, Loader};
+use crate::scripts::{
+    ListedScripts, ScriptTable, ScriptWithExtensionsProperty, keep_list, lacks_some,
+};
+use crate::table::TableKind;
 use cp_invlist::{CodePointInversionList, NoMemory};
+use cp_strset::CodePointInversionListAndStringList;
 use cp_trie::CodePointTrie;
-use prop_binary::SetTable;
+use prop_binary::{EmojiTable, SetTable};
 use prop_names::{
     PropertyEnumToValueNameLinearMap, PropertyEnumToValueNameSparseMap,
     PropertyScriptToIcuScriptMap, PropertyValueNameToEnumMap,
 };
-use prop_values::{MapTable, NamesTable};
+use prop_values::{MapTable, NamesTable, ScriptWithExt};
 use std::alloc::Global;
 use std::collections::BTreeMap;
+use std::mem::replace;
 use text_lines::split_line;
 
 /// The tables of a table text. Every table may be absent.
@@ -25,18 +38,27 @@ pub struct PropertyDatabase {
     pub(crate) short_linear: BTreeMap<u8, PropertyEnumToValueNameLinearMap>,
     pub(crate) short_ccc: Option<PropertyEnumToValueNameSparseMap>,
     pub(crate) short_script: Option<PropertyScriptToIcuScriptMap>,
+    pub(crate) emoji: BTreeMap<u8, CodePointInversionListAndStringList>,
+    pub(crate) scripts: Option<ScriptTable>,
+    /// The extension lists, as long as there are no scripts with extensions, which have them then.
+    pub(crate) lists: BTreeMap<u64, ListedScripts>,
+    ghost allowed: { (table : ℕ) (set : List ℕ) → get nat_cmp sets table ≡ Some set → IsAllowed table (contains set) },
 }
 
 impl PropertyDatabase {
-    ghost use Rattle.std.specs.Prelude.{◌≡◌, nat_eq, ◌||◌, if◌then◌else◌, None, is_some, option_map, OnOk, IfOk, IfErr};
+    ghost use Rattle.std.specs.Prelude.{◌≡◌, nat_eq, ◌||◌, if◌then◌else◌, None, is_some, option_map, OnOk, IfOk, IfErr, IfSome};
     ghost use Rattle.std.specs.Option.{option_copied};
     ghost use Rattle.text_lines.specs.Lines.{lines};
     ghost use Rattle.cp_invlist.specs.InversionList.{contains};
+    ghost use Rattle.prop_data.specs.Forbidden.{IsAllowed};
     ghost use Rattle.cp_trie.specs.Map.{value_at};
     ghost use Rattle.prop_names.specs.ValueNames.{text_at};
     ghost use Rattle.prop_names.specs.ValueNameTables.{linear_text, sparse_text, subtag_text};
-    ghost use Rattle.prop_data.specs.Changes.{no_tables, with_set, with_map, with_names, with_texts};
-    ghost use Rattle.prop_data.specs.Database.{set_of, map_of, names_of, long_of, short_of, tables_of, IsFault};
+    ghost use Rattle.prop_data.specs.Changes.{no_tables, with_set, with_map, with_names, with_texts, with_emoji, with_scripts, with_list};
+    ghost use Rattle.prop_data.specs.Database.{set_of, map_of, names_of, long_of, short_of, emoji_of, emoji_seen, scripts_of, list_at, tables_of, IsFault};
+    ghost use Rattle.prop_data.specs.Counts.{table_count};
+    ghost use Rattle.prop_data.specs.Extensions.{list_seen};
+    ghost use Rattle.prop_data.specs.LineFault.{lacks_some_list};
     ghost use Rattle.prop_data.specs.TableText.{table_fault, tables_in};
 
     /// Reads a text of tables (its rules stand in docs/DEFINITIONS.md). The answer is the database
@@ -70,6 +92,9 @@ impl PropertyDatabase {
             short_linear: BTreeMap::new(alloc),
             short_ccc: None,
             short_script: None,
+            emoji: BTreeMap::new(alloc),
+            scripts: None,
+            lists: BTreeMap::new(alloc),
         }
     }
 
@@ -79,6 +104,7 @@ impl PropertyDatabase {
         table: SetTable,
         set: CodePointInversionList,
     ) -> Result<(), NoMemory>
+        requires { IsAllowed table (contains set) }
         ensures { OnOk result (tables_of self.new ≡ with_set table (contains set) (tables_of self.old)) }
     {
         self.sets.insert(table.number(), set)?;
@@ -144,9 +170,52 @@ impl PropertyDatabase {
         Ok(())
     }
 
-    /// The set of a binary property's table, `None` where the text has no such table.
+    /// Keeps the emoji set as the table's.
+    pub(crate) fn insert_emoji(
+        &mut self,
+        table: EmojiTable,
+        set: CodePointInversionListAndStringList,
+    ) -> Result<(), NoMemory>
+        ensures { OnOk result (tables_of self.new ≡ with_emoji table (emoji_seen set) (tables_of self.old)) }
+    {
+        self.emoji.insert(table.number(), set)?;
+        Ok(())
+    }
+
+    /// Keeps the scripts with extensions, with the lists that are there.
+    pub(crate) fn insert_scripts(
+        &mut self,
+        alloc: Global,
+        trie: CodePointTrie<ScriptWithExt>,
+        named: Vec<u16>,
+    )
+        ensures { tables_of self.new ≡ with_scripts (record { values = value_at trie; named = named.items }) (tables_of self.old) }
+    {
+        let lists = match self.scripts.take() {
+            Some(table) => table.property.lists,
+            None => replace(&mut self.lists, BTreeMap::new(alloc)),
+        };
+        self.scripts = Some(ScriptTable {
+            property: ScriptWithExtensionsProperty { trie, lists },
+            named,
+        });
+    }
+
+    /// Keeps the list of scripts at its index.
+    pub(crate) fn insert_list(&mut self, index: u64, list: ListedScripts) -> Result<(), NoMemory>
+        ensures { OnOk result (tables_of self.new ≡ with_list index (list_seen list) (tables_of self.old)) }
+    {
+        match &mut self.scripts {
+            Some(table) => keep_list(&mut table.property.lists, index, list),
+            None => keep_list(&mut self.lists, index, list),
+        }
+    }
+
+    /// The set of a binary property's table, `None` where the text has no such table. The tables of the syntax of
+    /// patterns hold no ASCII character that the syntax needs otherwise.
     pub fn set(&self, table: SetTable) -> Option<&CodePointInversionList>
-        ensures { option_copied result ≡ set_of self.now table }
+        ensures value { option_copied result ≡ set_of self.now table }
+        ensures allowed { IfSome result (λ set. IsAllowed table (contains set.now)) }
     {
         self.sets.get(&table.number())
     }
@@ -208,14 +277,66 @@ impl PropertyDatabase {
         self.short_script.as_ref()
     }
 
+    /// The emoji set of a table, `None` where the text has no such table.
+    pub fn emoji(&self, table: EmojiTable) -> Option<&CodePointInversionListAndStringList>
+        ensures { option_copied result ≡ emoji_of self.now table }
+    {
+        self.emoji.get(&table.number())
+    }
+
+    /// The scripts with extensions, `None` where the text has no such table.
+    pub fn scripts(&self) -> Option<&ScriptWithExtensionsProperty>
+        ensures { option_copied result ≡ scripts_of self.now }
+    {
+        match &self.scripts {
+            Some(table) => Some(&table.property),
+            None => None,
+        }
+    }
+
+    /// How many tables of the kind the text has.
+    pub fn table_count(&self, kind: TableKind) -> usize
+        ensures { result ≡ table_count kind (tables_of self.now) }
+    {
+        table_count(self, kind)
+    }
+
+    /// Whether there is a list at the index.
+    pub(crate) fn has_list(&self, index: u64) -> bool
+        ensures { result ≡ is_some (list_at self.now index) }
+    {
+        match &self.scripts {
+            Some(table) => table.property.lists.contains_key(&index),
+            None => self.lists.contains_key(&index),
+        }
+    }
+
+    /// Whether a number of the scripts with extensions tells the place of a list that isn't there.
+    #[tactic(auto, unfolding(crate::specs::LineFault::lacks_some_list))]
+    pub(crate) fn lacks_list(&self) -> bool
+        ensures { result ≡ lacks_some_list (tables_of self.now) }
+    {
+        match &self.scripts {
+            Some(table) => lacks_some(table),
+            None => false,
+        }
+    }
+
     /// Whether there are long names of the table.
     pub(crate) fn has_long(&self, table: MapTable) -> bool
         ensures { result ≡ is_some (long_of self.now table) }
     {
-        if table == MapTable::CANONICAL_COMBINING_CLASS {
+        self.has_long_at(table.number())
+    }
+
+    /// Whether there are long names of the table with this number.
+    pub(crate) fn has_long_at(&self, number: u8) -> bool
+        ensures { result ≡ is_some (long_of self.now number) }
+    {
+        if number == MapTable::CANONICAL_COMBINING_CLASS.number() {
             self.long_ccc.is_some()
         } else {
-            self.long_linear.contains_key(&table.number())
+            self.long_linear.contains_key(&number)
         }
     }
 
@@ -223,12 +344,19 @@ impl PropertyDatabase {
     pub(crate) fn has_short(&self, table: MapTable) -> bool
         ensures { result ≡ is_some (short_of self.now table) }
     {
-        if table == MapTable::CANONICAL_COMBINING_CLASS {
+        self.has_short_at(table.number())
+    }
+
+    /// Whether there are short names of the table with this number.
+    pub(crate) fn has_short_at(&self, number: u8) -> bool
+        ensures { result ≡ is_some (short_of self.now number) }
+    {
+        if number == MapTable::CANONICAL_COMBINING_CLASS.number() {
             self.short_ccc.is_some()
-        } else if table == MapTable::SCRIPT {
+        } else if number == MapTable::SCRIPT.number() {
             self.short_script.is_some()
         } else {
-            self.short_linear.contains_key(&table.number())
+            self.short_linear.contains_key(&number)
         }
     }
 }

@@ -1,23 +1,30 @@
 //! Property data: a text of tables, checked as it is read, and the database that it means.
 #![tactic(auto)]
 
+mod count;
 mod database;
 mod error;
+pub mod laws;
 mod line;
 mod linear;
 mod load;
 mod name;
 mod numbers;
 mod row;
+mod scripts;
+mod string;
+mod table;
 #[cfg(test)]
 mod tests;
 mod value;
 
 pub use database::PropertyDatabase;
 pub use error::{LoadError, TableError, TableErrorKind};
-pub use prop_binary::SetTable;
+pub use prop_binary::{EmojiTable, SetTable};
 pub use prop_names::{
     PropertyEnumToValueNameLinearMap, PropertyEnumToValueNameLookup,
     PropertyEnumToValueNameSparseMap, PropertyScriptToIcuScriptMap, PropertyValueNameToEnumMap,
 };
 pub use prop_values::{MapTable, NamesTable};
+pub use scripts::ScriptWithExtensionsProperty;
+pub use table::{DataError, TableKind, TableName};

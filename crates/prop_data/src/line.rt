@@ -10,15 +10,39 @@ use text_lines::{before_comment, split_field};
 #[derive(Clone, Copy)]
 pub(crate) enum Header<'a> {
     /// `set NAME`
-    Set { name: &'a [u8] },
+    Set {
+        name: &'a [u8],
+    },
     /// `map NAME DEFAULT`
-    Map { name: &'a [u8], default: &'a [u8] },
+    Map {
+        name: &'a [u8],
+        default: &'a [u8],
+    },
     /// `names NAME`
-    Names { name: &'a [u8] },
+    Names {
+        name: &'a [u8],
+    },
     /// `long NAME`
-    Long { name: &'a [u8] },
+    Long {
+        name: &'a [u8],
+    },
     /// `short NAME`
-    Short { name: &'a [u8] },
+    Short {
+        name: &'a [u8],
+    },
+    /// `emoji NAME`
+    Emoji {
+        name: &'a [u8],
+    },
+    /// `scx DEFAULT`
+    Scripts {
+        default: &'a [u8],
+    },
+    /// `ext INDEX`, or `ext INDEX SCRIPT`
+    Extensions {
+        index: &'a [u8],
+        script: Option<&'a [u8]>,
+    },
 }
 
 /// The one or two fields of a row.
@@ -90,6 +114,15 @@ fn line_of_two<'a>(first: &'a [u8], second: &'a [u8]) -> Line<'a>
         Line::Header(Header::Long { name: second })
     } else if first == b"short".as_slice() {
         Line::Header(Header::Short { name: second })
+    } else if first == b"emoji".as_slice() {
+        Line::Header(Header::Emoji { name: second })
+    } else if first == b"scx".as_slice() {
+        Line::Header(Header::Scripts { default: second })
+    } else if first == b"ext".as_slice() {
+        Line::Header(Header::Extensions {
+            index: second,
+            script: None,
+        })
     } else if is_end(first) || is_header_word(first) {
         Line::Other
     } else {
@@ -108,6 +141,11 @@ fn line_of_three<'a>(first: &[u8], second: &'a [u8], third: &'a [u8]) -> Line<'a
         Line::Header(Header::Map {
             name: second,
             default: third,
+        })
+    } else if first == b"ext".as_slice() {
+        Line::Header(Header::Extensions {
+            index: second,
+            script: Some(third),
         })
     } else {
         Line::Other

@@ -1,27 +1,35 @@
 //! Reads the lines of a table text one by one.
 ghost use Rattle.std.specs.Prelude.{◌≡◌, ℕ, [], None, true, OnOk, IfOk, IfErr};
 ghost use Rattle.text_lines.specs.Fields.{fields};
-ghost use Rattle.prop_data.specs.Line.{line_of, set_header, map_header, names_header, long_header, short_header, header as header_line, row as row_line, closing};
+ghost use Rattle.prop_data.specs.Line.{line_of, set_header, map_header, names_header, long_header, short_header, emoji_header, scx_header, ext_header, header as header_line, row as row_line, closing};
 ghost use Rattle.prop_data.specs.Loading.{kept, header_seen, row_seen, Takes, TakesRow, TakesFinished, Begins, NoEndFault};
 ghost use Rattle.prop_data.specs.Database.{tables_of};
 ghost use Rattle.prop_data.specs.LineFault.{above};
+ghost use Rattle.std.specs.Option.{option_copied};
 
+mod emoji;
+mod extensions;
 mod map;
 mod map_builder;
 mod names;
+mod scripts;
 mod set;
+mod strings;
 mod texts;
 
 use crate::database::PropertyDatabase;
 use crate::error::{LoadError, TableErrorKind, fault};
 use crate::line::{Header, Line, Row, read_line};
 use crate::numbers::decimal_number;
-use crate::value::accepted;
+use crate::value::{accepted, accepted_script};
 use cp_invlist::NoMemory;
+use emoji::{OpenEmoji, emoji_table};
+use extensions::{OpenList, listed_script};
 use map::OpenMap;
 use names::OpenNames;
 use prop_binary::SetTable;
 use prop_values::{MapTable, NamesTable};
+use scripts::OpenScripts;
 use set::OpenSet;
 use std::alloc::Global;
 pub(crate) use texts::Length;
@@ -34,6 +42,9 @@ pub(crate) enum OpenTable {
     Map(OpenMap),
     Names(OpenNames),
     Texts(OpenTexts),
+    Emoji(OpenEmoji),
+    Scripts(OpenScripts),
+    List(OpenList),
 }
 
 impl OpenTable {
@@ -46,6 +57,9 @@ impl OpenTable {
             OpenTable::Map(open) => open.add_row(row, number),
             OpenTable::Names(open) => open.add_row(row, number),
             OpenTable::Texts(open) => open.add_row(row, number),
+            OpenTable::Emoji(open) => open.add_row(row, number),
+            OpenTable::Scripts(open) => open.add_row(row, number),
+            OpenTable::List(open) => open.add_row(row, number),
         }
     }
 
@@ -58,6 +72,9 @@ impl OpenTable {
             OpenTable::Map(open) => open.finish(alloc, database),
             OpenTable::Names(open) => open.finish(alloc, database),
             OpenTable::Texts(open) => open.finish(database),
+            OpenTable::Emoji(open) => open.finish(alloc, database),
+            OpenTable::Scripts(open) => open.finish(alloc, database),
+            OpenTable::List(open) => open.finish(database),
         }
     }
 }
@@ -180,6 +197,57 @@ impl Loader {
         Ok(OpenTable::Texts(OpenTexts::new(self.alloc, table, Length::Short)))
     }
 
+    /// The emoji table of a header, without rows.
+    fn begin_emoji(&self, name: &[u8], number: usize) -> Result<OpenTable, LoadError>
+        ensures { Begins (tables_of self.now.database) (emoji_header name.now) number result }
+    {
+        let Some(table) = emoji_table(name) else {
+            return Err(fault(number, TableErrorKind::UnknownTable));
+        };
+        if self.database.emoji(table).is_some() {
+            return Err(fault(number, TableErrorKind::TableTwice));
+        }
+        Ok(OpenTable::Emoji(OpenEmoji::new(self.alloc, table)))
+    }
+
+    /// The scripts with extensions of a header, without rows.
+    #[tactic(auto, unfolding(crate::specs::LineFault::value_fault))]
+    fn begin_scripts(&self, default: &[u8], number: usize) -> Result<OpenTable, LoadError>
+        ensures { Begins (tables_of self.now.database) (scx_header default.now) number result }
+    {
+        if self.database.scripts().is_some() {
+            return Err(fault(number, TableErrorKind::TableTwice));
+        }
+        let Some(spelled) = decimal_number(default) else {
+            return Err(fault(number, TableErrorKind::BadNumber));
+        };
+        let Some(default) = accepted_script(spelled) else {
+            return Err(fault(number, TableErrorKind::ValueOutOfType));
+        };
+        Ok(OpenTable::Scripts(OpenScripts::new(self.alloc, default)?))
+    }
+
+    /// The extension list of a header, without rows.
+    fn begin_list(
+        &self,
+        index: &[u8],
+        script: Option<&[u8]>,
+        number: usize,
+    ) -> Result<OpenTable, LoadError>
+        ensures { Begins (tables_of self.now.database) (ext_header index.now (option_copied script.entry)) number result }
+    {
+        let Some(index) = decimal_number(index) else {
+            return Err(fault(number, TableErrorKind::BadNumber));
+        };
+        if self.database.has_list(index) {
+            return Err(fault(number, TableErrorKind::TableTwice));
+        }
+        match listed_script(index, script) {
+            Ok(script) => Ok(OpenTable::List(OpenList::new(self.alloc, index, script)?)),
+            Err(kind) => Err(fault(number, kind)),
+        }
+    }
+
     /// The table of a header, without rows.
     fn begin(&self, header: Header<'_>, number: usize) -> Result<OpenTable, LoadError>
         ensures { Begins (tables_of self.now.database) (header_seen header.entry) number result }
@@ -190,6 +258,9 @@ impl Loader {
             Header::Names { name } => self.begin_names(name, number),
             Header::Long { name } => self.begin_long(name, number),
             Header::Short { name } => self.begin_short(name, number),
+            Header::Emoji { name } => self.begin_emoji(name, number),
+            Header::Scripts { default } => self.begin_scripts(default, number),
+            Header::Extensions { index, script } => self.begin_list(index, script, number),
         }
     }
 
@@ -219,10 +290,14 @@ impl Loader {
         open_table.add_row(row, number)
     }
 
-    /// Takes the line `end`.
+    /// Takes the line `end`. All tables are read then, so that each list of scripts that is asked for must be there.
     fn close(&mut self, number: usize) -> Result<(), LoadError>
         ensures { Takes (kept self.old) closing number result (kept self.new) }
     {
+        self.finish_table()?;
+        if self.database.lacks_list() {
+            return Err(fault(number, TableErrorKind::ExtensionMissing));
+        }
         if self.is_closed {
             return Err(fault(number, TableErrorKind::AfterEnd));
         }

@@ -30,7 +30,7 @@ fn holds_syntax(table: SetTable, range: CodePointRange) -> bool
     }
 }
 
-fn is_behind(last: Option<u32>, start: u32) -> bool
+pub(crate) fn is_behind(last: Option<u32>, start: u32) -> bool
     ensures { result ≡ is_behind last start }
 {
     match last {

@@ -493,6 +493,256 @@ fn the_first_fault_is_told(rt: HostRuntime) {
 }
 
 #[test]
+fn emoji_sets_are_read(rt: HostRuntime) -> Result<(), Fail> {
+    let text =
+        "emoji Basic_Emoji\n231A-231B\n{61_62}\n{00A9_FE0F}\n{} # the empty string\n231D\n{000061_63}\nend";
+    let database = PropertyDatabase::from_text(rt.alloc(), text)?;
+    let set = database.emoji(EmojiTable::BASIC_EMOJI).ok_or("no table")?;
+    assert_eq!(rt;
+        set.code_points().get_inversion_list(),
+        [0x231A, 0x231C, 0x231D, 0x231E].as_slice()
+    );
+    assert_eq!(rt; set.size(), 7);
+    for (text, expected) in [
+        ("\u{231A}", true),
+        ("\u{231C}", false),
+        ("", true),
+        ("ab", true),
+        ("ac", true),
+        ("\u{A9}\u{FE0F}", true),
+        ("\u{A9}", false),
+        ("abc", false),
+    ] {
+        assert_eq!(rt; set.contains_str(text), expected, "at {text}");
+    }
+    let empty = PropertyDatabase::from_text(rt.alloc(), "emoji Basic_Emoji\nend")?;
+    let none = empty.emoji(EmojiTable::BASIC_EMOJI).ok_or("no table")?;
+    assert_eq!(rt; none.size(), 0);
+    let lacking = PropertyDatabase::from_text(rt.alloc(), "set Emoji\nend")?;
+    assert!(rt; lacking.emoji(EmojiTable::BASIC_EMOJI).is_none());
+    Ok(())
+}
+
+#[test]
+fn faults_of_emoji_sets_are_told(rt: HostRuntime) -> Result<(), Fail> {
+    let alloc = rt.alloc();
+    for (rows, line, kind) in [
+        ("41 42", 2, TableErrorKind::UnknownLine),
+        ("{41 _42}", 2, TableErrorKind::UnknownLine),
+        ("4G", 2, TableErrorKind::BadNumber),
+        ("{41_42", 2, TableErrorKind::BadNumber),
+        ("41_42}", 2, TableErrorKind::BadNumber),
+        ("{", 2, TableErrorKind::BadNumber),
+        ("{_}", 2, TableErrorKind::BadNumber),
+        ("{41_}", 2, TableErrorKind::BadNumber),
+        ("{41__42}", 2, TableErrorKind::BadNumber),
+        ("{41-42}", 2, TableErrorKind::BadNumber),
+        ("{0000041_42}", 2, TableErrorKind::BadNumber),
+        ("{110000_D800}", 2, TableErrorKind::BadNumber),
+        ("{DFFF}", 2, TableErrorKind::BadNumber),
+        ("{110000}", 2, TableErrorKind::TooLarge),
+        ("{41_FFFFFF}", 2, TableErrorKind::TooLarge),
+        ("110000", 2, TableErrorKind::TooLarge),
+        ("42\n{41_42}\n{}\n42", 5, TableErrorKind::RangeOrder),
+        ("{0041}", 2, TableErrorKind::StringOfOne),
+        ("{D7FF}", 2, TableErrorKind::StringOfOne),
+        ("{10FFFF}", 2, TableErrorKind::StringOfOne),
+        ("{}\n{}", 3, TableErrorKind::StringTwice),
+        ("{41_42}\n43\n{0041_042}", 4, TableErrorKind::StringTwice),
+    ] {
+        let text = format!(in alloc; "emoji Basic_Emoji\n{rows}\n")?;
+        assert_eq!(rt; fault_of(alloc, text.as_str()), at(line, kind), "at {rows}");
+    }
+    Ok(())
+}
+
+#[test]
+fn faults_of_emoji_headers_are_told(rt: HostRuntime) {
+    for (text, line, kind) in [
+        ("emoji", 1, TableErrorKind::UnknownLine),
+        ("emoji Basic_Emoji 0", 1, TableErrorKind::UnknownLine),
+        ("emoji basic_emoji", 1, TableErrorKind::UnknownTable),
+        ("emoji Emoji", 1, TableErrorKind::UnknownTable),
+        (
+            "emoji Basic_Emoji\nset Dash\nemoji Basic_Emoji",
+            3,
+            TableErrorKind::TableTwice,
+        ),
+        ("end\nemoji Basic_Emoji", 2, TableErrorKind::AfterEnd),
+        ("end\n{}", 2, TableErrorKind::UnknownLine),
+        ("set Dash\n{}", 2, TableErrorKind::BadNumber),
+    ] {
+        assert_eq!(rt; fault_of(rt.alloc(), text), at(line, kind), "at {text}");
+    }
+}
+
+#[test]
+fn scripts_with_extensions_are_read(rt: HostRuntime) -> Result<(), Fail> {
+    let text =
+        "ext 5\n1\n3\nscx 103\n41-5A 25\n30FC 1024\n30FD 03077\n30FE 1029\next 0\n20\n22\next 00005 25\nend";
+    assert_eq!(rt;
+        fault_of(rt.alloc(), text),
+        at(12, TableErrorKind::TableTwice)
+    );
+    let text =
+        "ext 6\n1\n3\nscx 103\n41-5A 25\n30FC 1024\n30FD 03077\n30FE 2054\n30FF 65535\next 0\n20\n22\next 00005 25\n0\n65535\next 1023\nend";
+    let database = PropertyDatabase::from_text(rt.alloc(), text)?;
+    let scripts = database.scripts().ok_or("no table")?;
+    for (code_point, number) in [
+        (0x40, 103),
+        (0x5A, 25),
+        (0x30FC, 1024),
+        (0x30FD, 3077),
+        (0x30FE, 2054),
+        (0x30FF, 65535),
+        (0x10_FFFF, 103),
+        (0x11_0000, 103),
+    ] {
+        assert_eq!(rt;
+            scripts.script_trie().get32(code_point).0,
+            number,
+            "at {code_point}"
+        );
+    }
+    for (index, numbers) in [
+        (0, [20, 22].as_slice()),
+        (5, [25, 0, 65535].as_slice()),
+        (6, [1, 3].as_slice()),
+        (1023, [].as_slice()),
+    ] {
+        let list = scripts.extensions(index).ok_or("no list")?;
+        assert_eq!(rt; list.len(), numbers.len());
+        for (script, number) in list.iter().zip(numbers) {
+            assert_eq!(rt; script.to_icu4c_value(), *number, "at {index}");
+        }
+    }
+    assert!(rt; scripts.extensions(1).is_none());
+    assert!(rt; scripts.extensions(1024).is_none());
+    let copy = scripts.copy(rt.alloc())?;
+    assert_eq!(rt; copy.script_trie().get32(0x30FC).0, 1024);
+    assert_eq!(rt; copy.extensions(0).ok_or("no list")?.len(), 2);
+    let lists = PropertyDatabase::from_text(rt.alloc(), "ext 0\n20\nend")?;
+    assert!(rt; lists.scripts().is_none());
+    Ok(())
+}
+
+#[test]
+fn past_the_last_code_point_a_script_is_unknown(rt: HostRuntime) -> Result<(), Fail> {
+    let database = PropertyDatabase::from_text(rt.alloc(), "scx 7\nend")?;
+    let scripts = database.scripts().ok_or("no table")?;
+    assert_eq!(rt; scripts.script_trie().get32(0x10_FFFF).0, 7);
+    assert_eq!(rt; scripts.script_trie().get32(0x11_0000).0, 103);
+    Ok(())
+}
+
+#[test]
+fn faults_of_scripts_with_extensions_are_told(rt: HostRuntime) {
+    for (text, line, kind) in [
+        ("scx", 1, TableErrorKind::UnknownLine),
+        ("scx 103 0", 1, TableErrorKind::UnknownLine),
+        ("ext", 1, TableErrorKind::UnknownLine),
+        ("ext 0 25 1", 1, TableErrorKind::UnknownLine),
+        ("scx 103\n41", 2, TableErrorKind::UnknownLine),
+        ("ext 0\n20 21", 2, TableErrorKind::UnknownLine),
+        ("scx 103\nset Dash\nscx 0", 3, TableErrorKind::TableTwice),
+        ("scx 103\nscx x", 2, TableErrorKind::TableTwice),
+        ("ext 0\next 00", 2, TableErrorKind::TableTwice),
+        ("ext 0\next 0 25", 2, TableErrorKind::TableTwice),
+        ("ext 0 25\next 0 x", 2, TableErrorKind::TableTwice),
+        ("scx x", 1, TableErrorKind::BadNumber),
+        ("ext x", 1, TableErrorKind::BadNumber),
+        ("ext 1024 x", 1, TableErrorKind::BadNumber),
+        ("ext 12345678901", 1, TableErrorKind::BadNumber),
+        ("scx 103\n4G 65536", 2, TableErrorKind::BadNumber),
+        ("scx 103\n41 x", 2, TableErrorKind::BadNumber),
+        ("ext 0\n2A", 2, TableErrorKind::BadNumber),
+    ] {
+        assert_eq!(rt; fault_of(rt.alloc(), text), at(line, kind), "at {text}");
+    }
+}
+
+#[test]
+fn numbers_of_scripts_out_of_bounds_are_told(rt: HostRuntime) {
+    for (text, line, kind) in [
+        ("ext 1024", 1, TableErrorKind::TooLarge),
+        ("ext 1024 65536", 1, TableErrorKind::TooLarge),
+        ("ext 4294967296", 1, TableErrorKind::TooLarge),
+        ("scx 103\n110000 65536", 2, TableErrorKind::TooLarge),
+        ("scx 103\n41 0\n41 65536", 3, TableErrorKind::RangeOrder),
+        ("scx 65536", 1, TableErrorKind::ValueOutOfType),
+        ("ext 0 65536", 1, TableErrorKind::ValueOutOfType),
+        ("scx 103\n41 65536", 2, TableErrorKind::ValueOutOfType),
+        ("ext 0\n20\n65536", 3, TableErrorKind::ValueOutOfType),
+        ("ext 0\n20\n20", 3, TableErrorKind::ExtensionOrder),
+        ("ext 0\n20\n19", 3, TableErrorKind::ExtensionOrder),
+        ("ext 0 25\n0\n25\n24", 4, TableErrorKind::ExtensionOrder),
+    ] {
+        assert_eq!(rt; fault_of(rt.alloc(), text), at(line, kind), "at {text}");
+    }
+}
+
+#[test]
+fn missing_lists_of_scripts_are_told(rt: HostRuntime) {
+    for (text, line, kind) in [
+        ("scx 1024\nend", 2, TableErrorKind::ExtensionMissing),
+        ("scx 0\n41 2049\nend", 3, TableErrorKind::ExtensionMissing),
+        (
+            "scx 0\n41 3073\n42 7\next 1\nend",
+            5,
+            TableErrorKind::ExtensionMissing,
+        ),
+        (
+            "ext 1 25\nscx 1025\nend",
+            3,
+            TableErrorKind::ExtensionMissing,
+        ),
+        ("scx 4095\nend", 2, TableErrorKind::ExtensionMissing),
+        ("scx 4096\nend\nend", 3, TableErrorKind::AfterEnd),
+        ("end\nscx 0", 2, TableErrorKind::AfterEnd),
+        ("end\next 0", 2, TableErrorKind::AfterEnd),
+        ("scx 103\nend\n41 0", 3, TableErrorKind::UnknownLine),
+        ("scx 1024", 2, TableErrorKind::NoEnd),
+    ] {
+        assert_eq!(rt; fault_of(rt.alloc(), text), at(line, kind), "at {text}");
+    }
+}
+
+#[test]
+fn tables_of_each_kind_are_counted(rt: HostRuntime) -> Result<(), Fail> {
+    let text =
+        "set Dash\nset XID_Start\nmap Script 103\nnames Script\nnames General_Category_Mask\nnames Block\nlong Script\nlong Canonical_Combining_Class\nshort Script\nshort Block\nshort Canonical_Combining_Class\nscx 103\next 0\next 1023\next 7 25\next 8\nemoji Basic_Emoji\nend";
+    let database = PropertyDatabase::from_text(rt.alloc(), text)?;
+    let empty = PropertyDatabase::from_text(rt.alloc(), "end")?;
+    let lists = PropertyDatabase::from_text(rt.alloc(), "ext 5\nend")?;
+    for (kind, count, of_lists) in [
+        (TableKind::Set, 2, 0),
+        (TableKind::Map, 1, 0),
+        (TableKind::Names, 3, 0),
+        (TableKind::Long, 2, 0),
+        (TableKind::Short, 3, 0),
+        (TableKind::Scripts, 1, 0),
+        (TableKind::Extensions, 4, 1),
+        (TableKind::Emoji, 1, 0),
+    ] {
+        assert_eq!(rt; database.table_count(kind), count, "at {kind:?}");
+        assert_eq!(rt; empty.table_count(kind), 0, "at {kind:?}");
+        assert_eq!(rt; lists.table_count(kind), of_lists, "at {kind:?}");
+    }
+    Ok(())
+}
+
+#[test]
+fn an_error_of_data_shows_its_name(rt: HostRuntime) -> Result<(), Fail> {
+    let absent = DataError::Absent {
+        table: TableName::Emoji(EmojiTable::BASIC_EMOJI),
+    };
+    let text = format!(in rt.alloc(); "{absent} {}", DataError::NoMemory)?;
+    assert_eq!(rt; text.as_str(), "Absent NoMemory");
+    assert!(rt; absent != DataError::NoMemory);
+    Ok(())
+}
+
+#[test]
 fn kinds_show_their_names(rt: HostRuntime) -> Result<(), Fail> {
     for (kind, name) in [
         (TableErrorKind::UnknownLine, "UnknownLine"),

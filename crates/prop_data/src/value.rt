@@ -19,6 +19,16 @@ pub(crate) fn accepted(table: MapTable, number: u64) -> Option<u32>
     }
 }
 
+/// The number, where it is one of a script or of scripts with extensions.
+pub(crate) fn accepted_script(number: u64) -> Option<u16>
+    ensures { result ≡ (if accepts_value 4 number then Some number else None) }
+{
+    if number >= 0x1_0000 {
+        return None;
+    }
+    Some(number as u16)
+}
+
 /// The number, where the table of names takes it.
 pub(crate) fn accepted_name(table: NamesTable, number: u64) -> Option<u16>
     ensures { result ≡ (if accepts_name table number then Some number else None) }

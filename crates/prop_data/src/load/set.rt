@@ -1,6 +1,7 @@
 //! The table of a set whose rows are being read.
-ghost use Rattle.std.specs.Prelude.{◌≡◌, [], None, OnOk};
-ghost use Rattle.prop_data.specs.Loading.{TakesRow, TakesFinished, row_seen};
+ghost use Rattle.std.specs.Prelude.{◌≡◌};
+ghost use Rattle.cp_invlist.specs.InversionList.{contains};
+ghost use Rattle.prop_data.specs.Forbidden.{IsAllowed};
 
 use crate::database::PropertyDatabase;
 use crate::error::{LoadError, TableErrorKind, fault};
@@ -18,9 +19,13 @@ pub(crate) struct OpenSet {
     builder: CodePointInversionListBuilder,
     /// The last code point of the row above.
     last: Option<u32>,
+    ghost allowed: { IsAllowed table (contains builder) },
 }
 
 impl OpenSet {
+    ghost use Rattle.std.specs.Prelude.{◌≡◌, [], None, OnOk};
+    ghost use Rattle.prop_data.specs.Loading.{TakesRow, TakesFinished, row_seen};
+
     pub(crate) fn new(alloc: Global, table: SetTable) -> OpenSet
         ensures table { result.table ≡ table }
         ensures builder { result.builder ≡ [] }

@@ -1,5 +1,5 @@
 use Rattle.std.proofs.Common.{ap, sym, ◌∙◌}
-use Rattle.prop_data.specs.LinesAbove.{or_else}
+use Rattle.prop_data.specs.Rows.{or_else}
 use Rattle.prop_data.specs.Loading.{header_seen, kept, tables_begun}
 use Rattle.prop_data.specs.LineFault.{header_fault, after_end}
 use Rattle.prop_data.proofs.AboveLemmas.{same_above}

@@ -1,0 +1,142 @@
+-- Strings as they are spelled in braces.
+use Rattle.std.proofs.Common.{◌≡◌, ℕ, ◌+◌, ◌<◌, Bool, true, false, cond, not, ◌&&◌, ◌==◌, nat_lt, List, [], ◌∷◌, ◌++◌, take, length, Option, Some, None, option_map, option_and_then, refl, sym, ap, ap₂, ◌∙◌, arith, append_assoc, append-nil, IfSome, get_or, zero, suc}
+use Rattle.std.proofs.lemmas.Bool.Decides.{nat_tests}
+use Rattle.std.proofs.lemmas.Bool.{and_parts}
+use Rattle.std.proofs.lemmas.List.{take_more}
+use Rattle.std.proofs.lemmas.Str.{encodes-append}
+use lib.Utf8.{scalar}
+use Rattle.std.specs.Prelude.{encode_utf8, encode_utf8_all}
+use Rattle.std.specs.List.{position_or_len, slice_split, onto_first}
+use Rattle.std.proofs.lemmas.List.Splits.{slice_split_first}
+use Rattle.std.specs.Str.{all_scalars}
+use Rattle.prop_data.specs.Strings.{before_brace, braced, is_underscore, numbers_of, first_part, parts_at, text_of_numbers, text_spelled}
+use Rattle.prop_data.specs.Numbers.{hex}
+
+onto_front : (b : Bool) (x : ℕ) (front : List ℕ) → option_map (λ (f : List ℕ). x ∷ f) (cond b (Some front) None) ≡ cond b (Some (x ∷ front)) None
+onto_front true x front = refl
+onto_front false x front = refl
+
+-- the last byte decides
+pub before_brace-last : (front : List ℕ) (c : ℕ) → before_brace (front ++ c ∷ []) ≡ cond (c == 0x7D) (Some front) None
+before_brace-last [] c = refl
+before_brace-last (x ∷ []) c = onto_front (c == 0x7D) x []
+before_brace-last (x ∷ y ∷ front) c = ap (option_map (λ (f : List ℕ). x ∷ f)) (before_brace-last (y ∷ front) c) ∙ onto_front (c == 0x7D) x (y ∷ front)
+
+-- the parts of what is still to be read
+abbrev pub parts_behind : Option (List ℕ) → List (List ℕ)
+parts_behind None = []
+parts_behind (Some text) = slice_split is_underscore text
+
+-- how much is still to be read
+abbrev pub left_behind : Option (List ℕ) → ℕ
+left_behind None = 0
+left_behind (Some text) = length text + 1
+
+one_part : (text : List ℕ) → nat_lt (position_or_len is_underscore text) (length text) ≡ false → slice_split is_underscore text ≡ text ∷ []
+one_part [] h = refl
+one_part (c ∷ text) h = by_test (is_underscore c) refl (λ far. one_part text far)
+  where
+    by_test : (b : Bool) → is_underscore c ≡ b → (nat_lt (position_or_len is_underscore text) (length text) ≡ false → slice_split is_underscore text ≡ text ∷ []) →
+        cond b ([] ∷ slice_split is_underscore text) (onto_first c (slice_split is_underscore text)) ≡ (c ∷ text) ∷ []
+    by_test true is more = absurd (let far : nat_lt (cond (not true) (1 + position_or_len is_underscore text) 0) (length (c ∷ text)) ≡ false = rw is at h in grind (arith, nat_tests, far))
+    by_test false isnt more =
+        let far : nat_lt (cond (not false) (1 + position_or_len is_underscore text) 0) (length (c ∷ text)) ≡ false = rw isnt at h in
+        ap (onto_first c) (more (grind (arith, nat_tests, far)))
+
+-- the first part, and those behind it
+pub parts-first : (text : List ℕ) → slice_split is_underscore text ≡ (first_part text).0 ∷ parts_behind (first_part text).1
+parts-first text = by_test (nat_lt (position_or_len is_underscore text) (length text)) refl
+  where
+    by_test : (b : Bool) → nat_lt (position_or_len is_underscore text) (length text) ≡ b →
+        slice_split is_underscore text ≡ (parts_at text (cond b (Some (position_or_len is_underscore text)) None)).0 ∷ parts_behind (parts_at text (cond b (Some (position_or_len is_underscore text)) None)).1
+    by_test true is = slice_split_first is_underscore text 0 (grind (arith, nat_tests, is))
+    by_test false is = one_part text is
+
+-- one more number was read
+pub numbers_of-next : (read : List ℕ) (n : ℕ) (part : List ℕ) (parts : List (List ℕ)) → Some n ≡ hex part →
+    option_map (λ ns. (read ++ n ∷ []) ++ ns) (numbers_of parts) ≡ option_map (λ ns. read ++ ns) (numbers_of (part ∷ parts))
+numbers_of-next read n part parts is = onto_read (numbers_of parts) ∙ ap (λ (o : Option ℕ). option_map (λ (ns : List ℕ). read ++ ns) (option_and_then (λ (m : ℕ). option_map (λ (ns : List ℕ). m ∷ ns) (numbers_of parts)) o)) is
+  where
+    onto_read : (o : Option (List ℕ)) → option_map (λ (ns : List ℕ). (read ++ n ∷ []) ++ ns) o ≡ option_map (λ (ns : List ℕ). read ++ ns) (option_map (λ (ns : List ℕ). n ∷ ns) o)
+    onto_read None = refl
+    onto_read (Some ns) = ap Some (append_assoc read (n ∷ []) ns)
+
+pub numbers_of-misspelled : (read part : List ℕ) (parts : List (List ℕ)) → None ≡ hex part → option_map (λ ns. read ++ ns) (numbers_of (part ∷ parts)) ≡ None
+numbers_of-misspelled read part parts is =
+    ap (λ (o : Option ℕ). option_map (λ (ns : List ℕ). read ++ ns) (option_and_then (λ (m : ℕ). option_map (λ (ns : List ℕ). m ∷ ns) (numbers_of parts)) o)) (sym is)
+
+-- what is read on is what was to be read
+pub misspelled_part : (read : List ℕ) (rest : Option (List ℕ)) (text part : List ℕ) (behind all : Option (List ℕ)) → rest ≡ Some text → (part, behind) ≡ first_part text → None ≡ hex part →
+    option_map (λ ns. read ++ ns) (numbers_of (parts_behind rest)) ≡ all → None ≡ all
+misspelled_part read rest text part behind all is parts bad same =
+    sym (numbers_of-misspelled read part (parts_behind behind) bad) ∙ (to_read read rest text part behind is parts ∙ same)
+  where
+    to_read : (read : List ℕ) (rest : Option (List ℕ)) (text part : List ℕ) (behind : Option (List ℕ)) → rest ≡ Some text → (part, behind) ≡ first_part text →
+        option_map (λ ns. read ++ ns) (numbers_of (part ∷ parts_behind behind)) ≡ option_map (λ ns. read ++ ns) (numbers_of (parts_behind rest))
+    to_read read rest text part behind is parts =
+        ap (λ (ps : List (List ℕ)). option_map (λ (ns : List ℕ). read ++ ns) (numbers_of ps)) (ap (λ (p : List ℕ × Option (List ℕ)). p.0 ∷ parts_behind p.1) parts ∙ (sym (parts-first text) ∙ ap parts_behind (sym is)))
+
+pub next_part : (read new : List ℕ) (rest : Option (List ℕ)) (text part : List ℕ) (behind all : Option (List ℕ)) (n : ℕ) → rest ≡ Some text → (part, behind) ≡ first_part text → Some n ≡ hex part →
+    new ≡ read ++ n ∷ [] → option_map (λ ns. read ++ ns) (numbers_of (parts_behind rest)) ≡ all → option_map (λ ns. new ++ ns) (numbers_of (parts_behind behind)) ≡ all
+next_part read new rest text part behind all n is parts good more same =
+    ap (λ (xs : List ℕ). option_map (λ (ns : List ℕ). xs ++ ns) (numbers_of (parts_behind behind))) more
+    ∙ (numbers_of-next read n part (parts_behind behind) good
+    ∙ (ap (λ (ps : List (List ℕ)). option_map (λ (ns : List ℕ). read ++ ns) (numbers_of ps)) (ap (λ (p : List ℕ × Option (List ℕ)). p.0 ∷ parts_behind p.1) parts ∙ (sym (parts-first text) ∙ ap parts_behind (sym is))) ∙ same))
+
+-- how much is left
+pub less_left : (rest behind : Option (List ℕ)) (text : List ℕ) → rest ≡ Some text → IfSome behind (λ b. length b < length text) → left_behind behind < left_behind rest
+less_left rest None text is h = let e = ap left_behind is in omega (arith, e)
+less_left rest (Some b) text is h = let e = ap left_behind is in omega (arith, e, h)
+
+-- a number that is no character's
+pub not_all : (ns : List ℕ) (i : ℕ) → i < length ns → (scalar (get_or ns i 0) ≡ true → ⊥) → all_scalars ns ≡ false
+not_all [] i h none = absurd (omega (arith, h))
+not_all (n ∷ ns) zero h none = first_not (scalar n) (all_scalars ns) none
+  where
+    first_not : (a b : Bool) → (a ≡ true → ⊥) → (a && b) ≡ false
+    first_not true b never = absurd (never refl)
+    first_not false b never = refl
+not_all (n ∷ ns) (suc i) h none = second_not (scalar n) (all_scalars ns) (not_all ns i (omega (arith, h)) none)
+  where
+    second_not : (a b : Bool) → b ≡ false → (a && b) ≡ false
+    second_not true b never = never
+    second_not false b never = refl
+
+all_scalars-more : (ns : List ℕ) (n : ℕ) → all_scalars ns ≡ true → scalar n ≡ true → all_scalars (ns ++ n ∷ []) ≡ true
+all_scalars-more [] n all is = ap (λ b. b && true) is
+all_scalars-more (m ∷ ns) n all is = let p = and_parts (scalar m) (all_scalars ns) all in ap (λ b. b && all_scalars (ns ++ n ∷ [])) p.0 ∙ all_scalars-more ns n p.1 is
+
+-- one more character
+pub spelled_more : (ns : List ℕ) (i n : ℕ) (old new : List ℕ) → i < length ns → n ≡ get_or ns i 0 → scalar (get_or ns i 0) ≡ true → all_scalars (take i ns) ≡ true → old ≡ encode_utf8_all (take i ns) →
+    new ≡ old ++ encode_utf8 n → (all_scalars (take (i + 1) ns) ≡ true) × (new ≡ encode_utf8_all (take (i + 1) ns))
+spelled_more ns i n old new short at is all before more =
+    let next = take_more ns i 0 short in (
+      ap all_scalars next ∙ all_scalars-more (take i ns) (get_or ns i 0) all is,
+      more ∙ (ap (λ (m : ℕ). old ++ encode_utf8 m) at ∙ (ap (λ (o : List ℕ). o ++ encode_utf8 (get_or ns i 0)) before
+          ∙ (ap (λ (b : List ℕ). encode_utf8_all (take i ns) ++ b) (sym (append-nil (encode_utf8 (get_or ns i 0))))
+          ∙ (sym (encodes-append (take i ns) (get_or ns i 0 ∷ [])) ∙ ap encode_utf8_all (sym next))))),
+    )
+
+pub text_spelled-all : (ns : List ℕ) → all_scalars ns ≡ true → text_spelled ns ≡ Some (encode_utf8_all ns)
+unfolding text_of_numbers
+text_spelled-all ns all = ap (λ b. cond b (Some (encode_utf8_all ns)) None) all
+
+pub text_spelled-none : (ns : List ℕ) → all_scalars ns ≡ false → text_spelled ns ≡ None
+text_spelled-none ns all = ap (λ b. cond b (Some (text_of_numbers ns)) None) all
+
+braced-parts : (field rest inner : List ℕ) (first last : ℕ) → field ≡ first ∷ rest → rest ≡ inner ++ last ∷ [] → braced field ≡ cond (first == 0x7B) (cond (last == 0x7D) (Some inner) None) None
+unfolding braced
+braced-parts field rest inner first last all behind =
+    ap braced all ∙ ap (λ (o : Option (List ℕ)). cond (first == 0x7B) o None) (ap before_brace behind ∙ before_brace-last inner last)
+
+pub braced-both : (field rest inner : List ℕ) (first last : ℕ) → field ≡ first ∷ rest → rest ≡ inner ++ last ∷ [] → first ≡ 0x7B → last ≡ 0x7D → Some inner ≡ braced field
+braced-both field rest inner first last all behind f l =
+    sym (braced-parts field rest inner first last all behind ∙ ap₂ (λ (a b : ℕ). cond (a == 0x7B) (cond (b == 0x7D) (Some inner) None) None) f l)
+
+pub braced-not : (field rest inner : List ℕ) (first last : ℕ) → field ≡ first ∷ rest → rest ≡ inner ++ last ∷ [] → (first ≡ 0x7B → last ≡ 0x7D → ⊥) → None ≡ braced field
+braced-not field rest inner first last all behind never = sym (braced-parts field rest inner first last all behind ∙ by_tests (first == 0x7B) (last == 0x7D) refl refl)
+  where
+    by_tests : (a b : Bool) → (first == 0x7B) ≡ a → (last == 0x7D) ≡ b → cond a (cond b (Some inner) None) None ≡ None
+    by_tests true true f l = absurd (never (grind (arith, nat_tests, f)) (grind (arith, nat_tests, l)))
+    by_tests true false f l = refl
+    by_tests false b f l = refl
