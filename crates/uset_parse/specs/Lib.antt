@@ -1,11 +1,1 @@
-pub mod Text
-pub mod Escape
-pub mod Strings
-pub mod Tree
-pub mod Grammar
-pub mod Fault
 pub mod Reading
-pub mod Turn
-pub mod Laws
-pub mod Painting
-pub mod Gathered

@@ -1,223 +1,205 @@
-use crate::laws::{no_fault_of_a_reading, one_fault, one_reading};
-use crate::{ParseError, ParseErrorKind, VariableMap, parse_unstable_with_variables};
+use crate::{
+    InsertError, ParseError, ParseErrorKind, VariableMap, VariableValue, parse, parse_unstable,
+    parse_unstable_with_variables, parse_with_variables,
+};
+use cp_invlist::CodePointInversionList;
+use cp_strset::CodePointInversionListAndStringList;
 use prop_data::PropertyDatabase;
+use std::alloc::{AllocError, Global};
 use std::test::Fail;
+use uset_reader::{Syntax, read_set};
 
 /// The three syntax tables for ASCII.
 const SYNTAX: &str =
-    "set XID_Start\n41-5A\n61-7A\nset XID_Continue\n30-39\n41-5A\n5F\n61-7A\nset Pattern_White_Space\n9-D\n20\n85\n200E-200F\n2028-2029\nend\n";
+    "set XID_Start\n41-5A\n61-7A\nset XID_Continue\n30-39\n41-5A\n5F\n61-7A\nset Pattern_White_Space\n9-D\n20\nend\n";
 
-/// Sources of which no front is a pattern.
-const UNREAD: [&str; 31] = [
-    "",
-    "a",
-    " [a]",
-    "[",
-    "[a",
-    "[:a:]",
-    "[b-a]",
-    "[--a]",
-    "[a-b-c]",
-    "[a&b]",
-    "[&]",
-    "[$a]",
-    "[a$b]",
-    "[a-[b]]",
-    "[[a]&]",
-    "[{a]",
-    "[{ab}-a]",
-    "[a-{bc}]",
-    "[{ab}&[a]]",
-    "[{a\\uD800}]",
-    "[{a\\u{D800 62}}]",
-    "[{\\N}]",
-    "[\\u{61,62}]",
-    "[\\u{61 62]",
-    "[\\u{}]",
-    "[a-\\u{62 63}]",
-    "[\\p{L}]",
-    "[\\p]",
-    "[\\N]",
-    "[\\x4]",
-    "[\\u{110000}]",
-];
+fn text(alloc: Global, s: &str) -> Result<String, AllocError> {
+    String::from_str(alloc, s)
+}
+
+/// The hyphen, the letters `a` to `c`, the empty string and the string `ab`.
+fn letters(alloc: Global) -> Result<CodePointInversionListAndStringList, Fail> {
+    let code_points = CodePointInversionList::try_from_inversion_list(
+        alloc,
+        &[0x2D, 0x2E, 0x61, 0x64],
+    )?;
+    let mut strings = Vec::new(alloc);
+    strings.push(text(alloc, "")?)?;
+    strings.push(text(alloc, "ab")?)?;
+    Ok(CodePointInversionListAndStringList::try_from(code_points, strings)?)
+}
+
+fn is_char(value: Option<&VariableValue>, expected: char) -> bool {
+    match value {
+        Some(VariableValue::Char(c)) => *c == expected,
+        _ => false,
+    }
+}
+
+fn is_string(value: Option<&VariableValue>, expected: &str) -> bool {
+    match value {
+        Some(VariableValue::String(s)) => s.as_str() == expected,
+        _ => false,
+    }
+}
+
+fn is_set(value: Option<&VariableValue>, expected: &CodePointInversionListAndStringList) -> bool {
+    match value {
+        Some(VariableValue::UnicodeSet(set)) => set == expected,
+        _ => false,
+    }
+}
+
+/// Whether the pattern was read up to there with this set.
+fn is_read(
+    answer: &Result<(CodePointInversionListAndStringList, usize), ParseError>,
+    expected: &CodePointInversionListAndStringList,
+    length: usize,
+) -> bool {
+    match answer {
+        Ok((set, bytes)) => set == expected && *bytes == length,
+        Err(_) => false,
+    }
+}
+
+/// Whether the pattern was refused so.
+fn is_refused(
+    answer: &Result<(CodePointInversionListAndStringList, usize), ParseError>,
+    kind: ParseErrorKind,
+    offset: Option<usize>,
+) -> bool {
+    match answer {
+        Ok(_) => false,
+        Err(error) => error.kind() == kind && error.offset() == offset,
+    }
+}
+
+/// A map in which `a` is the character and `v` the string `ab`.
+fn variables(alloc: Global) -> Result<VariableMap, Fail> {
+    let mut variables = VariableMap::new(alloc);
+    if variables.insert_char(text(alloc, "a")?, 'a').is_err() {
+        return Err("not bound".into());
+    }
+    if variables.insert_str(text(alloc, "v")?, "ab").is_err() {
+        return Err("not bound".into());
+    }
+    Ok(variables)
+}
 
 #[test]
-fn a_bracket_at_the_front_is_read(rt: HostRuntime) -> Result<(), Fail> {
+fn each_call_reads_a_pattern(rt: HostRuntime) -> Result<(), Fail> {
     let alloc = rt.alloc();
     let database = PropertyDatabase::from_text(alloc, SYNTAX)?;
-    let variables = VariableMap::new(alloc);
-    for (source, list, read) in [
-        ("[a-z0]", [0x30, 0x31, 0x61, 0x7B].as_slice(), 6),
-        ("[a-b-] x", &[0x2D, 0x2E, 0x61, 0x63], 6),
-        ("[ - a]", &[0x2D, 0x2E, 0x61, 0x62], 6),
-        ("[]", &[], 2),
-        ("[-]", &[0x2D, 0x2E], 3),
-        ("[é\u{2028}a-]]", &[0x2D, 0x2E, 0x61, 0x62, 0xE9, 0xEA], 9),
-        ("[a\u{10FFFF}]b]", &[0x61, 0x62, 0x10FFFF, 0x110000], 7),
-        ("[a$]", &[0x61, 0x62, 0xFFFF, 0x1_0000], 4),
-        ("[zc-dac]", &[0x61, 0x62, 0x63, 0x65, 0x7A, 0x7B], 8),
-    ] {
-        let (set, length) = parse_unstable_with_variables(alloc, source, &variables, &database)?;
-        assert_eq!(rt; set.code_points().get_inversion_list(), list, "at {source}");
-        assert_eq!(rt; length, read, "at {source}");
-        assert!(rt; set.strings().is_empty());
-    }
+    let expected = letters(alloc)?;
+    let plain = "[a-c{}{ab}-]]";
+    assert!(rt; is_read(&parse(alloc, plain, &database), &expected, 12));
+    assert!(rt; is_read(&parse_unstable(alloc, plain, &database), &expected, 12));
+    let named = "[$a-c{}$v-]]";
+    let map = variables(alloc)?;
+    let answer = parse_with_variables(alloc, named, &map, &database);
+    assert!(rt; is_read(&answer, &expected, 11));
+    let answer = parse_unstable_with_variables(alloc, named, &map, &database);
+    assert!(rt; is_read(&answer, &expected, 11));
+    let syntax = Syntax::of(&map, &database).ok_or("no syntax")?;
+    let (gathered, place) = read_set(alloc, &syntax, named)?;
+    assert_eq!(rt; place.offset(), 11);
+    assert!(rt; gathered.into_set(alloc)? == expected);
     Ok(())
 }
 
 #[test]
-fn brackets_inside_are_joined_removed_and_kept(rt: HostRuntime) -> Result<(), Fail> {
+fn each_call_refuses_a_pattern(rt: HostRuntime) -> Result<(), Fail> {
     let alloc = rt.alloc();
     let database = PropertyDatabase::from_text(alloc, SYNTAX)?;
-    let variables = VariableMap::new(alloc);
-    for (source, list, read) in [
-        ("[^a]", [0, 0x61, 0x62, 0x11_0000].as_slice(), 4),
-        ("[^[^a-z]]", &[0x61, 0x7B], 9),
-        ("[[a-a][b-z] - [a-z][]]", &[], 22),
-        ("[[a-z]-[b-y]]", &[0x61, 0x62, 0x7A, 0x7B], 13),
-        ("[[a-e]&[^c]-[a]]", &[0x62, 0x63, 0x64, 0x66], 16),
-        ("[[a]-]", &[0x2D, 0x2E, 0x61, 0x62], 6),
-        ("[zba[c]-[z]]", &[0x61, 0x64], 12),
-        ("[^zba]", &[0, 0x61, 0x63, 0x7A, 0x7B, 0x11_0000], 6),
-        ("[[b]-[ac-eb][g]]", &[0x67, 0x68], 16),
-        ("[[ac][^abc]&[a-z]-[xyz]]", &[0x61, 0x62, 0x63, 0x78], 24),
-    ] {
-        let (set, length) = parse_unstable_with_variables(alloc, source, &variables, &database)?;
-        assert_eq!(rt; set.code_points().get_inversion_list(), list, "at {source}");
-        assert_eq!(rt; length, read, "at {source}");
-    }
-    Ok(())
-}
-
-#[test]
-fn an_escape_stands_for_its_code_point(rt: HostRuntime) -> Result<(), Fail> {
-    let alloc = rt.alloc();
-    let database = PropertyDatabase::from_text(alloc, SYNTAX)?;
-    let variables = VariableMap::new(alloc);
-    let source = "[\\u0041-\\x43\\U00010000\\u{ d800 }\\t\\ ]";
-    let (set, length) = parse_unstable_with_variables(alloc, source, &variables, &database)?;
-    assert_eq!(rt;
-        set.code_points().get_inversion_list(),
-        [
-            0x09, 0x0A, 0x20, 0x21, 0x41, 0x44, 0xD800, 0xD801, 0x1_0000, 0x1_0001
-        ]
-        .as_slice()
+    let none = PropertyDatabase::from_text(alloc, "end\n")?;
+    let map = variables(alloc)?;
+    let unknown = ParseErrorKind::UnknownVariable;
+    let internal = ParseErrorKind::Internal;
+    assert!(rt; is_refused(&parse(alloc, "[$a]", &database), unknown, Some(2)));
+    assert!(rt; is_refused(&parse(alloc, "[", &database), ParseErrorKind::Eof, None));
+    assert!(rt;
+        is_refused(
+            &parse_unstable(alloc, "[ä$vä]", &database),
+            unknown,
+            Some(4)
+        )
     );
-    assert_eq!(rt; length, source.len());
+    assert!(rt; is_refused(&parse_unstable(alloc, "[", &none), internal, None));
+    let answer = parse_with_variables(alloc, "[ä$vä-$a]", &map, &database);
+    let reversed = ParseErrorKind::UnexpectedChar('a');
+    assert!(rt; is_refused(&answer, reversed, Some(9)));
+    let answer = parse_unstable_with_variables(alloc, "[$a]", &map, &none);
+    assert!(rt; is_refused(&answer, internal, None));
+    assert!(rt; Syntax::of(&map, &none).is_none());
     Ok(())
 }
 
 #[test]
-fn an_escape_stands_for_several_code_points(rt: HostRuntime) -> Result<(), Fail> {
+fn a_fault_is_shown_with_its_source_or_another(rt: HostRuntime) -> Result<(), Fail> {
     let alloc = rt.alloc();
     let database = PropertyDatabase::from_text(alloc, SYNTAX)?;
-    let variables = VariableMap::new(alloc);
-    for (source, list) in [
-        ("[\\u{61 0062   063}]", [0x61, 0x64].as_slice()),
-        ("[a\\x{ 62 d800 }c]", &[0x61, 0x64, 0xD800, 0xD801]),
-        ("[\\u{62 61}-]", &[0x2D, 0x2E, 0x61, 0x63]),
-    ] {
-        let (set, length) = parse_unstable_with_variables(alloc, source, &variables, &database)?;
-        assert_eq!(rt; set.code_points().get_inversion_list(), list, "at {source}");
-        assert_eq!(rt; length, source.len(), "at {source}");
-        assert!(rt; set.strings().is_empty(), "at {source}");
-    }
+    let source = "[[set]&]";
+    let Err(error) = parse(alloc, source, &database) else {
+        return Err("no fault".into());
+    };
+    assert_eq!(rt; error.offset(), Some(7));
+    assert_eq!(rt; error.kind(), ParseErrorKind::UnexpectedChar(']'));
+    assert_eq!(rt;
+        error.fmt_with_source(alloc, source)?.as_str(),
+        "[[set]&]← error: unexpected character ']'"
+    );
+    assert_eq!(rt;
+        error.fmt_with_source(alloc, "[")?.as_str(),
+        "error: unexpected character ']'"
+    );
     Ok(())
 }
 
 #[test]
-fn strings_are_members(rt: HostRuntime) -> Result<(), Fail> {
+fn a_bound_name_is_refused_until_it_is_freed(rt: HostRuntime) -> Result<(), Fail> {
     let alloc = rt.alloc();
-    let database = PropertyDatabase::from_text(alloc, SYNTAX)?;
-    let variables = VariableMap::new(alloc);
-    for (source, expected) in [
-        ("[{}}]", "[\\u{7d}{}]"),
-        ("[{b}{ a }]", "[\\u{61}-\\u{62}]"),
-        ("[{ba}{ab}{ab}]", "[{\\u{61}\\u{62}}{\\u{62}\\u{61}}]"),
-        ("[{ a \\  b }]", "[{\\u{61}\\u{20}\\u{62}}]"),
-        ("[{a}-{c}]", "[\\u{61}-\\u{63}]"),
-        ("[{\\u{61 62}\\p}]", "[{\\u{61}\\u{62}\\u{70}}]"),
-        ("[a{ab}-]", "[\\u{2d}\\u{61}{\\u{61}\\u{62}}]"),
-        ("[^{ab}]", "[\\u{0}-\\u{10ffff}]"),
-        ("[{ab}[{cd}b]-[{ab}]]", "[\\u{62}{\\u{63}\\u{64}}]"),
-        ("[{ab}[{cd}b]&[{ab}a]]", "[{\\u{61}\\u{62}}]"),
-        (
-            "[[{ab}]{é\\x{10FFFF}}]",
-            "[{\\u{61}\\u{62}}{\\u{e9}\\u{10ffff}}]",
-        ),
-    ] {
-        let (set, length) = parse_unstable_with_variables(alloc, source, &variables, &database)?;
-        assert_eq!(rt; set.to_pattern(alloc)?.as_str(), expected, "at {source}");
-        assert_eq!(rt; length, source.len(), "at {source}");
+    let mut map = VariableMap::new(alloc);
+    assert!(rt;
+        map.insert_string(text(alloc, "a")?, text(alloc, "x")?)
+            .is_ok()
+    );
+    assert!(rt; is_char(map.get("a"), 'x'));
+    match map.insert_char(text(alloc, "a")?, 'b') {
+        Err(InsertError::Present(kept)) => assert!(rt; is_char(Some(kept), 'x')),
+        _ => assert!(rt; false),
     }
+    assert!(rt; is_char(map.get("a"), 'x'));
+    let freed = map.remove("a");
+    assert!(rt; is_char(freed.as_ref(), 'x'));
+    assert!(rt; map.remove("a").is_none());
+    assert!(rt;
+        map.insert(text(alloc, "a")?, VariableValue::Char('b'))
+            .is_ok()
+    );
+    assert!(rt; is_char(map.get("a"), 'b'));
     Ok(())
 }
 
 #[test]
-fn what_the_grammar_does_not_read_is_unimplemented(rt: HostRuntime) -> Result<(), Fail> {
+fn a_map_and_a_set_in_it_are_copied(rt: HostRuntime) -> Result<(), Fail> {
     let alloc = rt.alloc();
-    let database = PropertyDatabase::from_text(alloc, SYNTAX)?;
-    let variables = VariableMap::new(alloc);
-    for source in UNREAD {
-        let Err(error) = parse_unstable_with_variables(alloc, source, &variables, &database) else {
-            panic!(rt; "{source} is read");
-        };
-        assert_eq!(rt; error.kind(), ParseErrorKind::Unimplemented, "at {source}");
-        assert_eq!(rt; error.offset(), None, "at {source}");
+    let expected = letters(alloc)?;
+    let mut map = VariableMap::new(alloc);
+    assert!(rt;
+        map.insert(text(alloc, "a")?, VariableValue::Char('b'))
+            .is_ok()
+    );
+    assert!(rt; map.insert_str(text(alloc, "s")?, "xy").is_ok());
+    assert!(rt; map.insert_set(text(alloc, "t")?, letters(alloc)?).is_ok());
+    match map.insert_set(text(alloc, "t")?, letters(alloc)?) {
+        Err(InsertError::Present(kept)) => assert!(rt; is_set(Some(kept), &expected)),
+        _ => assert!(rt; false),
     }
+    let copied = map.copy(alloc)?;
+    assert!(rt; is_char(copied.get("a"), 'b'));
+    assert!(rt; is_string(copied.get("s"), "xy"));
+    assert!(rt; is_set(copied.get("t"), &expected));
+    let value = map.get("t").ok_or("not bound")?.copy(alloc)?;
+    assert!(rt; is_set(Some(&value), &expected));
     Ok(())
-}
-
-#[test]
-fn an_absent_syntax_table_is_internal(rt: HostRuntime) -> Result<(), Fail> {
-    let alloc = rt.alloc();
-    let variables = VariableMap::new(alloc);
-    for tables in [
-        "set XID_Start\nset XID_Continue\nend\n",
-        "set XID_Start\nset Pattern_White_Space\nend\n",
-        "set XID_Continue\nset Pattern_White_Space\nend\n",
-    ] {
-        let database = PropertyDatabase::from_text(alloc, tables)?;
-        let Err(error) = parse_unstable_with_variables(alloc, "[a]", &variables, &database) else {
-            panic!(rt; "[a] is read");
-        };
-        assert_eq!(rt; error.kind(), ParseErrorKind::Internal);
-        assert_eq!(rt; error.offset(), None);
-    }
-    Ok(())
-}
-
-#[test]
-fn faults_are_told_in_words(rt: HostRuntime) -> Result<(), Fail> {
-    let alloc = rt.alloc();
-    for (kind, shown, display) in [
-        (
-            ParseErrorKind::Internal,
-            "error: internal error",
-            "Something unexpected went wrong with our code. Please file a bug report on GitHub.",
-        ),
-        (
-            ParseErrorKind::Unimplemented,
-            "error: unimplemented",
-            "The provided syntax is not supported by us.",
-        ),
-        (
-            ParseErrorKind::NoMemory,
-            "error: out of memory",
-            "Out of memory",
-        ),
-    ] {
-        let error: ParseError = kind.into();
-        assert_eq!(rt; error.fmt_with_source(alloc, "[a")?.as_str(), shown);
-        assert_eq!(rt; format!(in alloc; "{error}")?.as_str(), display);
-    }
-    Ok(())
-}
-
-#[test]
-fn the_laws_hold() {
-    one_reading();
-    no_fault_of_a_reading();
-    one_fault();
 }

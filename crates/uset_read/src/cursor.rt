@@ -13,6 +13,7 @@ pub struct Cursor<'a> {
 }
 
 impl<'a> Cursor<'a> {
+    ghost use Rattle.uset_grammar.specs.Place.{size};
     ghost use Rattle.uset_read.specs.Cursors.{source_of, left_of, IsPlace, IsLastPlace};
 
     /// The cursor in front of the whole source.
@@ -48,6 +49,7 @@ impl<'a> Cursor<'a> {
     /// The number of bytes of the source before what is left.
     pub fn offset(&self) -> usize
         ensures bytes { result + length (left_of self.now) ≡ length (source_of self.now) }
+        ensures rest { result + size (chars (left_of self.now)) ≡ length (source_of self.now) }
         ensures place { IsPlace result self.now }
     {
         self.source.len() - self.rest.len()

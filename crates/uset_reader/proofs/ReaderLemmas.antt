@@ -23,16 +23,17 @@ use Rattle.uset_read.specs.Stops.{kind_seen}
 use Rattle.uset_read.specs.Cursors.{source_of, left_of}
 use Rattle.uset_reader.specs.declared.bracket.Opening.{Opening as CodeOpening}
 use Rattle.uset_reader.specs.declared.bracket.OpenBracket.{OpenBracket as CodeBracket}
-use Rattle.uset_reader.specs.declared.error.ParseError.{ParseError}
+use Rattle.uset_fault.specs.declared.error.ParseError.{ParseError}
 use Rattle.uset_reader.specs.declared.syntax.Syntax.{Syntax}
 use Rattle.cp_strset.specs.StringSet.{StringSet}
-use Rattle.uset_reader.specs.declared.variable.VariableValue.{VariableValue}
-use Rattle.uset_reader.specs.declared.variable.VariableValue.TheVariants.{UnicodeSet}
-use Rattle.uset_reader.specs.Values.{value_seen}
-use Rattle.uset_reader.specs.Variables.{bound}
+use Rattle.uset_variables.specs.declared.value.VariableValue.{VariableValue}
+use Rattle.uset_variables.specs.declared.value.VariableValue.TheVariants.{UnicodeSet}
+use Rattle.uset_variables.specs.Values.{value_seen}
+use Rattle.uset_variables.specs.Variables.{bound}
 use Rattle.uset_reader.specs.declared.turn.Progress.TheVariants.{GoesOn, Done}
 use Rattle.uset_reader.specs.Brackets.{opening_seen, Stands, begun, IsBegun}
-use Rattle.uset_reader.specs.Faults.{kind_of, offset_in, kind_told, IsAt, IsBefore, IsStop}
+use Rattle.uset_fault.specs.Errors.{kind_of, offset_in, kind_told}
+use Rattle.uset_reader.specs.Faults.{IsAt, IsBefore, IsStop}
 use Rattle.uset_reader.specs.Syntaxes.{language_seen}
 use Rattle.uset_reader.specs.Turns.{Around, Before, Turns}
 use Rattle.uset_reader.specs.Units.{OperandIs, OperandStops}

@@ -22,7 +22,7 @@ use Rattle.uset_read.specs.declared.stop.Stop.{Stop}
 use Rattle.uset_read.specs.declared.stop.Stop.TheVariants.{Fault, Ended, NoMemory as StopNoMemory}
 use Rattle.uset_read.specs.Stops.{kind_seen}
 use Rattle.uset_reader.specs.declared.bracket.OpenBracket.{OpenBracket as CodeBracket}
-use Rattle.uset_reader.specs.declared.error.ParseError.{ParseError}
+use Rattle.uset_fault.specs.declared.error.ParseError.{ParseError}
 use Rattle.uset_reader.specs.declared.turn.Progress.{Progress}
 use Rattle.uset_reader.specs.declared.turn.Progress.TheVariants.{GoesOn, Done}
 use Rattle.uset_reader.specs.declared.turn.Sort.{Sort as CodeSort}
@@ -38,13 +38,14 @@ use Rattle.uset_reader.specs.declared.bracket.Opening.{Opening as CodeOpening}
 use Rattle.uset_gather.specs.declared.gathered.Gathered.{Gathered}
 use Rattle.uset_gather.specs.declared.operand.Operand.TheVariants.{Gathered as Made}
 use Rattle.uset_reader.specs.declared.item.Item.TheVariants.{Set}
-use Rattle.uset_reader.specs.Faults.{kind_of, offset_in, kind_told, ToldAs, Tells, IsAt, IsBefore, IsStop}
+use Rattle.uset_fault.specs.Errors.{kind_of, offset_in, kind_told, ToldAs, Tells}
+use Rattle.uset_reader.specs.Faults.{IsAt, IsBefore, IsStop}
 use Rattle.uset_reader.specs.Units.{UnitIs, UnitStops}
 use Rattle.uset_reader.specs.Turns.{Before, Around, AllStand, TurnedTo, ForAll, Turns, Rejects, IsUnfit, TakesAs, TakesVariable, TakesUnit, Opens, ClosesAs}
 use Rattle.uset_reader.specs.declared.syntax.Syntax.{Syntax}
-use Rattle.uset_reader.specs.declared.variable.VariableValue.{VariableValue}
-use Rattle.uset_reader.specs.Values.{value_seen}
-use Rattle.uset_reader.specs.Variables.{bound}
+use Rattle.uset_variables.specs.declared.value.VariableValue.{VariableValue}
+use Rattle.uset_variables.specs.Values.{value_seen}
+use Rattle.uset_variables.specs.Variables.{bound}
 use Rattle.uset_reader.specs.Syntaxes.{language_seen}
 
 -- WHAT AN ERROR TELLS

@@ -1,7 +1,5 @@
 pub mod Items
 pub mod Brackets
-pub mod Values
-pub mod Variables
 pub mod Resolution
 pub mod Syntaxes
 pub mod Fronts
@@ -9,3 +7,4 @@ pub mod Units
 pub mod Faults
 pub mod Turns
 pub mod Readings
+pub mod Laws

@@ -11,8 +11,8 @@ use Rattle.uset_gather.specs.declared.gathered.Gathered.{Gathered}
 use Rattle.uset_gather.specs.Gathered.{gathered_in}
 use Rattle.uset_read.specs.declared.cursor.Cursor.{Cursor}
 use Rattle.uset_read.specs.Cursors.{source_of, left_of}
-use Rattle.uset_reader.specs.declared.error.ParseError.{ParseError}
-use Rattle.uset_reader.specs.Faults.{Tells}
+use Rattle.uset_fault.specs.declared.error.ParseError.{ParseError}
+use Rattle.uset_fault.specs.Errors.{Tells}
 
 -- the source is read up to the cursor, with this set
 pub record IsReading (l : Language) (source : List ℕ) (set : Gathered) (end : Cursor) : Type 0 where

@@ -13,7 +13,7 @@ use Rattle.uset_grammar.specs.Place.{offset_of}
 use Rattle.uset_grammar.specs.Turn.{Verdict, accepted, rejected, Turn, goes, stops, UnitReader, at, two, refusal, judged, named_turn, unit_turn, closed, turn}
 use Rattle.uset_gather.specs.Gathered.{gathered_in}
 use Rattle.uset_reader.specs.declared.bracket.OpenBracket.{OpenBracket as CodeBracket}
-use Rattle.uset_reader.specs.declared.error.ParseError.{ParseError}
+use Rattle.uset_fault.specs.declared.error.ParseError.{ParseError}
 use Rattle.uset_reader.specs.declared.turn.Progress.{Progress}
 use Rattle.uset_reader.specs.declared.turn.Progress.TheVariants.{GoesOn, Done}
 use Rattle.uset_reader.specs.declared.turn.Sort.{Sort as CodeSort}
@@ -23,7 +23,7 @@ use Rattle.uset_read.specs.Cursors.{source_of}
 use Rattle.uset_reader.specs.declared.bracket.Opening.{Opening as CodeOpening}
 use Rattle.uset_reader.specs.declared.item.Item.{Item as CodeItem}
 use Rattle.uset_reader.specs.Brackets.{Stands, IsItem, begun}
-use Rattle.uset_reader.specs.Faults.{Tells}
+use Rattle.uset_fault.specs.Errors.{Tells}
 
 -- the brackets of the code stand for those of the grammar, one for one
 abbrev pub AllStand : List CodeBracket → List OpenBracket → Type 0

@@ -2,9 +2,10 @@
 ghost use Rattle.std.specs.Prelude.{◌≡◌, ◌≤◌, ◌<◌, length};
 ghost use Rattle.uset_read.specs.Cursors.{left_of};
 ghost use Rattle.uset_read.specs.Stops.{left_at};
-ghost use Rattle.uset_reader.specs.Faults.{kind_of, offset_in, IsAt, IsBefore, IsStop};
+ghost use Rattle.uset_fault.specs.Errors.{kind_of, offset_in};
+ghost use Rattle.uset_reader.specs.Faults.{IsAt, IsBefore, IsStop};
 
-use crate::error::{ParseError, ParseErrorKind};
+use uset_fault::{ParseError, ParseErrorKind};
 use uset_read::{Cursor, Kind, Stop};
 
 /// A fault at the front of the rest.

@@ -9,7 +9,6 @@ ghost use Rattle.uset_reader.specs.Syntaxes.{language_seen};
 ghost use Rattle.uset_reader.specs.Readings.{IsReading, IsRefusal};
 
 use crate::bracket::{OpenBracket, Opening};
-use crate::error::{ParseError, ParseErrorKind};
 use crate::fault::{fault_at, fault_before, stopped};
 use crate::front::{First, look_at_first};
 use crate::property::read_operand;
@@ -17,6 +16,7 @@ use crate::syntax::Syntax;
 use crate::turn::{Progress, turn};
 use cp_invlist::NoMemory;
 use std::alloc::Global;
+use uset_fault::{ParseError, ParseErrorKind};
 use uset_gather::{Gathered, Operand};
 use uset_grammar::laws;
 use uset_read::Cursor;

@@ -3,9 +3,9 @@ ghost use Rattle.std.specs.Prelude.{◌≡◌, false};
 ghost use Rattle.cp_invlist.specs.InversionList.{contains};
 ghost use Rattle.uset_grammar.specs.Escape.{Apart};
 
-use crate::variables::VariableMap;
 use cp_invlist::CodePointInversionList;
-use prop_data::PropertyDatabase;
+use prop_data::{PropertyDatabase, SetTable};
+use uset_variables::VariableMap;
 
 /// What patterns are read by: the three tables of the syntax (UAX 31), white space of patterns and the characters that
 /// begin and continue a name; the variables; and the database, which has the sets of properties.
@@ -21,31 +21,24 @@ pub struct Syntax<'a> {
 }
 
 impl<'a> Syntax<'a> {
-    ghost use Rattle.std.specs.Prelude.{◌≡◌, false};
-    ghost use Rattle.cp_invlist.specs.InversionList.{contains};
+    ghost use Rattle.std.specs.Prelude.{◌≡◌, option_map};
     ghost use Rattle.prop_data.specs.Database.{tables_of};
-    ghost use Rattle.uset_grammar.specs.Escape.{Apart};
-    ghost use Rattle.uset_reader.specs.Variables.{variables_of};
-    ghost use Rattle.uset_reader.specs.Syntaxes.{language_by, language_seen};
+    ghost use Rattle.uset_variables.specs.Variables.{variables_of};
+    ghost use Rattle.uset_reader.specs.Syntaxes.{language_of, language_seen};
 
-    /// The syntax of these sets, with these variables, over the sets of this database.
-    pub fn new(
-        white_space: &'a CodePointInversionList,
-        start: &'a CodePointInversionList,
-        continuing: &'a CodePointInversionList,
-        variables: &'a VariableMap,
-        database: &'a PropertyDatabase,
-    ) -> Syntax<'a>
-        requires apart { Apart (contains white_space.now) }
-        requires letter { contains white_space.now 0x61 ≡ false }
-        ensures { language_seen result ≡ language_by (contains white_space.now) (contains start.now) (contains continuing.now) (variables_of variables.now) (tables_of database.now) }
+    /// The syntax of the database's own tables, with these variables. `None` where one of the three is absent.
+    pub fn of(variables: &'a VariableMap, database: &'a PropertyDatabase) -> Option<Syntax<'a>>
+        ensures { option_map language_seen result ≡ language_of (variables_of variables.now) (tables_of database.now) }
     {
-        Syntax {
+        let white_space = database.set(SetTable::PATTERN_WHITE_SPACE)?;
+        let start = database.set(SetTable::XID_START)?;
+        let continuing = database.set(SetTable::XID_CONTINUE)?;
+        Some(Syntax {
             white_space,
             start,
             continuing,
             variables,
             database,
-        }
+        })
     }
 }

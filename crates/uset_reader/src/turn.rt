@@ -9,24 +9,24 @@ ghost use Rattle.uset_grammar.specs.Language.{item_of};
 ghost use Rattle.uset_grammar.specs.Grammar.{of_unit};
 ghost use Rattle.uset_grammar.specs.Reached.{is_last_property};
 ghost use Rattle.uset_reader.specs.Brackets.{IsItem};
-ghost use Rattle.uset_reader.specs.Values.{is_kept, value_seen};
+ghost use Rattle.uset_variables.specs.Values.{is_kept, value_seen};
 ghost use Rattle.uset_reader.specs.Turns.{Turns, IsShorter, IsUnfit, TakesAs, TakesVariable, TakesUnit, Opens, ClosesAs};
 
 use crate::bracket::{OpenBracket, Opening, Taken};
 use crate::code_point::CodePoint;
-use crate::error::{ParseError, ParseErrorKind};
 use crate::fault::{fault_at, fault_before, stopped};
 use crate::front::{Front, is_short, look_ahead};
 use crate::item::Item;
 use crate::syntax::Syntax;
 use crate::unit::read_unit;
-use crate::variable::VariableValue;
 use cp_invlist::NoMemory;
 use std::alloc::Global;
 use std::mem::replace;
+use uset_fault::{ParseError, ParseErrorKind};
 use uset_gather::{Gathered, Operand};
 use uset_grammar::laws;
 use uset_read::{Cursor, skip_white_space, split_first};
+use uset_variables::VariableValue;
 
 /// What a turn made of the open brackets.
 #[derive(Drop)]

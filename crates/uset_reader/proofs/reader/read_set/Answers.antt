@@ -1,5 +1,5 @@
 use Rattle.std.proofs.Common.{sym, ap}
-use Rattle.uset_reader.specs.Faults.{kind_told}
+use Rattle.uset_fault.specs.Errors.{kind_told}
 use Rattle.uset_reader.proofs.ReaderLemmas.{refused_short, refused_stray, refused_bare}
 use Rattle.uset_reader.proofs.reader.read_set.Goals as goal
 

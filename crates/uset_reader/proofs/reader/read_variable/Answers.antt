@@ -1,6 +1,6 @@
 use Rattle.std.proofs.Common.{sym, ap, ◌∙◌, Some}
 use Rattle.std.proofs.lemmas.Str.{encodes-chars}
-use Rattle.uset_reader.specs.Faults.{kind_told}
+use Rattle.uset_fault.specs.Errors.{kind_told}
 use Rattle.uset_reader.proofs.ReaderLemmas.{refused_unbound, refused_other, read_variable}
 use Rattle.uset_reader.proofs.reader.read_variable.Goals as goal
 

@@ -1,6 +1,6 @@
 use Rattle.std.proofs.Common.{Some, ap, ◌∙◌}
 use Rattle.uset_read.specs.Cursors.{source_of}
-use Rattle.uset_reader.specs.Faults.{kind_told}
+use Rattle.uset_fault.specs.Errors.{kind_told}
 use Rattle.uset_reader.proofs.TurnLemmas.{closes_unfit, closes_outermost, closes_last, closes_inside, closes_misplaced, misfits, none_popped}
 use Rattle.uset_reader.proofs.turn.close.Goals as goal
 

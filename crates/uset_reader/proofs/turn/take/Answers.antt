@@ -1,7 +1,7 @@
 use Rattle.std.proofs.Common.{Some, ap, ◌∙◌}
 use Rattle.uset_grammar.specs.Outcome.{unexpected}
 use Rattle.uset_read.specs.Cursors.{source_of}
-use Rattle.uset_reader.specs.Faults.{kind_told}
+use Rattle.uset_fault.specs.Errors.{kind_told}
 use Rattle.uset_reader.proofs.TurnLemmas.{takes_fit, takes_reversed, takes_unfit}
 use Rattle.uset_reader.proofs.turn.take.Goals as goal
 

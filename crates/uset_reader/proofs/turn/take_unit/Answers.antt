@@ -1,5 +1,5 @@
 use Rattle.std.proofs.Common.{sym, ap, ◌∙◌}
-use Rattle.uset_reader.specs.Faults.{kind_told}
+use Rattle.uset_fault.specs.Errors.{kind_told}
 use Rattle.uset_reader.specs.Syntaxes.{language_seen}
 use Rattle.uset_reader.proofs.TurnLemmas.{takes_stopped, takes_last, takes_unit}
 use Rattle.uset_reader.proofs.turn.take_unit.Goals as goal

@@ -1,7 +1,7 @@
 use Rattle.std.proofs.Common.{sym, ap}
 use Rattle.std.proofs.lemmas.Str.{encodes-chars}
 use Rattle.uset_read.specs.Cursors.{source_of}
-use Rattle.uset_reader.specs.Faults.{kind_told}
+use Rattle.uset_fault.specs.Errors.{kind_told}
 use Rattle.uset_reader.proofs.TurnLemmas.{takes_unbound, takes_bound}
 use Rattle.uset_reader.proofs.turn.take_variable.Goals as goal
 

@@ -1,5 +1,5 @@
 use Rattle.std.proofs.Common.{ap}
-use Rattle.uset_reader.specs.Faults.{kind_told}
+use Rattle.uset_fault.specs.Errors.{kind_told}
 use Rattle.uset_reader.proofs.TurnLemmas.{unfit_variable}
 use Rattle.uset_reader.proofs.turn.unfit.Goals as goal
 

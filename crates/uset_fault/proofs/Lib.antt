@@ -1,0 +1,2 @@
+pub mod ShownBytes
+pub mod WordsBytes

@@ -1,0 +1,55 @@
+-- What the calls answer.
+use Rattle.std.proofs.Common.{◌≡◌, ℕ, ◌+◌, List, length, Option, Some, None, refl, sym, ap, ◌∙◌, subst}
+use Rattle.std.specs.Str.{chars}
+use Rattle.cp_strset.specs.StringSet.{StringSet}
+use Rattle.uset_grammar.specs.Outcome.{Kind, internal}
+use Rattle.uset_grammar.specs.Tree.{Member}
+use Rattle.uset_grammar.specs.Language.{Language}
+use Rattle.uset_grammar.specs.Place.{size}
+use Rattle.uset_grammar.specs.Answers.{ReadsUnder, under, FaultUnder, absent, under_fault, IsFault}
+use Rattle.uset_gather.specs.declared.gathered.Gathered.{Gathered}
+use Rattle.uset_gather.specs.Gathered.{gathered_in, in_set}
+use Rattle.uset_read.specs.declared.cursor.Cursor.{Cursor}
+use Rattle.uset_read.specs.Cursors.{source_of, left_of}
+use Rattle.uset_fault.specs.declared.error.ParseError.{ParseError}
+use Rattle.uset_fault.specs.declared.error.ParseErrorKind.TheVariants.{Internal, NoMemory}
+use Rattle.uset_fault.specs.Errors.{kind_of, offset_in, kind_told, ToldAs, Tells}
+use Rattle.uset_reader.specs.Readings.{IsReading, IsRefusal}
+use Rattle.uset_parse.specs.Reading.{IsRead, IsRefused}
+
+-- what was gathered up to a cursor is what is read under the syntax that is there
+pub reading : (l : Language) (syntax : Option Language) (source : List ℕ) (gathered : Gathered) (end : Cursor) (set : StringSet) (n : ℕ) → syntax ≡ Some l → IsReading l source gathered end →
+    ((m : Member) → in_set set m ≡ gathered_in gathered m) → n + size (chars (left_of end)) ≡ length (source_of end) → IsRead syntax source set n
+reading l syntax source gathered end set n there h made place = record {
+  tree = h.tree;
+  rest = chars (left_of end);
+  reads = subst (λ s. ReadsUnder (chars source) h.tree (chars (left_of end)) s) (sym there) (under h.read);
+  members = λ m. made m ∙ h.members m;
+  place = place ∙ ap length h.same;
+}
+
+told_more : (told : Option Kind) (offset : Option ℕ) (P Q : Kind → Option ℕ → Type 0) → ((k : Kind) (o : Option ℕ) → P k o → Q k o) → ToldAs told offset P → ToldAs told offset Q
+told_more None offset P Q more h = tt
+told_more (Some k) offset P Q more h = more k offset h
+
+-- a refusal of the reader, under the syntax that is there
+pub refusal : (l : Language) (syntax : Option Language) (source : List ℕ) (error : ParseError) → syntax ≡ Some l → IsRefusal l source error → IsRefused syntax source error
+refusal l syntax source error there h = told_more (kind_told (kind_of error)) (offset_in error) _ (λ k o. IsFault syntax (chars source) k o) (λ k o fault. record {
+  place = fault.0;
+  fault = subst (λ s. FaultUnder (chars source) s k fault.0) (sym there) (under_fault fault.1);
+  is = fault.2;
+}) h
+
+-- an internal error where the syntax is absent
+pub absent_syntax : (syntax : Option Language) (source : List ℕ) (error : ParseError) → syntax ≡ None → kind_of error ≡ Internal → offset_in error ≡ None → IsRefused syntax source error
+absent_syntax syntax source error none kind offset =
+    let told : kind_told (kind_of error) ≡ Some internal = ap kind_told kind in
+    let P : Option Kind → Type 0 = λ t. ToldAs t (offset_in error) (λ k o. IsFault syntax (chars source) k o) in
+    subst P (sym told) (record { place = None; fault = subst (λ s. FaultUnder (chars source) s internal None) (sym none) absent; is = offset })
+
+-- want of memory is no fault
+pub want_of_memory : (syntax : Option Language) (source : List ℕ) (error : ParseError) → kind_of error ≡ NoMemory → IsRefused syntax source error
+want_of_memory syntax source error kind =
+    let told : kind_told (kind_of error) ≡ None = ap kind_told kind in
+    let P : Option Kind → Type 0 = λ t. ToldAs t (offset_in error) (λ k o. IsFault syntax (chars source) k o) in
+    subst P (sym told) tt

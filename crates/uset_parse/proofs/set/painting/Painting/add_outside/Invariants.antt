@@ -1,9 +1,0 @@
-use Rattle.std.proofs.Common.{◌≡◌, ℕ, ◌||◌, ◌++◌}
-use Rattle.cp_invlist.specs.Ranges.{AreMaximalRanges, is_outside}
-use Rattle.uset_parse.specs.Painting.{in_some, in_painting}
-use Rattle.uset_parse.proofs.set.painting.Painting.add_outside.Given as goal
-
-abbrev pub invariant-loop-range : goal.invariant-loop-range
-invariant-loop-range l =
-    AreMaximalRanges (is_outside l.set) (l.yielded ++ l.range-iterator)
-    × ((c : ℕ) → in_painting l.self c ≡ (in_painting l.fn.self c || in_some l.yielded c))

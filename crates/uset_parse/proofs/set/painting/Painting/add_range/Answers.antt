@@ -1,6 +1,0 @@
-use Rattle.std.proofs.Common.{refl}
-use Rattle.uset_parse.proofs.PaintingLemmas.{range_painted}
-use Rattle.uset_parse.proofs.set.painting.Painting.add_range.Goals as goal
-
-pub returns : goal.returns
-returns c = range_painted c.args.self.now _ c.args.range refl c.in_ok-push.ensures.items

@@ -1,8 +1,0 @@
-use Rattle.std.proofs.Common.{refl, sym, ◌∙◌}
-use Rattle.uset_parse.specs.Painting.{in_painting}
-use Rattle.uset_parse.proofs.PaintingLemmas.{painting_same}
-use Rattle.uset_parse.proofs.RangesLemmas.{or_none}
-use Rattle.uset_parse.proofs.set.painting.Painting.add_ranges.Goals as goal
-
-pub loop-painted-init : goal.loop-painted-init
-loop-painted-init c = λ d. painting_same c.args.self.now _ refl c.in_ok-reserve.ensures.items d ∙ sym (or_none (in_painting c.args.self.now d))

@@ -1,7 +1,0 @@
-use Rattle.std.proofs.Common.{length, sym, ap, ◌∙◌}
-use Rattle.uset_parse.proofs.PaintingLemmas.{plain}
-use Rattle.uset_parse.proofs.set.painting.Painting.is_plain.Goals as goal
-
-pub returns-then-not-self : goal.returns-then-not-self
-returns-then-not-self c =
-    plain c.args.self.now c.members_in_front.result c.len.result (c.len.ensures ∙ (sym c.deref.ensures.len ∙ ap length c.deref.ensures.value)) c.if-not-self.true (rw c.deref.ensures.value at c.members_in_front.ensures.members)

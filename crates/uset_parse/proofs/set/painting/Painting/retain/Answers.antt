@@ -1,6 +1,0 @@
-use Rattle.uset_parse.proofs.GatheredLemmas.{on_ok}
-use Rattle.uset_parse.proofs.PaintingLemmas.{painting_kept}
-use Rattle.uset_parse.proofs.set.painting.Painting.retain.Goals as goal
-
-pub returns : goal.returns
-returns c = on_ok c.remove.result (λ h d. painting_kept c.args.self.now c.args.other _ _ d (c.complement.ensures d) (h d)) c.remove.ensures

@@ -1,0 +1,70 @@
+//! The calls that read a pattern.
+ghost use Rattle.std.specs.Prelude.{IfOk, IfErr};
+ghost use Rattle.prop_data.specs.Database.{tables_of};
+ghost use Rattle.uset_variables.specs.Variables.{variables_of, no_variables};
+ghost use Rattle.uset_reader.specs.Syntaxes.{language_of};
+ghost use Rattle.uset_parse.specs.Reading.{IsRead, IsRefused};
+
+use cp_strset::CodePointInversionListAndStringList;
+use prop_data::PropertyDatabase;
+use std::alloc::Global;
+use uset_fault::{ParseError, ParseErrorKind};
+use uset_reader::{Syntax, read_set};
+use uset_variables::VariableMap;
+
+/// Reads the pattern at the front of the source (UTS 35, Unicode Sets), with these variables. The answer is the set, and
+/// the number of bytes that were read; what follows them is free. Where one of the three tables of the syntax is absent
+/// from the database the fault is `Internal`, without a place; `NoMemory` says that a request for memory was refused.
+pub fn parse_unstable_with_variables(
+    alloc: Global,
+    source: &str,
+    variable_map: &VariableMap,
+    database: &PropertyDatabase,
+) -> Result<(CodePointInversionListAndStringList, usize), ParseError>
+    ensures read { IfOk result (λ p. IsRead (language_of (variables_of variable_map.now) (tables_of database.now)) source.now p.0 p.1) }
+    ensures refused { IfErr result (IsRefused (language_of (variables_of variable_map.now) (tables_of database.now)) source.now) }
+{
+    let Some(syntax) = Syntax::of(variable_map, database) else {
+        return Err(ParseErrorKind::Internal.into());
+    };
+    let (gathered, place) = read_set(alloc, &syntax, source)?;
+    let set = gathered.into_set(alloc)?;
+    Ok((set, place.offset()))
+}
+
+/// The answer of `parse_unstable_with_variables`.
+pub fn parse_with_variables(
+    alloc: Global,
+    source: &str,
+    variable_map: &VariableMap,
+    database: &PropertyDatabase,
+) -> Result<(CodePointInversionListAndStringList, usize), ParseError>
+    ensures read { IfOk result (λ p. IsRead (language_of (variables_of variable_map.now) (tables_of database.now)) source.now p.0 p.1) }
+    ensures refused { IfErr result (IsRefused (language_of (variables_of variable_map.now) (tables_of database.now)) source.now) }
+{
+    parse_unstable_with_variables(alloc, source, variable_map, database)
+}
+
+/// Reads the pattern at the front of the source, as `parse_unstable_with_variables` does where no variable is bound.
+pub fn parse_unstable(
+    alloc: Global,
+    source: &str,
+    database: &PropertyDatabase,
+) -> Result<(CodePointInversionListAndStringList, usize), ParseError>
+    ensures read { IfOk result (λ p. IsRead (language_of no_variables (tables_of database.now)) source.now p.0 p.1) }
+    ensures refused { IfErr result (IsRefused (language_of no_variables (tables_of database.now)) source.now) }
+{
+    parse_unstable_with_variables(alloc, source, &VariableMap::new(alloc), database)
+}
+
+/// The answer of `parse_unstable`.
+pub fn parse(
+    alloc: Global,
+    source: &str,
+    database: &PropertyDatabase,
+) -> Result<(CodePointInversionListAndStringList, usize), ParseError>
+    ensures read { IfOk result (λ p. IsRead (language_of no_variables (tables_of database.now)) source.now p.0 p.1) }
+    ensures refused { IfErr result (IsRefused (language_of no_variables (tables_of database.now)) source.now) }
+{
+    parse_unstable(alloc, source, database)
+}
