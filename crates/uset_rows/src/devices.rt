@@ -1,5 +1,5 @@
 //! Sources and sinks, and the numbers of the statuses.
-use crate::fixtures::{SYNTAX, eval};
+use crate::fixtures::{TABLES, eval};
 use std::alloc::Global;
 use std::io::{self, Cursor, Error, ErrorKind, Read, Write};
 use std::test::Fail;
@@ -62,7 +62,7 @@ impl Write for PoorWriter<'_> {
 /// Runs the program on a pattern, with such a writer. The answer is the status and what was written.
 fn run_onto(alloc: Global, takes: Takes) -> Result<(Status, Vec<u8>), Fail> {
     let words = eval(alloc)?;
-    let input = format!(in alloc; "{SYNTAX}pat [a-z0]\n")?;
+    let input = format!(in alloc; "{TABLES}pat [a-z0]\n")?;
     let mut source = SureSource::new(input.into_bytes());
     let mut bytes = Vec::new(alloc);
     let mut sink = StdSink::new(PoorWriter {

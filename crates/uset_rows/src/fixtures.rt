@@ -4,9 +4,15 @@ use std::alloc::{AllocError, Global};
 use std::process::Abort;
 use std::test::Fail;
 
-/// The three syntax tables for ASCII.
-pub(crate) const SYNTAX: &str =
-    "set XID_Start\n41-5A\n61-7A\nset XID_Continue\n30-39\n41-5A\n5F\n61-7A\nset Pattern_White_Space\n9-D\n20\n85\n200E-200F\n2028-2029\nend\n";
+/// The three syntax tables for ASCII, and the hexadecimal digits of ASCII.
+pub(crate) const TABLES: &str =
+    "set XID_Start\n41-5A\n61-7A\nset XID_Continue\n30-39\n41-5A\n5F\n61-7A\nset Pattern_White_Space\n9-D\n20\n85\n200E-200F\n2028-2029\nset ASCII_Hex_Digit\n30-39\n41-46\n61-66\nend\n";
+
+/// Lines that bind a character, a string and a set.
+const BINDINGS: &str = "let a char 61\nlet v str 61 62\nlet s set [a-z{bc}]\n";
+
+/// What these lines are answered with.
+const BOUND: &str = "bound a\nbound v\nbound s\n";
 
 /// The one word `eval`.
 pub(crate) fn eval(alloc: Global) -> Result<Vec<String>, AllocError> {
@@ -15,19 +21,85 @@ pub(crate) fn eval(alloc: Global) -> Result<Vec<String>, AllocError> {
     Ok(words)
 }
 
-/// Each line, behind the syntax tables, has the answer beside it, and the run ends with the status of this number.
+/// The lines, behind the tables, have the answers, and the run ends with the status of this number.
+pub(crate) fn assert_answer(
+    rt: &impl Abort,
+    alloc: Global,
+    lines: &str,
+    expected: &str,
+    code: u8,
+) -> Result<(), Fail> {
+    let words = eval(alloc)?;
+    let input = format!(in alloc; "{TABLES}{lines}\n")?;
+    let (status, sink) = run_in_memory(alloc, &words, input.into_bytes());
+    assert!(rt; sink.written() == expected.as_bytes(), "at {lines}");
+    assert_eq!(rt; status.code(), code, "at {lines}");
+    Ok(())
+}
+
+/// Each of the lines has the answer beside it, and each run ends with the status of this number.
 pub(crate) fn assert_answers(
     rt: &impl Abort,
     alloc: Global,
     rows: &[(&str, &str)],
     code: u8,
 ) -> Result<(), Fail> {
-    let words = eval(alloc)?;
-    for (line, expected) in rows {
-        let input = format!(in alloc; "{SYNTAX}{line}\n")?;
-        let (status, sink) = run_in_memory(alloc, &words, input.into_bytes());
-        assert_eq!(rt; sink.written(), expected.as_bytes(), "at {line}");
-        assert_eq!(rt; status.code(), code, "at {line}");
+    for (lines, expected) in rows {
+        assert_answer(rt, alloc, lines, expected, code)?;
+    }
+    Ok(())
+}
+
+/// Each pattern, behind the bindings, is read with the length and the members beside it.
+pub(crate) fn assert_read(
+    rt: &impl Abort,
+    alloc: Global,
+    rows: &[(&str, &str)],
+) -> Result<(), Fail> {
+    for (pattern, expected) in rows {
+        let lines = format!(in alloc; "{BINDINGS}pat {pattern}")?;
+        let answer = format!(in alloc; "{BOUND}ok {expected}\n")?;
+        assert_answer(rt, alloc, &lines, &answer, 0)?;
+    }
+    Ok(())
+}
+
+/// The pattern, behind the bindings, is refused with these words behind this front.
+pub(crate) fn assert_fault(
+    rt: &impl Abort,
+    alloc: Global,
+    pattern: &str,
+    front: &str,
+    words: &str,
+) -> Result<(), Fail> {
+    let lines = format!(in alloc; "{BINDINGS}pat {pattern}")?;
+    let answer = format!(in alloc; "{BOUND}err {front}← error: {words}\n")?;
+    assert_answer(rt, alloc, &lines, &answer, 1)
+}
+
+/// Each pattern, behind the bindings, is refused with these words behind the front beside it.
+pub(crate) fn assert_faults(
+    rt: &impl Abort,
+    alloc: Global,
+    rows: &[(&str, &str)],
+    words: &str,
+) -> Result<(), Fail> {
+    for (pattern, front) in rows {
+        assert_fault(rt, alloc, pattern, front, words)?;
+    }
+    Ok(())
+}
+
+/// Each pattern, behind the bindings, is refused at the last character of the front beside it, which is unexpected.
+pub(crate) fn assert_unexpected(
+    rt: &impl Abort,
+    alloc: Global,
+    rows: &[(&str, &str)],
+) -> Result<(), Fail> {
+    for (pattern, front) in rows {
+        let last = front.chars().next_back().ok_or("no front")?;
+        let words = format!(in alloc; "unexpected character '{last}'")?;
+        assert_fault(rt, alloc, pattern, front, &words)?;
     }
     Ok(())
 }

@@ -9,15 +9,23 @@ use std::alloc::Global;
 use uset_tool::{Status, SureSink, SureSource, run};
 
 #[cfg(test)]
+mod counts;
+#[cfg(test)]
 mod devices;
 #[cfg(test)]
 mod errors;
+#[cfg(test)]
+mod faults;
 #[cfg(test)]
 mod fixtures;
 #[cfg(test)]
 mod patterns;
 #[cfg(test)]
+mod properties;
+#[cfg(test)]
 mod refusals;
+#[cfg(test)]
+mod variables;
 
 /// Runs the program over the input. In memory neither source nor sink fails.
 pub fn run_in_memory(alloc: Global, words: &Vec<String>, input: Vec<u8>) -> (Status, SureSink)

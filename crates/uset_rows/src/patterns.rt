@@ -1,66 +1,95 @@
 //! Patterns that are read, with their ranges and strings.
-use crate::fixtures::{SYNTAX, assert_answers, eval};
+use crate::fixtures::{TABLES, assert_answers, assert_read, eval};
 use crate::run_in_memory;
 use std::test::Fail;
 
+/// Characters, ranges, escapes, hyphens and dollar signs.
+const CODE_POINTS: [(&str, &str); 25] = [
+    ("[a-z0]", "6 0030 0061-007A"),
+    ("[a-b-] x", "6 002D 0061-0062"),
+    ("[ - a]", "6 002D 0061"),
+    ("[\\x{61 0062   063}]", "19 0061-0063"),
+    (
+        "[\\x{ 61 }\\u{000062}\\x63\\u0064\\U00000065]",
+        "40 0061-0065",
+    ),
+    ("[\\x{61 63}-]", "12 002D 0061 0063"),
+    ("[\\x{D800 D801 D802}]", "20 D800-D802"),
+    ("[\\uD800-\\uD8FF]", "15 D800-D8FF"),
+    ("[^\\uD800-\\uE0FF]", "16 0000-D7FF E100-10FFFF"),
+    ("[\\a\\b\\t\\n\\v\\f\\r]", "16 0007-000D"),
+    ("[\\ \\]\\-\\^]", "10 0020 002D 005D-005E"),
+    ("[ :L:]", "6 003A 004C"),
+    ("[a\u{85}\u{200E}-\u{2029}b]", "13 0061-0062"),
+    ("[ä\u{10FFFF}]", "8 00E4 10FFFF"),
+    ("[$]", "3 FFFF"),
+    ("[--]", "4 002D"),
+    ("[-]", "3 002D"),
+    ("[]", "2"),
+    ("[]x", "2"),
+    ("[^]", "3 0000-10FFFF"),
+    ("[  - -  ]", "9 002D"),
+    ("[a$ ]", "5 0061 FFFF"),
+    ("[\\$a]", "5 0024 0061"),
+    ("[a-a]", "5 0061"),
+    ("[\\x00-\\U0010FFFF]", "17 0000-10FFFF"),
+];
+
+/// Sets inside a set.
+const SETS: [(&str, &str); 14] = [
+    ("[[a-a][b-z] - [a-d][e-z]]", "25 0065-007A"),
+    ("[[a-a][b-z] - [a-z][]]", "22"),
+    ("[-[a-z]&[b]]", "12 0062"),
+    ("[^[^a-z]]", "9 0061-007A"),
+    ("[[a-b]-]", "8 002D 0061-0062"),
+    ("[^[^ $ ]]", "9 FFFF"),
+    ("[[a-z]-[a-b]-[y-z]]", "19 0063-0078"),
+    ("[[a-a][b-z] & [a-b][x-z]]", "25 0061-0062 0078-007A"),
+    ("[[a-z]&[a-m]-[c]]", "17 0061-0062 0064-006D"),
+    ("[a-ce[x]-[a-b x]f]", "18 0063 0065-0066"),
+    ("[[a]$]", "6 0061 FFFF"),
+    ("[[a]b-d]", "8 0061-0064"),
+    ("[[a-z]&[^c]]", "12 0061-0062 0064-007A"),
+    ("[$s&[b-c]-[c]]", "14 0062"),
+];
+
+/// Strings.
+const STRINGS: [(&str, &str); 17] = [
+    ("[a-z\\]{[}] []", "10 005B 005D 0061-007A"),
+    (
+        "[[a-z{abc}]&[b-z{abc}{abx}]]",
+        "28 0062-007A {0061_0062_0063}",
+    ),
+    ("[{}}]", "5 007D {}"),
+    ("[^{h\\u{65}llo\\ world}]", "22 0000-10FFFF"),
+    ("[{ab}-]", "7 002D {0061_0062}"),
+    ("[{{}]", "5 007B"),
+    ("[ { [ a - z } ]", "15 {005B_0061_002D_007A}"),
+    ("[{bc}{}{ab}a]", "13 0061 {} {0061_0062} {0062_0063}"),
+    ("[{}{}{ab}{ab}]", "14 {} {0061_0062}"),
+    ("[{a}-{\\x63}]", "12 0061-0063"),
+    ("[{ \\x{61 62}\\p\\P\\ }]", "20 {0061_0062_0070_0050_0020}"),
+    ("[{$a}{^&-]}]", "12 {0024_0061} {005E_0026_002D_005D}"),
+    ("[[{ab}{bc}]-[{ab}]]", "19 {0062_0063}"),
+    ("[[{ab}{bc}x]&[{bc}x-z]]", "23 0078 {0062_0063}"),
+    ("[-{ab}[x]&[{ab}]]", "17 {0061_0062}"),
+    ("[{ab}[^{ab}]&[{ab}c]]", "21 0063 {0061_0062}"),
+    ("[{ä\u{10000}}]", "10 {00E4_10000}"),
+];
+
 #[test]
-fn patterns_are_answered_with_their_ranges(rt: HostRuntime) -> Result<(), Fail> {
+fn patterns_are_answered_with_their_ranges_and_strings(rt: HostRuntime) -> Result<(), Fail> {
+    assert_read(&rt, rt.alloc(), CODE_POINTS.as_slice())?;
+    assert_read(&rt, rt.alloc(), SETS.as_slice())?;
+    assert_read(&rt, rt.alloc(), STRINGS.as_slice())
+}
+
+#[test]
+fn lines_without_an_answer_and_other_ends_of_lines_are_read(rt: HostRuntime) -> Result<(), Fail> {
     let rows = [
-        ("pat [a-z0]", "ok 6 0030 0061-007A\n"),
-        ("pat [a-b-] x", "ok 6 002D 0061-0062\n"),
-        ("pat [ - a]", "ok 6 002D 0061\n"),
         ("# a comment", ""),
         ("", ""),
-    ];
-    assert_answers(&rt, rt.alloc(), &rows, 0)
-}
-
-#[test]
-fn sets_inside_are_joined_removed_and_kept(rt: HostRuntime) -> Result<(), Fail> {
-    let rows = [
-        ("pat [[a-a][b-z] - [a-d][e-z]]", "ok 25 0065-007A\n"),
-        ("pat [[a-a][b-z] - [a-z][]]", "ok 22\n"),
-        ("pat [-[a-z]&[b]]", "ok 12 0062\n"),
-        ("pat [^[^a-z]]", "ok 9 0061-007A\n"),
-        ("pat [\\uD800-\\uD8FF]", "ok 15 D800-D8FF\n"),
-        ("pat [^\\uD800-\\uE0FF]", "ok 16 0000-D7FF E100-10FFFF\n"),
-        ("pat [$]", "ok 3 FFFF\n"),
-        ("pat [--]", "ok 4 002D\n"),
-        ("pat [-]", "ok 3 002D\n"),
-        ("pat [[a-b]-]", "ok 8 002D 0061-0062\n"),
-        ("pat [  - -  ]", "ok 9 002D\n"),
-        ("pat [^[^ $ ]]", "ok 9 FFFF\n"),
-        ("pat [^]", "ok 3 0000-10FFFF\n"),
-        ("pat [\\$a]", "ok 5 0024 0061\n"),
-        ("pat [[a-z]-[a-b]-[y-z]]", "ok 19 0063-0078\n"),
-        (
-            "pat [[a-a][b-z] & [a-b][x-z]]",
-            "ok 25 0061-0062 0078-007A\n",
-        ),
-        ("pat []", "ok 2\n"),
-    ];
-    assert_answers(&rt, rt.alloc(), &rows, 0)
-}
-
-#[test]
-fn strings_and_escapes_of_several_numbers_are_members(rt: HostRuntime) -> Result<(), Fail> {
-    let rows = [
-        ("pat [a-z\\]{[}] []", "ok 10 005B 005D 0061-007A\n"),
-        (
-            "pat [[a-z{abc}]&[b-z{abc}{abx}]]",
-            "ok 28 0062-007A {0061_0062_0063}\n",
-        ),
-        ("pat [{}}]", "ok 5 007D {}\n"),
-        ("pat [\\x{61 0062   063}]", "ok 19 0061-0063\n"),
-        ("pat [^{h\\u{65}llo\\ world}]", "ok 22 0000-10FFFF\n"),
-        ("pat [{ab}-]", "ok 7 002D {0061_0062}\n"),
-        ("pat [{{}]", "ok 5 007B\n"),
-        ("pat [ { [ a - z } ]", "ok 15 {005B_0061_002D_007A}\n"),
-        ("pat [\\x{D800 D801 D802}]", "ok 20 D800-D802\n"),
-        (
-            "pat [{bc}{}{ab}a]",
-            "ok 13 0061 {} {0061_0062} {0062_0063}\n",
-        ),
+        ("\n#\npat [b]\r\n\r\npat [a]", "ok 3 0062\nok 3 0061\n"),
     ];
     assert_answers(&rt, rt.alloc(), &rows, 0)
 }
@@ -71,7 +100,7 @@ fn a_million_brackets_inside_one_another_are_read(rt: HostRuntime) -> Result<(),
     let words = eval(alloc)?;
     let opening = "[".repeat(alloc, 1_000_000)?;
     let closing = "]".repeat(alloc, 1_000_000)?;
-    let input = format!(in alloc; "{SYNTAX}pat {opening}{closing}\n")?;
+    let input = format!(in alloc; "{TABLES}pat {opening}{closing}\n")?;
     let (status, sink) = run_in_memory(alloc, &words, input.into_bytes());
     assert_eq!(rt; sink.written(), b"ok 2000000\n".as_slice());
     assert_eq!(rt; status.code(), 0);
@@ -84,7 +113,7 @@ fn answers_of_more_than_a_piece_are_written_in_order(rt: HostRuntime) -> Result<
     let words = eval(alloc)?;
     let lines = "pat [a-z0]\npat [b]\n".repeat(alloc, 5_000)?;
     let answers = "ok 6 0030 0061-007A\nok 3 0062\n".repeat(alloc, 5_000)?;
-    let input = format!(in alloc; "{SYNTAX}{lines}")?;
+    let input = format!(in alloc; "{TABLES}{lines}")?;
     let (status, sink) = run_in_memory(alloc, &words, input.into_bytes());
     assert!(rt; sink.written() == answers.as_bytes());
     assert_eq!(rt; status.code(), 0);

@@ -1,17 +1,7 @@
-//! Inputs that are refused, and patterns with a fault.
-use crate::fixtures::{SYNTAX, assert_answers, eval};
+//! Inputs that are refused.
+use crate::fixtures::eval;
 use crate::run_in_memory;
 use std::test::Fail;
-
-#[test]
-fn lines_with_a_fault_are_answered_with_it(rt: HostRuntime) -> Result<(), Fail> {
-    let rows = [
-        ("pat [a&b]", "err error: unimplemented\n"),
-        ("pat [z-a]", "err error: unimplemented\n"),
-        ("hello", "err bad line\n"),
-    ];
-    assert_answers(&rt, rt.alloc(), &rows, 1)
-}
 
 #[test]
 fn inputs_are_refused_with_their_cause(rt: HostRuntime) -> Result<(), Fail> {

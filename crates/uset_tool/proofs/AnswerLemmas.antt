@@ -1,35 +1,56 @@
 -- The answers to patterns.
-use Rattle.std.proofs.Common.{◌≡◌, ◌≢◌, ℕ, Bool, true, false, List, length, refl, subst}
+use Rattle.std.proofs.Common.{◌≡◌, ℕ, Bool, true, false, List, length, encode_utf8_all, ◌++◌, codes, Option, Some, None, refl, sym, ap, ◌∙◌, subst}
 use mathlib.Core.Path.{fun_ext}
 use Rattle.std.specs.Str.{chars}
 use Rattle.std.specs.String.{string_bytes}
 use Rattle.cp_invlist.specs.Ranges.{AreMaximalRanges}
 use Rattle.cp_strset.specs.StringSet.{StringSet}
-use Rattle.prop_data.specs.Tables.{Tables}
-use Rattle.uset_parse.specs.declared.error.ParseErrorKind.{ParseErrorKind}
-use Rattle.uset_parse.specs.declared.error.ParseErrorKind.TheVariants.{Internal, Unimplemented, NoMemory}
-use Rattle.uset_parse.specs.Fault.{IsFault, IsRefusal}
-use Rattle.uset_parse.specs.Reading.{IsRead}
-use Rattle.uset_parse.specs.Tree.{point, string}
+use Rattle.uset_grammar.specs.Outcome.{Kind}
+use Rattle.uset_grammar.specs.Tree.{point, string}
+use Rattle.uset_grammar.specs.Language.{Language}
+use Rattle.uset_grammar.specs.Answers.{IsFault}
+use Rattle.uset_grammar.specs.Shown.{shown}
+use Rattle.uset_fault.specs.declared.error.ParseError.{ParseError}
+use Rattle.uset_fault.specs.declared.error.ParseErrorKind.{ParseErrorKind}
+use Rattle.uset_fault.specs.declared.error.ParseErrorKind.TheVariants.{UnexpectedChar, UnknownProperty, UnknownVariable, UnexpectedVariable, Eof, Internal, Unimplemented, InvalidEscape, NoMemory}
+use Rattle.uset_fault.specs.Errors.{kind_of, offset_in, kind_told, ToldAs, shown_as, shown_with}
+use Rattle.uset_parse.specs.Reading.{IsRead, IsRefused}
 use Rattle.uset_tool.specs.declared.answer.Answer.{Answer}
-use Rattle.uset_tool.specs.Answer.{PatternAnswer, read, fault, read_text, fault_text, IsReadAnswer, IsFaultAnswer}
+use Rattle.uset_tool.specs.Answer.{PatternAnswer, read, fault, read_text, fault_text, line_end, IsReadAnswer, IsFaultAnswer}
 
 -- the text and the mark of an answer
-answer_at : (tables : Tables) (source text : List ℕ) (err : Bool) (answer : Answer) → string_bytes answer.text ≡ text → answer.is_err ≡ err → PatternAnswer tables source text err → PatternAnswer tables source (string_bytes answer.text) answer.is_err
-answer_at tables source text err answer text_is err_is h = rw (text_is, err_is) h
+answer_at : (l : Option Language) (source text : List ℕ) (err : Bool) (answer : Answer) → string_bytes answer.text ≡ text → answer.is_err ≡ err → PatternAnswer l source text err → PatternAnswer l source (string_bytes answer.text) answer.is_err
+answer_at l source text err answer text_is err_is h = rw (text_is, err_is) h
 
-pub read_answer : (tables : Tables) (source : List ℕ) (n : ℕ) (set : StringSet) (answer : Answer) → IsRead tables (chars source) (length source) set n → IsReadAnswer n set answer →
-    PatternAnswer tables source (string_bytes answer.text) answer.is_err
-read_answer tables source n set answer h (rs, maximal, canonical, text_is, err_is) =
-    answer_at tables source (read_text n rs set.strings) false answer text_is err_is
+pub read_answer : (l : Option Language) (source : List ℕ) (n : ℕ) (set : StringSet) (answer : Answer) → IsRead l source set n → IsReadAnswer n set answer → PatternAnswer l source (string_bytes answer.text) answer.is_err
+read_answer l source n set answer h (rs, maximal, canonical, text_is, err_is) =
+    answer_at l source (read_text n rs set.strings) false answer text_is err_is
     (read n rs set.strings h.reads h.place (subst (λ (m : ℕ → Bool). AreMaximalRanges m rs) (fun_ext (λ c. h.members (point c))) maximal)
     (record { canonical = canonical; holds_them = λ bytes. h.members (string bytes) }))
 
-refusal_is_fault : (tables : Tables) (source : List ℕ) (kind : ParseErrorKind) → IsRefusal tables (chars source) kind → kind ≢ NoMemory → IsFault tables (chars source) kind
-refusal_is_fault tables source Internal h other = h
-refusal_is_fault tables source Unimplemented h other = h
-refusal_is_fault tables source NoMemory h other = absurd (other refl)
+-- the fault that an error tells
+pub fault_told : (l : Option Language) (source : List ℕ) (error : ParseError) (kind : Kind) → IsRefused l source error → kind_told (kind_of error) ≡ Some kind → IsFault l (chars source) kind (offset_in error)
+fault_told l source error kind h told = subst (λ t. ToldAs t (offset_in error) (λ k o. IsFault l (chars source) k o)) told h
 
-pub fault_answer : (tables : Tables) (source : List ℕ) (kind : ParseErrorKind) (answer : Answer) → IsRefusal tables (chars source) kind → IsFaultAnswer kind answer → PatternAnswer tables source (string_bytes answer.text) answer.is_err
-fault_answer tables source kind answer h (other, text_is, err_is) =
-    answer_at tables source (fault_text kind) true answer text_is err_is (fault (refusal_is_fault tables source kind h other))
+pub fault_answer : (l : Option Language) (source : List ℕ) (error : ParseError) (answer : Answer) → IsRefused l source error → IsFaultAnswer error source answer → PatternAnswer l source (string_bytes answer.text) answer.is_err
+fault_answer l source error answer h is = answer_at l source (fault_text is.kind (offset_in error) source) true answer is.text is.err (fault (fault_told l source error is.kind h is.told))
+
+-- a kind that isn't want of memory is one of the grammar's
+pub told_kind : (k : ParseErrorKind) → (k ≡ NoMemory → ⊥) → (kind : Kind) × (kind_told k ≡ Some kind)
+told_kind (UnexpectedChar c) other = (_, refl)
+told_kind UnknownProperty other = (_, refl)
+told_kind UnknownVariable other = (_, refl)
+told_kind UnexpectedVariable other = (_, refl)
+told_kind Eof other = (_, refl)
+told_kind Internal other = (_, refl)
+told_kind Unimplemented other = (_, refl)
+told_kind InvalidEscape other = (_, refl)
+told_kind NoMemory other = absurd (other refl)
+
+-- an answer that shows an error
+pub shown_answer : (error : ParseError) (source words : List ℕ) (answer : Answer) → (kind_of error ≡ NoMemory → ⊥) → words ≡ encode_utf8_all (shown_with error (chars source)) →
+    string_bytes answer.text ≡ codes "err " ++ (words ++ line_end) → answer.is_err ≡ true → IsFaultAnswer error source answer
+shown_answer error source words answer other words_are text err =
+    let (kind, told) = told_kind (kind_of error) other in
+    let shown_is : words ≡ encode_utf8_all (shown kind (offset_in error) (chars source)) = words_are ∙ ap (λ t. encode_utf8_all (shown_as t (offset_in error) (chars source))) told in
+    record { kind = kind; told = told; text = text ∙ ap (λ w. codes "err " ++ (w ++ line_end)) shown_is; err = err }

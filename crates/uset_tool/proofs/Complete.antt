@@ -1,44 +1,57 @@
 -- Without a fault of source or sink the status is that of the answer, or memory was refused.
-use Rattle.std.proofs.Common.{◌≡◌, ℕ, Bool, true, false, cond, List, Option, None, Some, IfSome, refl, ap, inl, inr, arith}
+use Rattle.std.proofs.Common.{◌≡◌, ℕ, Bool, true, false, cond, List, Option, None, Some, IfSome, refl, ap, subst, inl, inr, arith}
 use Rattle.std.proofs.lemmas.Bool.{both_ways}
-use Rattle.prop_data.specs.TableText.{tables_in}
+use Rattle.prop_data.specs.TableText.{table_fault, tables_in}
+use Rattle.uset_tool.specs.Words.{Command, evaluate, count_tables}
+use Rattle.uset_variables.specs.Variables.{no_variables}
 use Rattle.uset_tool.specs.declared.status.Status.{Status}
 use Rattle.uset_tool.specs.declared.status.Status.TheVariants.{Done, SomeErr, Usage, Tables, ReadFault, WriteFault, NoMemory, NotText, TooLong}
 use Rattle.uset_tool.specs.Device.{Rose, NoFault}
-use Rattle.uset_tool.specs.Run.{table_lines, script_lines, Evaluates, faulty_tables, script, Answers, usage, too_long, not_text, evaluates, IsWhole, IsWritten, Writes, IsSettled, IsAccepted, IsAnswered}
-use Rattle.uset_tool.proofs.Once.{Laws, script_once}
-use Rattle.uset_tool.proofs.RunLemmas.{no_fault_here}
+use Rattle.uset_tool.specs.Run.{table_lines, script_lines, text_lines, Evaluates, faulty_tables, script, Counts, faulty_text, counted, Results, Answers, usage, too_long, not_text, evaluates, IsWhole, IsWritten, Writes, IsSettled, IsAccepted, IsAnswered}
+use Rattle.uset_tool.proofs.Once.{RunLaws, laws_of, script_once}
+use Rattle.uset_tool.proofs.RunLemmas.{no_fault_here, of_command, one_command}
 
-evaluated_once : Laws → (input t u : List ℕ) (r s : Status) → Evaluates input t r → Evaluates input u s → r ≡ s
+evaluated_once : RunLaws → (input t u : List ℕ) (r s : Status) → Evaluates input t r → Evaluates input u s → r ≡ s
 evaluated_once laws input _ _ _ _ (faulty_tables fault e) (faulty_tables other f) = refl
 evaluated_once laws input _ _ _ _ (faulty_tables fault e) (script none text errs answer) = absurd (no_fault_here _ fault none e)
 evaluated_once laws input _ _ _ _ (script none text errs answer) (faulty_tables fault e) = absurd (no_fault_here _ fault none e)
 evaluated_once laws input _ _ _ _ (script none text errs answer) (script none_too other are_errs answer_too) =
-    ap (λ b. cond b SomeErr Done) (script_once laws (tables_in (table_lines input)) (script_lines input) text other errs are_errs answer answer_too).1
+    ap (λ b. cond b SomeErr Done) (script_once (laws_of laws (tables_in (table_lines input)) (laws.allowed_sets (table_lines input) none)) no_variables (script_lines input) text other errs are_errs answer answer_too).1
 
-answered_once : Laws → (words : List (List ℕ)) (input t u : List ℕ) (r s : Status) → Answers words input t r → Answers words input u s → r ≡ s
+counted_once : (input t u : List ℕ) (r s : Status) → Counts input t r → Counts input u s → r ≡ s
+counted_once input _ _ _ _ (faulty_text fault e) (faulty_text other f) = refl
+counted_once input _ _ _ _ (faulty_text fault e) (counted none) = absurd (no_fault_here _ fault none e)
+counted_once input _ _ _ _ (counted none) (faulty_text fault e) = absurd (no_fault_here _ fault none e)
+counted_once input _ _ _ _ (counted none) (counted same) = refl
+
+result_once : RunLaws → (command : Command) (input t u : List ℕ) (r s : Status) → Results command input t r → Results command input u s → r ≡ s
+result_once laws evaluate input t u r s h k = evaluated_once laws input t u r s h k
+result_once laws count_tables input t u r s h k = counted_once input t u r s h k
+
+answered_once : RunLaws → (words : List (List ℕ)) (input t u : List ℕ) (r s : Status) → Answers words input t r → Answers words input u s → r ≡ s
 answered_once laws words input _ _ _ _ (usage a) (usage b) = refl
 answered_once laws words input _ _ _ _ (usage a) (too_long known b) = absurd (both_ways _ a known)
 answered_once laws words input _ _ _ _ (usage a) (not_text known b c) = absurd (both_ways _ a known)
-answered_once laws words input _ _ _ _ (usage a) (evaluates known b c d) = absurd (both_ways _ a known)
+answered_once laws words input _ _ _ _ (usage a) (evaluates command known b c d) = absurd (both_ways _ a (of_command words command known))
 answered_once laws words input _ _ _ _ (too_long known over) (usage b) = absurd (both_ways _ b known)
 answered_once laws words input _ _ _ _ (too_long known over) (too_long b c) = refl
 answered_once laws words input _ _ _ _ (too_long known over) (not_text b within c) = absurd (omega (arith, over, within))
-answered_once laws words input _ _ _ _ (too_long known over) (evaluates b within c d) = absurd (omega (arith, over, within))
+answered_once laws words input _ _ _ _ (too_long known over) (evaluates command b within c d) = absurd (omega (arith, over, within))
 answered_once laws words input _ _ _ _ (not_text known within no_text) (usage b) = absurd (both_ways _ b known)
 answered_once laws words input _ _ _ _ (not_text known within no_text) (too_long b over) = absurd (omega (arith, over, within))
 answered_once laws words input _ _ _ _ (not_text known within no_text) (not_text b c d) = refl
-answered_once laws words input _ _ _ _ (not_text known within no_text) (evaluates b c text d) = absurd (both_ways _ no_text text)
-answered_once laws words input _ _ _ _ (evaluates known within text h) (usage b) = absurd (both_ways _ b known)
-answered_once laws words input _ _ _ _ (evaluates known within text h) (too_long b over) = absurd (omega (arith, over, within))
-answered_once laws words input _ _ _ _ (evaluates known within text h) (not_text b c no_text) = absurd (both_ways _ no_text text)
-answered_once laws words input t u r s (evaluates known within text h) (evaluates b c d k) = evaluated_once laws input t u r s h k
+answered_once laws words input _ _ _ _ (not_text known within no_text) (evaluates command b c text d) = absurd (both_ways _ no_text text)
+answered_once laws words input _ _ _ _ (evaluates command known within text h) (usage b) = absurd (both_ways _ b (of_command words command known))
+answered_once laws words input _ _ _ _ (evaluates command known within text h) (too_long b over) = absurd (omega (arith, over, within))
+answered_once laws words input _ _ _ _ (evaluates command known within text h) (not_text b c no_text) = absurd (both_ways _ no_text text)
+answered_once laws words input t u r s (evaluates command known within text h) (evaluates other b c d k) =
+    result_once laws command input t u r s h (subst (λ o. Results o input u s) (one_command words other command b known) k)
 
 -- a whole answer has the status of each answer
-whole_settles : Laws → (words : List (List ℕ)) (input before now : List ℕ) (result : Status) → IsWhole (Answers words input) before now result → IsSettled (Answers words input) result
+whole_settles : RunLaws → (words : List (List ℕ)) (input before now : List ℕ) (result : Status) → IsWhole (Answers words input) before now result → IsSettled (Answers words input) result
 whole_settles laws words input before now result (t, answer, now_is) = λ u s k. inl (answered_once laws words input t u result s answer k)
 
-settled : Laws → (words : List (List ℕ)) (input before now : List ℕ) (result : Status) → (result ≡ ReadFault → ⊥) → (result ≡ WriteFault → ⊥) → IsWritten (Answers words input) before now result → IsSettled (Answers words input) result
+settled : RunLaws → (words : List (List ℕ)) (input before now : List ℕ) (result : Status) → (result ≡ ReadFault → ⊥) → (result ≡ WriteFault → ⊥) → IsWritten (Answers words input) before now result → IsSettled (Answers words input) result
 settled laws words input before now Done no_read no_write h = whole_settles laws words input before now Done h
 settled laws words input before now SomeErr no_read no_write h = whole_settles laws words input before now SomeErr h
 settled laws words input before now Usage no_read no_write h = whole_settles laws words input before now Usage h
@@ -53,12 +66,18 @@ script_status : (errs : Bool) → IsAnswered (cond errs SomeErr Done)
 script_status true = inr (inl refl)
 script_status false = inl refl
 
+result_status : (command : Command) (input t : List ℕ) (s : Status) → table_fault (text_lines command input) ≡ None → Results command input t s → IsAnswered s
+result_status evaluate input _ _ fine (faulty_tables fault e) = absurd (no_fault_here _ fault fine e)
+result_status evaluate input _ _ fine (script none text errs answer) = script_status errs
+result_status count_tables input _ _ fine (faulty_text fault e) = absurd (no_fault_here _ fault fine e)
+result_status count_tables input _ _ fine (counted none) = inl refl
+
 accepted_status : (words : List (List ℕ)) (input t : List ℕ) (s : Status) → IsAccepted words input → Answers words input t s → IsAnswered s
-accepted_status words input _ _ ok (usage b) = absurd (both_ways _ b ok.known)
+accepted_status words input _ _ ok (usage b) = absurd (both_ways _ b (of_command words ok.command ok.known))
 accepted_status words input _ _ ok (too_long b over) = absurd (omega (arith, over, ok.within))
 accepted_status words input _ _ ok (not_text b c no_text) = absurd (both_ways _ no_text ok.text)
-accepted_status words input _ _ ok (evaluates b c d (faulty_tables fault e)) = absurd (no_fault_here _ fault ok.tables e)
-accepted_status words input _ _ ok (evaluates b c d (script none text errs answer)) = script_status errs
+accepted_status words input t s ok (evaluates command b c d h) =
+    result_status ok.command input t s ok.tables (subst (λ o. Results o input t s) (one_command words command ok.command b ok.known) h)
 
 complete : (words : List (List ℕ)) (input before now : List ℕ) (result : Status) → (result ≡ ReadFault → ⊥) → (result ≡ WriteFault → ⊥) → IsAccepted words input → IsWritten (Answers words input) before now result → IsAnswered result
 complete words input before now Done no_read no_write ok (t, answer, now_is) = accepted_status words input t Done ok answer
@@ -72,7 +91,7 @@ complete words input before now WriteFault no_read no_write ok h = absurd (no_wr
 complete words input before now NoMemory no_read no_write ok h = inr (inr refl)
 
 -- the same, whatever source and sink tell, where no fault was counted
-pub settled_run : Laws → (words : List (List ℕ)) (left old new : Option (List ℕ)) (result : Status) (a b c d : ℕ) → (result ≡ ReadFault → Rose a b) → (result ≡ WriteFault → Rose c d) →
+pub settled_run : RunLaws → (words : List (List ℕ)) (left old new : Option (List ℕ)) (result : Status) (a b c d : ℕ) → (result ≡ ReadFault → Rose a b) → (result ≡ WriteFault → Rose c d) →
     IfSome left (λ input. Writes (Answers words input) old new result) →
     IfSome left (λ input. IfSome old (λ before. NoFault a b → NoFault c d → IsSettled (Answers words input) result))
 settled_run laws words None old new result a b c d read write h = tt

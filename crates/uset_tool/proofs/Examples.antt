@@ -1,5 +1,5 @@
 -- The answers of the program, computed on small scripts.
-use Rattle.std.proofs.Common.{arith, ℕ, List, length, ◌≡◌, ◌≢◌, true, false, [], ◌∷◌, codes, refl}
+use Rattle.std.proofs.Common.{arith, ℕ, List, length, ◌≡◌, ◌≢◌, true, false, [], ◌∷◌, ◌++◌, codes, refl}
 use Rattle.std.specs.Prelude.{Some, None}
 use Rattle.std.proofs.lemmas.Bool.Decides.{nat_tests}
 use Rattle.std.proofs.lemmas.List.Elements.{All-nil}
@@ -13,18 +13,16 @@ use Rattle.text_lines.specs.Fields.{is_sole}
 use Rattle.prop_data.specs.Line.{line_of_one, line_of_two, is_header_word}
 use Rattle.prop_data.specs.Numbers.{range, hyphen_parts, spelled}
 use Rattle.prop_binary.specs.Tables.{properties}
-use Rattle.prop_data.specs.LineFault.{range_fault, syntax_fault}
+use Rattle.prop_data.specs.LineFault.{range_fault, syntax_fault, lacks_some_list}
 use Rattle.prop_data.specs.TableText.{table_fault, at_line}
-use Rattle.uset_parse.specs.declared.error.ParseErrorKind.TheVariants.{Unimplemented}
-use Rattle.uset_tool.specs.Answer.{AreStrings, range_text, string_text, read_text, fault_text, bad_line_text, read, fault, ends, answers}
-use Rattle.uset_tool.specs.Script.{silent, pattern, bad, script_line}
+use lib.Utf8.{encode}
+use Rattle.uset_grammar.specs.Outcome.{unexpected, internal}
+use Rattle.uset_grammar.specs.Answers.{absent}
+use Rattle.uset_tool.specs.Answer.{range_text, string_text, read_text, fault_text, bad_line_text, bound_text, is_bound_text, text_after_text, fault, a_character, free, bound_before as bound_earlier, ends, answers}
+use Rattle.uset_tool.specs.Script.{silent, pattern, binding, bad, script_line, character_of, character, string, set}
 use Rattle.uset_tool.specs.Words.{is_known, table_fault_text}
 use Rattle.uset_tool.specs.Run.{table_lines, script_lines, Answers, usage, Evaluates, faulty_tables, script}
 use Rattle.uset_tool.specs.declared.status.Status.TheVariants.{Usage, Tables, SomeErr, Done}
-use Rattle.uset_parse.specs.Tree.{Tree, point, string, bracket, done, add, has}
-use Rattle.uset_parse.specs.Grammar.{reads_bracket, reads, ends as closed, range as chars_range, members, empty}
-use Rattle.cp_invlist.specs.Ranges.{AreMaximalRanges}
-use Rattle.uset_parse.specs.Fault.{absent_table}
 
 abbrev zero : CodePointRange
 zero = record { start = 0x30; end = 0x30 }
@@ -71,9 +69,14 @@ string_of_two : string_text (0x61 ∷ 0xC3 ∷ 0x80 ∷ []) ≡ codes " {0061_00
 unfolding digits chars
 string_of_two = refl
 
--- the answer to `pat [a&b]`
-unimplemented : fault_text Unimplemented ≡ codes "err error: unimplemented\n"
-unimplemented = refl
+-- the answer to a pattern with a fault
+reversed_range : fault_text (unexpected 0x61) (Some 4) (codes "[b-\\x61]") ≡ codes "err [b-\\x" ++ (226 ∷ 134 ∷ 144 ∷ codes " error: unexpected character 'a'\n")
+unfolding chars encode
+reversed_range = refl
+
+no_place : fault_text internal None (codes "[a]") ≡ codes "err error: internal error\n"
+unfolding encode
+no_place = refl
 
 bad_line : bad_line_text ≡ codes "err bad line\n"
 bad_line = refl
@@ -93,6 +96,9 @@ comment_line = refl
 eval_is_known : is_known (codes "eval" ∷ []) ≡ true
 eval_is_known = refl
 
+tables_is_known : is_known (codes "tables" ∷ []) ≡ true
+tables_is_known = refl
+
 two_words_are_unknown : is_known (codes "eval" ∷ codes "x" ∷ []) ≡ false
 two_words_are_unknown = refl
 
@@ -109,11 +115,11 @@ unfolding digits
 tables_told = refl
 
 fault_of_descending_rows : table_fault (table_lines (codes "set XID_Start\n61-7A\n41\nend\n")) ≡ Some (at_line 3 RangeOrder)
-unfolding is_sole line_of_one line_of_two is_header_word properties range hyphen_parts spelled range_fault syntax_fault
+unfolding lacks_some_list is_sole line_of_one line_of_two is_header_word properties range hyphen_parts spelled range_fault syntax_fault
 fault_of_descending_rows = refl
 
 no_fault_of_one_row : table_fault (table_lines (codes "set XID_Start\n61-7A # letters\nend\n")) ≡ None
-unfolding is_sole line_of_one line_of_two is_header_word properties range hyphen_parts spelled range_fault syntax_fault
+unfolding lacks_some_list is_sole line_of_one line_of_two is_header_word properties range hyphen_parts spelled range_fault syntax_fault
 no_fault_of_one_row = refl
 
 -- no word is answered with the usage
@@ -125,53 +131,68 @@ unfolding digits
 no_end = faulty_tables (at_line 1 NoEnd) refl
 
 letter_as_white_space : Evaluates (codes "# own\nset Pattern_White_Space\n41\nend\n") (codes "tables line 3: SyntaxAscii\n") Tables
-unfolding is_sole line_of_one line_of_two is_header_word properties range hyphen_parts spelled range_fault syntax_fault digits
+unfolding lacks_some_list is_sole line_of_one line_of_two is_header_word properties range hyphen_parts spelled range_fault syntax_fault digits
 letter_as_white_space = faulty_tables (at_line 3 SyntaxAscii) refl
 
 line_that_is_none : Evaluates (codes "end\nhello\n") (codes "err bad line\n") SomeErr
-unfolding is_sole line_of_one line_of_two is_header_word script_line
-line_that_is_none = script refl (codes "err bad line\n") true (answers (codes "err bad line\n") [] true false (refl, refl) ends)
+unfolding lacks_some_list is_sole line_of_one line_of_two is_header_word script_line
+line_that_is_none = script refl (codes "err bad line\n") true (answers (codes "err bad line\n") [] true false (refl, refl, refl) ends)
 
 absent_tables : Evaluates (codes "end\npat [a]\n") (codes "err error: internal error\n") SomeErr
-unfolding is_sole line_of_one line_of_two is_header_word script_line
-absent_tables = script refl (codes "err error: internal error\n") true (answers (codes "err error: internal error\n") [] true false (fault (absent_table refl)) ends)
+unfolding lacks_some_list is_sole line_of_one line_of_two is_header_word script_line encode
+absent_tables =
+    script refl (codes "err error: internal error\n") true (answers (codes "err error: internal error\n") [] true false
+    (fault {kind = internal} {offset = None} (record { place = None; fault = absent; is = refl }), refl) ends)
 
--- what `[a-z0]` denotes, and its maximal ranges
-abbrev letters_and_zero_tree : Tree
-letters_and_zero_tree = bracket false false (add 0x61 0x7A (add 0x30 0x30 done))
+-- lines that bind names
+character_line : script_line (codes "let a char 61") ≡ binding (codes "a") (character 0x61)
+unfolding script_line character_of
+character_line = refl
 
-maximal_ranges : AreMaximalRanges (λ c. has letters_and_zero_tree (point c)) (zero ∷ letters ∷ [])
-maximal_ranges = (
-  omega arith,
-  omega arith,
-  λ c h k. grind (arith, nat_tests),
-  λ c h k. grind (arith, nat_tests),
-  refl,
-  (
-    omega arith,
-    omega arith,
-    λ c h k. grind (arith, nat_tests),
-    λ c h k. grind (arith, nat_tests),
-    refl,
-    λ c h. grind (arith, nat_tests),
-  ),
-)
+string_line : script_line (codes "let ab str 61 20AC") ≡ binding (codes "ab") (string (0x61 ∷ 0x20AC ∷ []))
+unfolding script_line character_of
+string_line = refl
 
-no_strings : AreStrings (λ bytes. has letters_and_zero_tree (string bytes)) []
-no_strings = record {
-  canonical = record { ascending = λ i j d below within. absurd (omega (arith, within)); none_of_one = All-nil (λ s. length (chars s) ≢ 1) };
-  holds_them = λ bytes. refl;
-}
+empty_string_line : script_line (codes "let a str") ≡ binding (codes "a") (string [])
+unfolding script_line
+empty_string_line = refl
 
-abbrev three_tables : List ℕ
-three_tables = codes "set XID_Start\nset XID_Continue\nset Pattern_White_Space\n20\nend\npat [a-z0]\n"
+set_line : script_line (codes "let a set [b] ") ≡ binding (codes "a") (set (codes "[b] "))
+unfolding script_line
+set_line = refl
 
-pattern_that_is_read : Evaluates three_tables (codes "ok 6 0030 0061-007A\n") Done
-unfolding is_sole line_of_one line_of_two is_header_word properties range hyphen_parts spelled range_fault syntax_fault script_line digits chars
-pattern_that_is_read =
-    script refl (codes "ok 6 0030 0061-007A\n") false (answers (codes "ok 6 0030 0061-007A\n") [] false false
-    (read 6 (zero ∷ letters ∷ []) [] (record {
-      syntax = _;
-      held = refl;
-      set = reads_bracket refl (reads refl (reads refl (reads refl (reads refl (closed refl))))) (chars_range {a = 0x61} {b = 0x7A} (omega arith) (members empty));
-    }) refl maximal_ranges no_strings) ends)
+empty_set_line : script_line (codes "let a set ") ≡ binding (codes "a") (set [])
+unfolding script_line
+empty_set_line = refl
+
+surrogate_line : script_line (codes "let a char D800") ≡ bad
+unfolding script_line character_of
+surrogate_line = refl
+
+long_number_line : script_line (codes "let a char 0000061") ≡ bad
+unfolding script_line character_of
+long_number_line = refl
+
+two_spaces_line : script_line (codes "let a str  61") ≡ bad
+unfolding script_line character_of
+two_spaces_line = refl
+
+nameless_line : script_line (codes "let  char 61") ≡ bad
+unfolding script_line
+nameless_line = refl
+
+bound : bound_text (codes "ab") ≡ codes "bound ab\n"
+bound = refl
+
+bound_before : is_bound_text (codes "ab") ≡ codes "err ab is bound\n"
+bound_before = refl
+
+text_behind : text_after_text 3 ≡ codes "err text after the set at byte 3\n"
+unfolding digits
+text_behind = refl
+
+names_are_bound : Evaluates (codes "end\nlet a char 61\nlet a str\n") (codes "bound a\nerr a is bound\n") SomeErr
+unfolding lacks_some_list is_sole line_of_one line_of_two is_header_word script_line character_of chars encode
+names_are_bound =
+    script refl (codes "bound a\nerr a is bound\n") true (answers (codes "bound a\n") (codes "err a is bound\n") false true (free refl a_character)
+    (answers (codes "err a is bound\n") [] true false (bound_earlier refl) ends))

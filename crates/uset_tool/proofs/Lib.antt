@@ -6,4 +6,7 @@ pub mod Once
 pub mod RunLemmas
 pub mod Complete
 mod LeftLemmas
+pub mod BindingLemmas
+pub mod LineLemmas
+pub mod CharacterLemmas
 mod Examples

@@ -3,7 +3,7 @@ use Rattle.std.specs.Prelude.{◌≡◌, ℕ, Bool, List, ◌++◌, Option, Some
 use Rattle.prop_data.specs.Tables.{Tables}
 use Rattle.uset_tool.specs.declared.sink.WriteError.{WriteError}
 use Rattle.uset_tool.specs.declared.sink.WriteError.TheVariants.{Failed, NoMemory}
-use Rattle.uset_tool.specs.Answer.{ScriptAnswer}
+use Rattle.uset_tool.specs.Answer.{Variables, ScriptAnswer}
 use Rattle.uset_tool.specs.Device.{Appends, IsProperFront, IsFront}
 
 -- where the sink failed, not all of the answer was appended, and where memory was refused, a front of it
@@ -12,11 +12,11 @@ StopsWithin Failed before now text = IsProperFront before now text
 StopsWithin NoMemory before now text = IsFront before now text
 
 -- the answers to the lines, and whether an `err` line is among them; or how far they came
-abbrev pub AnswersScript : Tables → List (List ℕ) → Option (List ℕ) → Option (List ℕ) → Result Bool WriteError → Type 0
-AnswersScript tables lines old new (Ok errs) =
-    IfSome old (λ before. (text : List ℕ) × ScriptAnswer tables lines text errs × (new ≡ Some (before ++ text)))
-AnswersScript tables lines old new (Err e) = IfSome old (λ before. (now : List ℕ) × (new ≡ Some now)
-    × ((text : List ℕ) (errs : Bool) → ScriptAnswer tables lines text errs → StopsWithin e before now text))
+abbrev pub AnswersScript : Tables → Variables → List (List ℕ) → Option (List ℕ) → Option (List ℕ) → Result Bool WriteError → Type 0
+AnswersScript tables variables lines old new (Ok errs) =
+    IfSome old (λ before. (text : List ℕ) × ScriptAnswer tables variables lines text errs × (new ≡ Some (before ++ text)))
+AnswersScript tables variables lines old new (Err e) = IfSome old (λ before. (now : List ℕ) × (new ≡ Some now)
+    × ((text : List ℕ) (errs : Bool) → ScriptAnswer tables variables lines text errs → StopsWithin e before now text))
 
 -- Of what was pending and a text behind it a front was appended, and the rest is pending now.
 pub record Gathers (old new : Option (List ℕ)) (before text after : List ℕ) : Type 0 where

@@ -1,7 +1,10 @@
 pub mod Device
 pub mod Script
+pub mod Lines
 pub mod Answer
+pub mod Counts
 pub mod Answered
 pub mod Status
 pub mod Words
+pub mod Commands
 pub mod Run

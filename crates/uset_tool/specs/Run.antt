@@ -11,10 +11,12 @@ use Rattle.prop_data.specs.TableText.{table_fault, tables_in}
 use Rattle.uset_tool.specs.declared.status.Status.{Status}
 use Rattle.uset_tool.specs.declared.status.Status.TheVariants.{Done, SomeErr, Usage, Tables, ReadFault, WriteFault, NoMemory, NotText, TooLong}
 use Rattle.uset_tool.specs.declared.sink.WriteError.TheVariants.{Failed, NoMemory as OutOfMemory}
+use Rattle.uset_variables.specs.Variables.{no_variables}
 use Rattle.uset_tool.specs.Answer.{ScriptAnswer}
+use Rattle.uset_tool.specs.Counts.{counts_text}
 use Rattle.uset_tool.specs.Answered.{AnswersScript}
 use Rattle.uset_tool.specs.Device.{limit, Appends, IsFront, IsProperFront, TookFront}
-use Rattle.uset_tool.specs.Words.{is_known, table_fault_text, usage_text, not_text_text, too_long_text}
+use Rattle.uset_tool.specs.Words.{Command, evaluate, count_tables, command_of, is_known, table_fault_text, usage_text, not_text_text, too_long_text}
 
 -- the lines of an input through its first line that is `end` alone: the table text
 abbrev pub table_lines : List ℕ → List (List ℕ)
@@ -29,16 +31,26 @@ pub data Evaluates (input : List ℕ) : List ℕ → Status → Type 0 where
   faulty_tables : (fault : TableError) → table_fault (table_lines input) ≡ Some fault →
       Evaluates input (table_fault_text fault) Tables
   script : table_fault (table_lines input) ≡ None → (text : List ℕ) (errs : Bool) →
-      ScriptAnswer (tables_in (table_lines input)) (script_lines input) text errs →
+      ScriptAnswer (tables_in (table_lines input)) no_variables (script_lines input) text errs →
       Evaluates input text (if errs then SomeErr else Done)
+
+-- The number of tables of each kind in an input that is a table text and nothing else.
+pub data Counts (input : List ℕ) : List ℕ → Status → Type 0 where
+  faulty_text : (fault : TableError) → table_fault (lines input) ≡ Some fault → Counts input (table_fault_text fault) Tables
+  counted : table_fault (lines input) ≡ None → Counts input (counts_text (tables_in (lines input))) Done
+
+-- what a command answers to an input that is text
+abbrev pub Results : Command → List ℕ → List ℕ → Status → Type 0
+Results evaluate input text status = Evaluates input text status
+Results count_tables input text status = Counts input text status
 
 -- The answer to the words and the input, and its status: of the words first, then of the length, then of UTF-8.
 pub data Answers (words : List (List ℕ)) (input : List ℕ) : List ℕ → Status → Type 0 where
   usage : is_known words ≡ false → Answers words input usage_text Usage
   too_long : is_known words ≡ true → limit < length input → Answers words input too_long_text TooLong
   not_text : is_known words ≡ true → length input ≤ limit → is_utf8 input ≡ false → Answers words input not_text_text NotText
-  evaluates : {text : List ℕ} {status : Status} → is_known words ≡ true → length input ≤ limit → is_utf8 input ≡ true →
-      Evaluates input text status → Answers words input text status
+  evaluates : {text : List ℕ} {status : Status} (command : Command) → command_of words ≡ Some command → length input ≤ limit → is_utf8 input ≡ true →
+      Results command input text status → Answers words input text status
 
 -- the answers of an input, each a text and a status
 abbrev pub AnswersOf : Type 1
@@ -88,12 +100,16 @@ abbrev pub SaysError : LoadError → Option (List ℕ) → Option (List ℕ) →
 SaysError (Table fault) old new result = Says old new (table_fault_text fault) Tables result
 SaysError LoadRefused old new result = (new ≡ old) × (result ≡ NoMemory)
 
+-- the counts were said, or nothing where memory was refused
+abbrev pub SaysCounts : Members → Option (List ℕ) → Option (List ℕ) → Status → Type 0
+SaysCounts tables old new result = Says old new (counts_text tables) Done result ⊎ ((new ≡ old) × (result ≡ NoMemory))
+
 -- the answers to the lines of a script with a status
 abbrev pub ScriptWrites : Members → List (List ℕ) → Option (List ℕ) → Option (List ℕ) → Status → Type 0
-ScriptWrites tables ls old new Done = AnswersScript tables ls old new (Ok false)
-ScriptWrites tables ls old new SomeErr = AnswersScript tables ls old new (Ok true)
-ScriptWrites tables ls old new WriteFault = AnswersScript tables ls old new (Err Failed)
-ScriptWrites tables ls old new NoMemory = AnswersScript tables ls old new (Err OutOfMemory)
+ScriptWrites tables ls old new Done = AnswersScript tables no_variables ls old new (Ok false)
+ScriptWrites tables ls old new SomeErr = AnswersScript tables no_variables ls old new (Ok true)
+ScriptWrites tables ls old new WriteFault = AnswersScript tables no_variables ls old new (Err Failed)
+ScriptWrites tables ls old new NoMemory = AnswersScript tables no_variables ls old new (Err OutOfMemory)
 ScriptWrites tables ls old new Usage = ⊥
 ScriptWrites tables ls old new Tables = ⊥
 ScriptWrites tables ls old new ReadFault = ⊥
@@ -117,12 +133,18 @@ IsLeft input left NoMemory = TookFront input left (limit + 1)
 abbrev pub IsSettled : AnswersOf → Status → Type 0
 IsSettled A result = (text : List ℕ) (status : Status) → A text status → (result ≡ status) ⊎ (result ≡ NoMemory)
 
+-- the lines of an input that are its table text
+abbrev pub text_lines : Command → List ℕ → List (List ℕ)
+text_lines evaluate input = table_lines input
+text_lines count_tables input = lines input
+
 -- the words are known, and the input is within the limit, is text, and has a table text without a fault
 pub record IsAccepted (words : List (List ℕ)) (input : List ℕ) : Type 0 where
-  pub known : is_known words ≡ true
+  pub command : Command
+  pub known : command_of words ≡ Some command
   pub within : length input ≤ limit
   pub text : is_utf8 input ≡ true
-  pub tables : table_fault (table_lines input) ≡ None
+  pub tables : table_fault (text_lines command input) ≡ None
 
 -- all lines were answered, or memory was refused
 abbrev pub IsAnswered : Status → Type 0

@@ -1,14 +1,31 @@
 -- The words after the program's name, and the texts that the program says.
-use Rattle.std.specs.Prelude.{ℕ, Bool, false, List, [], ◌∷◌, ◌++◌, codes, decimal}
+use Rattle.std.specs.Prelude.{ℕ, Bool, List, [], ◌∷◌, ◌++◌, codes, decimal, Option, Some, None, is_some, if◌then◌else◌}
 use Rattle.std.specs.Str.{bytes_eq}
 use Rattle.prop_data.specs.declared.error.TableError.{TableError}
 use Rattle.prop_data.specs.TableErrorKind.{kind_name}
 
--- the words are a known list, which `eval` alone is
+-- What the words ask for.
+pub data Command : Type 0 where
+  -- the answers to the lines of a script behind a table text
+  evaluate : Command
+  -- the number of tables of each kind in a table text
+  count_tables : Command
+
+-- the one word is that of a command
+abbrev pub command_named : List ℕ → Option Command
+command_named word =
+    if bytes_eq word (codes "eval") then Some evaluate
+    else if bytes_eq word (codes "tables") then Some count_tables
+    else None
+
+abbrev pub command_of : List (List ℕ) → Option Command
+command_of [] = None
+command_of (word ∷ []) = command_named word
+command_of (word ∷ other ∷ more) = None
+
+-- the words are a known list
 abbrev pub is_known : List (List ℕ) → Bool
-is_known [] = false
-is_known (word ∷ []) = bytes_eq word (codes "eval")
-is_known (word ∷ other ∷ more) = false
+is_known words = is_some (command_of words)
 
 -- the answer to a table text with a fault
 abbrev pub table_fault_text : TableError → List ℕ

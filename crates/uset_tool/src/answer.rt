@@ -1,14 +1,13 @@
-//! Answers to the lines of a script.
-ghost use Rattle.std.specs.Prelude.{◌≡◌, ◌-◌, map, replicate, ◌++◌, ◌∷◌, [], ◌≤◌, IfOk, OnOk, false, true, codes, option_map};
+//! Answers to patterns.
+ghost use Rattle.std.specs.Prelude.{◌≡◌, map, ◌++◌, IfOk, OnOk, true, codes};
 ghost use Rattle.cp_invlist.specs.InversionList.{contains};
-ghost use Rattle.std.specs.Fmt.{digits};
 ghost use Rattle.std.specs.List.{flat_map};
 ghost use Rattle.std.specs.Str.{chars};
 ghost use Rattle.std.specs.String.{string_bytes};
 ghost use Rattle.prop_data.specs.Database.{tables_of};
-ghost use Rattle.uset_tool.specs.Answer.{code_point_text, range_text, linked, string_text, line_end, LineAnswer, PatternAnswer, AppendsMembers, IsReadAnswer, IsFaultAnswer};
-ghost use Rattle.uset_parse.specs.Fault.{kind_of};
-ghost use Rattle.uset_tool.specs.Script.{script_line, stripped, is_silent};
+ghost use Rattle.uset_variables.specs.Variables.{variables_of};
+ghost use Rattle.uset_reader.specs.Syntaxes.{language_of};
+ghost use Rattle.uset_tool.specs.Answer.{code_point_text, range_text, linked, string_text, line_end, PatternAnswer, AppendsMembers, IsReadAnswer, IsFaultAnswer};
 
 use cp_invlist::{CodePointInversionList, CodePointRange, NoMemory};
 use cp_strset::CodePointInversionListAndStringList;
@@ -110,8 +109,8 @@ fn answer_read(
     })
 }
 
-/// The answer to a pattern with a fault, or to a line that is none.
-fn answer_err(alloc: Global, words: &str) -> Result<Answer, AllocError>
+/// The answer that says why a line is not answered otherwise.
+pub(crate) fn answer_err(alloc: Global, words: &str) -> Result<Answer, AllocError>
     ensures text { IfOk result (λ a. string_bytes a.text ≡ codes "err " ++ (words.now ++ line_end)) }
     ensures err { IfOk result (λ a. a.is_err ≡ true) }
 {
@@ -120,8 +119,12 @@ fn answer_err(alloc: Global, words: &str) -> Result<Answer, AllocError>
 }
 
 /// The answer to a pattern with a fault.
-fn answer_fault(alloc: Global, source: &str, error: ParseError) -> Result<Answer, NoMemory>
-    ensures { IfOk result (IsFaultAnswer (kind_of error)) }
+pub(crate) fn answer_fault(
+    alloc: Global,
+    source: &str,
+    error: ParseError,
+) -> Result<Answer, NoMemory>
+    ensures { IfOk result (IsFaultAnswer error source.now) }
 {
     if let ParseErrorKind::NoMemory = error.kind() {
         return Err(NoMemory);
@@ -131,52 +134,16 @@ fn answer_fault(alloc: Global, source: &str, error: ParseError) -> Result<Answer
 }
 
 /// The answer to a pattern.
-fn answer_pattern(
+pub(crate) fn answer_pattern(
     alloc: Global,
     source: &str,
+    variables: &VariableMap,
     database: &PropertyDatabase,
 ) -> Result<Answer, NoMemory>
-    ensures { IfOk result (λ a. PatternAnswer (tables_of database.now) source.now (string_bytes a.text) a.is_err) }
+    ensures { IfOk result (λ a. PatternAnswer (language_of (variables_of variables.now) (tables_of database.now)) source.now (string_bytes a.text) a.is_err) }
 {
-    match parse_unstable_with_variables(alloc, source, &VariableMap::new(alloc), database) {
+    match parse_unstable_with_variables(alloc, source, variables, database) {
         Ok((set, length)) => answer_read(alloc, &set, length),
         Err(error) => answer_fault(alloc, source, error),
-    }
-}
-
-/// What stands behind `pat `, where the line begins with it.
-fn strip_pat(line: &str) -> Option<&str>
-    ensures { option_map (λ rest. rest.now) result ≡ stripped (codes "pat ") line.now }
-{
-    line.strip_prefix("pat ")
-}
-
-fn is_silent(line: &str) -> bool
-    ensures { result ≡ is_silent line.now }
-{
-    match line.as_bytes().first() {
-        Some(byte) => *byte == b'#',
-        None => true,
-    }
-}
-
-/// The answer to a line of a script.
-#[tactic(auto, unfolding(crate::specs::Script::script_line))]
-pub(crate) fn answer_line(
-    alloc: Global,
-    line: &str,
-    database: &PropertyDatabase,
-) -> Result<Answer, NoMemory>
-    ensures { IfOk result (λ a. LineAnswer (tables_of database.now) (script_line line.now) (string_bytes a.text) a.is_err) }
-{
-    if is_silent(line) {
-        return Ok(Answer {
-            text: String::new(alloc),
-            is_err: false,
-        });
-    }
-    match strip_pat(line) {
-        Some(source) => answer_pattern(alloc, source, database),
-        None => Ok(answer_err(alloc, "bad line")?),
     }
 }

@@ -2,7 +2,10 @@
 #![tactic(auto)]
 
 mod answer;
+mod binding;
+mod counts;
 mod input;
+mod line;
 mod program;
 mod script;
 mod sink;

@@ -2,11 +2,14 @@
 ghost use Rattle.std.specs.Prelude.{◌≡◌, ◌≢◌, ◌≤◌, true, false, map, IfSome, codes};
 ghost use Rattle.std.specs.String.{string_bytes};
 ghost use Rattle.uset_tool.specs.Device.{Rose, NoFault};
+ghost use Rattle.uset_tool.specs.Commands.{command_seen};
 ghost use Rattle.uset_tool.specs.Words.{is_known, table_fault_text};
 ghost use Rattle.text_lines.specs.Lines.{lines};
 ghost use Rattle.prop_data.specs.Database.{tables_of};
-ghost use Rattle.uset_tool.specs.Run.{Answers, Evaluates, Writes, IsLeft, IsSettled, IsAccepted, IsAnswered, EndsAs, Says, SaysError, ScriptWrites, is_of_text};
+ghost use Rattle.prop_data.specs.Forbidden.{AreAllowed};
+ghost use Rattle.uset_tool.specs.Run.{Answers, Results, Evaluates, Counts, SaysCounts, Writes, IsLeft, IsSettled, IsAccepted, IsAnswered, EndsAs, Says, SaysError, ScriptWrites, is_of_text};
 
+use crate::counts::counts_text;
 use crate::input::{InputError, read_input};
 use crate::script::answer_script;
 use crate::sink::{Sink, WriteError, write_all};
@@ -16,10 +19,11 @@ use crate::table_fault::table_fault_text;
 use crate::words::{Command, find_command};
 use cp_invlist::laws::one_list_of_ranges;
 use cp_strset::laws::one_list;
+use prop_data::laws::allowed_sets;
 use prop_data::{LoadError, PropertyDatabase, TableError};
 use std::alloc::Global;
 use text_lines::split_behind;
-use uset_parse::laws::{no_fault_of_a_reading, one_fault, one_reading};
+use uset_parse::laws::one_answer;
 
 /// Writes a text, and gives the status that is wanted where all of it was written.
 fn say<K: Sink>(sink: &mut K, text: &str, wanted: Status) -> Status
@@ -59,8 +63,21 @@ fn say_load_error<K: Sink>(alloc: Global, error: LoadError, sink: &mut K) -> Sta
     }
 }
 
+/// Says how many tables of each kind there are.
+fn say_counts<K: Sink>(alloc: Global, database: &PropertyDatabase, sink: &mut K) -> Status
+    ensures says { SaysCounts (tables_of database.now) (K.written sink.old) (K.written sink.new) result }
+    ensures failed { result ≡ Status.WriteFault → Rose (K.faults sink.old) (K.faults sink.new) }
+    ensures counted { K.faults sink.old ≤ K.faults sink.new }
+{
+    match counts_text(alloc, database) {
+        Ok(text) => say(sink, &text, Status::Done),
+        Err(_) => Status::NoMemory,
+    }
+}
+
 /// Answers the lines of a script.
 fn answer<K: Sink>(alloc: Global, script: &str, database: &PropertyDatabase, sink: &mut K) -> Status
+    requires { AreAllowed (tables_of database.now) }
     ensures written { ScriptWrites (tables_of database.now) (lines script.now) (K.written sink.old) (K.written sink.new) result }
     ensures failed { result ≡ Status.WriteFault → Rose (K.faults sink.old) (K.faults sink.new) }
     ensures counted { K.faults sink.old ≤ K.faults sink.new }
@@ -80,10 +97,37 @@ fn eval<K: Sink>(alloc: Global, input: &str, sink: &mut K) -> Status
     ensures failed { result ≡ Status.WriteFault → Rose (K.faults sink.old) (K.faults sink.new) }
     ensures counted { K.faults sink.old ≤ K.faults sink.new }
 {
+    allowed_sets();
     let (tables, script) = split_behind(input, b"end");
     match PropertyDatabase::from_text(alloc, tables) {
         Ok(database) => answer(alloc, script, &database, sink),
         Err(error) => say_load_error(alloc, error, sink),
+    }
+}
+
+/// Answers an input that is text and a table text alone: how many tables of each kind it has.
+fn count<K: Sink>(alloc: Global, input: &str, sink: &mut K) -> Status
+    ensures written { Writes (Counts input.now) (K.written sink.old) (K.written sink.new) result }
+    ensures status { is_of_text result ≡ true }
+    ensures failed { result ≡ Status.WriteFault → Rose (K.faults sink.old) (K.faults sink.new) }
+    ensures counted { K.faults sink.old ≤ K.faults sink.new }
+{
+    match PropertyDatabase::from_text(alloc, input) {
+        Ok(database) => say_counts(alloc, &database, sink),
+        Err(error) => say_load_error(alloc, error, sink),
+    }
+}
+
+/// Answers an input that is text.
+fn answer_text<K: Sink>(alloc: Global, command: Command, input: &str, sink: &mut K) -> Status
+    ensures written { Writes (Results (command_seen command) input.now) (K.written sink.old) (K.written sink.new) result }
+    ensures status { is_of_text result ≡ true }
+    ensures failed { result ≡ Status.WriteFault → Rose (K.faults sink.old) (K.faults sink.new) }
+    ensures counted { K.faults sink.old ≤ K.faults sink.new }
+{
+    match command {
+        Command::Eval => eval(alloc, input, sink),
+        Command::Tables => count(alloc, input, sink),
     }
 }
 
@@ -103,7 +147,7 @@ fn answer_words<S: Source, K: Sink>(
     ensures read_fault { result ≡ Status.ReadFault → Rose (S.faults source.old) (S.faults source.new) }
     ensures write_fault { result ≡ Status.WriteFault → Rose (K.faults sink.old) (K.faults sink.new) }
 {
-    let Some(Command::Eval) = find_command(words) else {
+    let Some(command) = find_command(words) else {
         return say(sink, "usage: uset COMMAND\n", Status::Usage);
     };
     let input = match read_input(alloc, source) {
@@ -113,14 +157,14 @@ fn answer_words<S: Source, K: Sink>(
         Err(InputError::NoMemory) => return Status::NoMemory,
     };
     match str::from_utf8(&input) {
-        Ok(text) => eval(alloc, text, sink),
+        Ok(text) => answer_text(alloc, command, text, sink),
         Err(_) => say(sink, "input is not UTF-8\n", Status::NotText),
     }
 }
 
 /// Runs the program: the words after its name, the bytes of the source, and the answer to the sink.
-/// The one known list of words is `eval`: the input is a table text through its first line that is
-/// `end` alone, and then a script. At most 2^23 bytes are an input. What is
+/// The known lists of words are `eval`, where the input is a table text through its first line that is
+/// `end` alone and then a script, and `tables`, where it is a table text. At most 2^23 bytes are an input. What is
 /// written is the answer that the grammar and the tables give, as `written` says; `settled` and
 /// `complete` say that without a fault of the source or the sink no other end comes but want of
 /// memory.
@@ -150,9 +194,8 @@ pub fn run<S: Source, K: Sink>(
         IsAccepted (map string_bytes words.now.items) input → IsAnswered result)) }
 {
     // The laws by which an input has one answer.
-    one_reading();
-    no_fault_of_a_reading();
-    one_fault();
+    allowed_sets();
+    one_answer();
     one_list_of_ranges();
     one_list();
     answer_words(alloc, words, source, sink)

@@ -2,17 +2,20 @@
 ghost use Rattle.std.specs.Prelude.{◌≡◌, ◌≤◌, Err};
 ghost use Rattle.text_lines.specs.Lines.{lines};
 ghost use Rattle.prop_data.specs.Database.{tables_of};
+ghost use Rattle.prop_data.specs.Forbidden.{AreAllowed};
+ghost use Rattle.uset_variables.specs.Variables.{no_variables};
 ghost use Rattle.uset_tool.specs.Answered.{AnswersScript};
 ghost use Rattle.uset_tool.specs.Device.{Rose};
 
-use crate::answer::answer_line;
+use crate::binding::answer_line;
 use crate::sink::{Sink, WriteError, gather, write_all};
 use cp_invlist::laws::one_list_of_ranges;
 use cp_strset::laws::one_list;
 use prop_data::PropertyDatabase;
 use std::alloc::Global;
 use text_lines::split_line;
-use uset_parse::laws::{no_fault_of_a_reading, one_fault, one_reading};
+use uset_parse::VariableMap;
+use uset_parse::laws::one_answer;
 
 /// Answers the lines of a script one by one. The answers are gathered into pieces, which are written as
 /// they are full. Tells whether an `err` line is among the answers.
@@ -22,21 +25,21 @@ pub(crate) fn answer_script<K: Sink>(
     database: &PropertyDatabase,
     sink: &mut K,
 ) -> Result<bool, WriteError>
-    ensures written { AnswersScript (tables_of database.now) (lines script.now) (K.written sink.old) (K.written sink.new) result }
+    requires { AreAllowed (tables_of database.now) }
+    ensures written { AnswersScript (tables_of database.now) no_variables (lines script.now) (K.written sink.old) (K.written sink.new) result }
     ensures failed { result ≡ Err WriteError.Failed → Rose (K.faults sink.old) (K.faults sink.new) }
     ensures counted { K.faults sink.old ≤ K.faults sink.new }
 {
     // The laws by which a line has one answer, so that what is written begins every answer.
-    one_reading();
-    no_fault_of_a_reading();
-    one_fault();
+    one_answer();
     one_list_of_ranges();
     one_list();
     let mut rest = script;
     let mut has_err = false;
+    let mut variables = VariableMap::new(alloc);
     let mut pending = Vec::new(alloc);
     while let Some((line, behind)) = split_line(rest) {
-        let answer = answer_line(alloc, line, database)?;
+        let answer = answer_line(alloc, line, &mut variables, database)?;
         gather(sink, &mut pending, answer.text.as_bytes())?;
         has_err |= answer.is_err;
         rest = behind;

@@ -1,22 +1,26 @@
 //! The words after the program's name.
-ghost use Rattle.std.specs.Prelude.{◌≡◌, true, false, map, IfNone, IfSome};
+ghost use Rattle.std.specs.Prelude.{◌≡◌, None, Some, map, IfNone, IfSome};
 ghost use Rattle.std.specs.String.{string_bytes};
-ghost use Rattle.uset_tool.specs.Words.{is_known};
+ghost use Rattle.uset_tool.specs.Words.{command_of};
+ghost use Rattle.uset_tool.specs.Commands.{command_seen};
 
 /// What the words ask for.
 #[derive(Clone, Copy, Drop)]
 pub(crate) enum Command {
     /// `eval`: the input is a table text and a script behind it.
     Eval,
+    /// `tables`: the input is a table text, whose tables are counted.
+    Tables,
 }
 
 /// The command that the words are, where they are a known list.
 pub(crate) fn find_command(words: &[String]) -> Option<Command>
-    ensures known { IfSome result (λ _. is_known (map string_bytes words.now) ≡ true) }
-    ensures unknown { IfNone result (is_known (map string_bytes words.now) ≡ false) }
+    ensures known { IfSome result (λ c. command_of (map string_bytes words.now) ≡ Some (command_seen c)) }
+    ensures unknown { IfNone result (command_of (map string_bytes words.now) ≡ None) }
 {
     match words {
         [word] if word.as_str() == "eval" => Some(Command::Eval),
+        [word] if word.as_str() == "tables" => Some(Command::Tables),
         _ => None,
     }
 }

@@ -1,0 +1,211 @@
+//! Patterns that are refused, with the place of each fault.
+use crate::fixtures::{
+    TABLES, assert_answer, assert_fault, assert_faults, assert_unexpected, eval,
+};
+use crate::run_in_memory;
+use std::test::Fail;
+
+/// Patterns that end where more is due.
+const ENDS: [&str; 34] = [
+    "",
+    "$",
+    "[",
+    "[a-z[\\]]",
+    "[a^",
+    "[a-[b]",
+    "[a-[b",
+    "[a-[bc",
+    "[a-[b ",
+    "[a-",
+    "[a",
+    "[a ",
+    "[ ",
+    "[^",
+    "[ - ",
+    "[[a]",
+    "[[a]&",
+    "[{",
+    "[{]",
+    "[{ab}",
+    "[\\",
+    "[\\x",
+    "[\\x6",
+    "[\\u{",
+    "[\\u{61",
+    "[\\u{61 ",
+    "[\\u006",
+    "[\\U0000006",
+    "[{\\x6",
+    "[{\\u{D800 ",
+    "[a{b",
+    "[$a",
+    "[$s",
+    "[$",
+];
+
+/// Patterns with a character that cannot stand there, the last one of the front.
+const UNEXPECTED: [(&str, &str); 43] = [
+    ("[a^]", "[a^"),
+    ("[a-[b^]]", "[a-[b^"),
+    ("[a-[b]]", "[a-["),
+    ("[a-[b]x", "[a-["),
+    ("[a-{bc}", "[a-{"),
+    ("[a-{}]", "[a-{"),
+    ("[a&b]", "[a&"),
+    ("[a-&]", "[a-&"),
+    ("[&]", "[&"),
+    ("[--a]", "[--a"),
+    ("[a-b-z]", "[a-b-z"),
+    ("[[set]&b]", "[[set]&b"),
+    ("[[set]&]", "[[set]&]"),
+    ("[[set]&&]", "[[set]&&"),
+    ("[[a]-b]", "[[a]-b"),
+    ("[{ab}-c]", "[{ab}-c"),
+    ("[$a-$ ]", "[$a-$"),
+    ("[$=]", "[$="),
+    ("[$ a]", "[$ a"),
+    ("[ ^]", "[ ^"),
+    ("[z-y]", "[z-y"),
+    ("[z-$a]", "[z-$a"),
+    ("[z-$a", "[z-$a"),
+    ("[\\xe5-ä]", "[\\xe5-ä"),
+    ("[\\xag]", "[\\xag"),
+    ("[\\x{6g}]", "[\\x{6g"),
+    ("[\\x{g}]", "[\\x{g"),
+    ("[\\x{}]", "[\\x{}"),
+    ("[\\x{10ffff0}]", "[\\x{10ffff0"),
+    ("[\\x{10ffff 1 10ffff0}]", "[\\x{10ffff 1 10ffff0"),
+    ("[\\x{61 62}-d]", "[\\x{61 62}-d"),
+    ("[\\u{61-62}]", "[\\u{61-"),
+    ("[\\u00 61]", "[\\u00 "),
+    ("ä", "ä"),
+    ("a]", "a"),
+    ("]", "]"),
+    ("^", "^"),
+    ("-", "-"),
+    ("{a}", "{"),
+    (" [a]", " "),
+    ("\\x41", "\\x"),
+    ("$=", "$"),
+    ("$ a", "$"),
+];
+
+/// Patterns with their fronts and the words of their faults.
+const OTHERS: [(&str, &str, &str); 15] = [
+    ("[a-\\u{41 42}]", "[a-\\", "unexpected character '\\\\'"),
+    ("[a-\\u{41 4", "[a-\\", "unexpected character '\\\\'"),
+    (
+        "[\\x{61 63}-\\x{62 64}]",
+        "[\\x{61 63}-\\",
+        "unexpected character '\\\\'",
+    ),
+    ("[\\xe5-\\xe4]", "[\\xe5-\\xe4", "unexpected character 'ä'"),
+    (
+        "[\\uD801-\\uD800]",
+        "[\\uD801-\\uD800",
+        "unexpected character '�'",
+    ),
+    (
+        "[\\uE000-\\x{DFFF}]",
+        "[\\uE000-\\x{DFFF}",
+        "unexpected character '�'",
+    ),
+    ("[z-{a}]", "[z-{a}", "unexpected character 'a'"),
+    ("[z-\\x{ 61 }]", "[z-\\x{ 61 }", "unexpected character 'a'"),
+    ("[z-\\a]", "[z-\\a", "unexpected character '\\u{7}'"),
+    ("[z-'", "[z-'", "unexpected end of input"),
+    ("[z-']", "[z-'", "unexpected character '\\''"),
+    ("[\\N{DASH}]", "[\\N", "unimplemented"),
+    ("[\\N", "[\\N", "unimplemented"),
+    ("[{\\N}]", "[{\\N", "unimplemented"),
+    ("[{a\\N", "[{a\\N", "unimplemented"),
+];
+
+/// Patterns with an escape that is no code point, or no character in a string.
+const INVALID: [(&str, &str); 12] = [
+    ("[\\x{dabeef}]", "[\\x{dabeef"),
+    ("[\\x{11ffff}]", "[\\x{11ffff"),
+    ("[\\x{11ffff", "[\\x{11ffff"),
+    ("[\\U00110000]", "[\\U00110000"),
+    ("[\\x{61 110000}]", "[\\x{61 110000"),
+    ("[{\\uD800}]", "[{\\"),
+    ("[{a\\x{DFFF}}]", "[{a\\"),
+    ("[{\\u{D800 62}}]", "[{\\"),
+    ("[{\\u{D800 6", "[{\\"),
+    ("[{\\u{61 62 D800 63}}]", "[{\\u{61 62 D"),
+    ("[{\\u{61 D800}}]", "[{\\u{61 D"),
+    ("[{\\u{61 D800 ", "[{\\u{61 D"),
+];
+
+/// Patterns with a variable that is bound to nothing.
+const UNKNOWN: [(&str, &str); 9] = [
+    ("[$zz]", "[$zz"),
+    ("[$zz", "[$zz"),
+    ("$zz", "$zz"),
+    ("[$zz x]", "[$zz"),
+    ("[$ab]", "[$ab"),
+    ("[a-$zz]", "[a-$zz"),
+    ("[$A]", "[$A"),
+    ("[$a_]", "[$a_"),
+    ("$sx", "$sx"),
+];
+
+/// Patterns with a variable that cannot stand there.
+const UNFIT: [(&str, &str); 12] = [
+    ("[$$a]", "[$$a"),
+    ("$a", "$a"),
+    ("$v", "$v"),
+    ("$a]", "$a"),
+    ("[$v-$a]", "[$v-$a"),
+    ("[$s-$a]", "[$s-$a"),
+    ("[$a-$s]", "[$a-$s"),
+    ("[a-$s]", "[a-$s"),
+    ("[a-$v]", "[a-$v"),
+    ("[a-$s", "[a-$s"),
+    ("[$s&$v]", "[$s&$v"),
+    ("[--$a]", "[--$a"),
+];
+
+#[test]
+fn faults_stand_at_their_places(rt: HostRuntime) -> Result<(), Fail> {
+    let alloc = rt.alloc();
+    for pattern in ENDS {
+        assert_fault(&rt, alloc, pattern, pattern, "unexpected end of input")?;
+    }
+    assert_unexpected(&rt, alloc, UNEXPECTED.as_slice())?;
+    for (pattern, front, words) in OTHERS {
+        assert_fault(&rt, alloc, pattern, front, words)?;
+    }
+    assert_faults(&rt, alloc, INVALID.as_slice(), "invalid escape sequence")?;
+    assert_faults(&rt, alloc, UNKNOWN.as_slice(), "unknown variable")?;
+    assert_faults(&rt, alloc, UNFIT.as_slice(), "unexpected variable")
+}
+
+#[test]
+fn each_front_of_a_pattern_ends_where_more_is_due(rt: HostRuntime) -> Result<(), Fail> {
+    let mut front = String::new(rt.alloc());
+    for c in "[^{h\\u{65}llo\\ world}]".chars() {
+        assert_fault(&rt, rt.alloc(), &front, &front, "unexpected end of input")?;
+        front.push(c)?;
+    }
+    let answer = "ok 22 0000-10FFFF\n";
+    let line = format!(in rt.alloc(); "pat {front}")?;
+    assert_answer(&rt, rt.alloc(), &line, answer, 0)
+}
+
+#[test]
+fn a_million_brackets_or_letters_are_faults_at_their_end(rt: HostRuntime) -> Result<(), Fail> {
+    let alloc = rt.alloc();
+    let brackets = "[".repeat(alloc, 1_000_000)?;
+    let name = "a".repeat(alloc, 1_000_000)?;
+    let input = format!(in alloc;
+        "{TABLES}pat {brackets}\npat [${name}]\nlet {name} char 62\npat [${name}]\n"
+    )?;
+    let expected = format!(in alloc;
+        "err {brackets}← error: unexpected end of input\nerr [${name}← error: unknown variable\nbound {name}\nok 1000003 0062\n"
+    )?;
+    let (status, sink) = run_in_memory(alloc, &eval(alloc)?, input.into_bytes());
+    assert!(rt; sink.written() == expected.as_bytes());
+    assert_eq!(rt; status.code(), 1);
+    Ok(())
+}

@@ -1,0 +1,143 @@
+//! Lines that bind variables.
+use crate::fixtures::{assert_answer, assert_answers};
+use std::test::Fail;
+
+/// Scripts whose every line is answered.
+const BOUND: [(&str, &str); 14] = [
+    ("let a char 61\npat [$a]", "bound a\nok 4 0061\n"),
+    ("let a char 000061\npat [$a-c]", "bound a\nok 6 0061-0063\n"),
+    ("let a char 10FFFF\npat [$a]", "bound a\nok 4 10FFFF\n"),
+    (
+        "let a char d7ff\nlet b char E000\npat [$a-$b]",
+        "bound a\nbound b\nok 7 D7FF-E000\n",
+    ),
+    ("let a str\npat [$a]", "bound a\nok 4 {}\n"),
+    ("let a str 61\npat [$a-c]", "bound a\nok 6 0061-0063\n"),
+    (
+        "let a str 61 0062 10ffff\npat [$a$a]",
+        "bound a\nok 6 {0061_0062_10FFFF}\n",
+    ),
+    (
+        "let a set [b-c{de}]\npat $a$a\npat [^$a]\npat [$a-[b]]",
+        "bound a\nok 2 0062-0063 {0064_0065}\nok 5 0000-0061 0064-10FFFF\nok 8 0063 {0064_0065}\n",
+    ),
+    (
+        "let a char 61\nlet b set [$a-c]\nlet c set $b\npat $c x",
+        "bound a\nbound b\nbound c\nok 2 0061-0063\n",
+    ),
+    (
+        "let a char 61\nlet ab char 62\npat [$a]\npat [$ab]\npat [$a b]",
+        "bound a\nbound ab\nok 4 0061\nok 5 0062\nok 6 0061-0062\n",
+    ),
+    (
+        "let A char 61\nlet a char 62\npat [$A-$a]",
+        "bound A\nbound a\nok 7 0061-0062\n",
+    ),
+    (
+        "let ä char 61\nlet $ char 62\nlet 1 str\npat [$]",
+        "bound ä\nbound $\nbound 1\nok 3 FFFF\n",
+    ),
+    (
+        "let let char 61\nlet char str 62\nlet set set []\npat [$let$char$set]",
+        "bound let\nbound char\nbound set\nok 15 0061-0062\n",
+    ),
+    ("let s_1 char 61\npat [$s_1]", "bound s_1\nok 6 0061\n"),
+];
+
+/// Scripts with refused lines, which bind nothing.
+const REFUSED: [(&str, &str); 9] = [
+    (
+        "let a char 61\nlet set set [a-z {Hello,\\ World!}]\npat [$set-[b-z]]\npat [$a-$set]",
+        "bound a\nbound set\nok 12 0061 {0048_0065_006C_006C_006F_002C_0020_0057_006F_0072_006C_0064_0021}\nerr [$a-$set← error: unexpected variable\n",
+    ),
+    (
+        "let a char 61\nlet a char 62\nlet b set [a]x\nnonsense\npat [$a]\npat [$b]",
+        "bound a\nerr a is bound\nerr text after the set at byte 3\nerr bad line\nok 4 0061\nerr [$b← error: unknown variable\n",
+    ),
+    (
+        "let a char 61\npat [z-$a]\npat [$ a]",
+        "bound a\nerr [z-$a← error: unexpected character 'a'\nerr [$ a← error: unexpected character 'a'\n",
+    ),
+    ("let t set [a-b]x", "err text after the set at byte 5\n"),
+    ("let t set [ä] ", "err text after the set at byte 4\n"),
+    (
+        "let a str 61 62\nlet a str\nlet a set [\nlet a set [b]x\npat [$a]",
+        "bound a\nerr a is bound\nerr a is bound\nerr a is bound\nok 4 {0061_0062}\n",
+    ),
+    (
+        "let a char 61\nlet a char\nlet a str zz\nlet a",
+        "bound a\nerr bad line\nerr bad line\nerr bad line\n",
+    ),
+    (
+        "let a set \nlet a set [b\nlet a set [z-y]\nlet a set $b\npat [$a]\nlet a set [b]\npat $a",
+        "err ← error: unexpected end of input\nerr [b← error: unexpected end of input\nerr [z-y← error: unexpected character 'y'\nerr $b← error: unknown variable\nerr [$a← error: unknown variable\nbound a\nok 2 0062\n",
+    ),
+    (
+        "let b set [$b]\nlet b set [b-$b]",
+        "err [$b← error: unknown variable\nerr [b-$b← error: unknown variable\n",
+    ),
+];
+
+/// Lines that have no form.
+const BAD: [&str; 47] = [
+    "let",
+    "let ",
+    "let a",
+    "let a ",
+    "let  char 61",
+    "let  a char 61",
+    "let a  char 61",
+    "let a char",
+    "let a char ",
+    "let a char  61",
+    "let a char 61 ",
+    "let a char 61 62",
+    "let a char 6g",
+    "let a char +61",
+    "let a char U+61",
+    "let a char 0x61",
+    "let a char 0000061",
+    "let a char 110000",
+    "let a char D800",
+    "let a char DFFF",
+    "let a char ffffff",
+    "let a char\t61",
+    "let a str ",
+    "let a str  61",
+    "let a str61",
+    "let a str 61  62",
+    "let a str 61 ",
+    "let a str D800",
+    "let a str 61 DFFF",
+    "let a str 0000061",
+    "let a str 110000",
+    "let a str x",
+    "let a set",
+    "let a sets [b]",
+    "let a Char 61",
+    "let a 61",
+    "let\ta char 61",
+    "Let a char 61",
+    " let a char 61",
+    "pat",
+    "pat\t[a]",
+    " pat [a]",
+    "Pat [a]",
+    "nonsense",
+    " ",
+    " # no comment",
+    "letters",
+];
+
+#[test]
+fn names_are_bound_once_by_lines_of_their_form(rt: HostRuntime) -> Result<(), Fail> {
+    let alloc = rt.alloc();
+    assert_answers(&rt, alloc, BOUND.as_slice(), 0)?;
+    assert_answers(&rt, alloc, REFUSED.as_slice(), 1)?;
+    for line in BAD {
+        let lines = format!(in alloc; "{line}\npat [$a]")?;
+        let answers = "err bad line\nerr [$a← error: unknown variable\n";
+        assert_answer(&rt, alloc, &lines, answers, 1)?;
+    }
+    Ok(())
+}
