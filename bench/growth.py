@@ -1,7 +1,7 @@
 #!/usr/bin/env python3
 """Times `uset eval` on inputs of growing size, and prints the time a byte, so that growth shows: first for
-patterns and tables of each kind, then for sets that take many steps; and the memory that brackets inside one
-another take.
+patterns, then for tables of each kind, for properties and variables, for sources with a fault at their end, and for
+sets that take many steps; and the memory that brackets inside one another take.
 
 Usage: bench/growth.py [PROGRAM]. PROGRAM is crates/uset/out/uset, which `rt run` in crates/uset builds.
 Each input is timed REPEATS times, and the least processor time stands in the table: others may use the
@@ -135,6 +135,27 @@ def strings_outwards(count):
     return TABLES + "pat " + "[" * count + string_base(count) + behind + "\n"
 
 
+def properties(count):
+    """A script of one pattern of this many properties, one behind another."""
+    return TABLES + "pat [" + "[:XIDS:]" * count + "]\n"
+
+
+def variables(count):
+    """A script of this many variables, and of one pattern that names each."""
+    bound = "".join(f"let v{index:06d} char {0x10000 + 2 * index:X}\n" for index in range(count))
+    return TABLES + bound + "pat [" + "".join(f"$v{index:06d} " for index in range(count)) + "]\n"
+
+
+def unclosed(front, middle):
+    """What makes a script of one pattern that ends too soon, behind `front` and as many of `middle`."""
+    return lambda count: TABLES + "pat " + front + middle * count + "\n"
+
+
+def unknown_property(length):
+    """A script of one pattern of one property that no table has, with a name of this many characters."""
+    return TABLES + "pat [:" + "a" * length + ":]\n"
+
+
 def rows(count):
     """A table text whose first table has this many rows more, and no script."""
     head, first = TABLES.split("set XID_Start\n", 1)
@@ -142,6 +163,63 @@ def rows(count):
     more = "".join(f"{0x10000 + 2 * index:X}\n" for index in range(count))
     return head + "set XID_Start\n" + before + more + "set " + after
 
+
+def with_table(text):
+    """A table text with one table more, and no script."""
+    return TABLES.removesuffix("end\n") + text + "end\n"
+
+
+def map_rows(count):
+    """A table text with a map of this many rows."""
+    return with_table("map Script 0\n" + "".join(f"{2 * index:X} {index % 7}\n" for index in range(count)))
+
+
+def names_rows(count):
+    """A table text with this many names of values."""
+    return with_table("names Script\n" + "".join(f"{index % 60_000} n{index}\n" for index in range(count)))
+
+
+def emoji_strings(count, order):
+    """A table text with an emoji set of this many strings, in this order."""
+    chosen = [f"{{{0x10000 + index:05X}_FE0F}}\n" for index in range(count)]
+    if order == "shuffled":
+        random.Random(1).shuffle(chosen)
+    return with_table("emoji Basic_Emoji\n" + "".join(chosen))
+
+
+def scripts_rows(count):
+    """A table text with this many rows of scripts with extensions, of which each names a list."""
+    lists = "".join(f"ext {index}\n{index}\n" for index in range(7))
+    return with_table(lists + "scx 0\n" + "".join(f"{2 * index:X} {1024 + index % 7}\n" for index in range(count)))
+
+
+def extensions(count):
+    """A table text with this many scripts in one list."""
+    return with_table("ext 0\n" + "".join(f"{index}\n" for index in range(count)))
+
+
+KINDS = [
+    ("rows of a map", map_rows, (1_000, 10_000, 100_000)),
+    ("names of values", names_rows, (1_000, 10_000, 100_000)),
+    ("emoji strings, ascending", lambda count: emoji_strings(count, "ascending"), (1_000, 10_000, 100_000)),
+    ("emoji strings, shuffled", lambda count: emoji_strings(count, "shuffled"), (1_000, 10_000, 100_000)),
+    ("scripts with extensions", scripts_rows, (1_000, 10_000, 100_000)),
+    ("scripts of one list", extensions, (1_000, 10_000, 60_000)),
+]
+
+NAMED = [
+    ("properties, one behind another", properties, (10, 1_000, 100_000)),
+    ("variables, each used once", variables, (10, 1_000, 100_000)),
+]
+
+# Each is answered with a fault at its end, or at that of the name.
+FAULTS = [
+    ("open brackets", unclosed("", "["), (1_000, 100_000, 1_000_000)),
+    ("an open string", unclosed("[{", "a"), (1_000, 100_000, 1_000_000)),
+    ("an open escape", unclosed("[\\u{", "61 "), (1_000, 100_000, 1_000_000)),
+    ("an open property", unclosed("[:", "a"), (1_000, 100_000, 1_000_000)),
+    ("a name of no property", unknown_property, (1_000, 100_000, 1_000_000)),
+]
 
 STEPS = [
     ("elements taken away", removals),
@@ -161,15 +239,15 @@ def processor_time():
     return usage.ru_utime + usage.ru_stime
 
 
-def seconds(program, text):
-    """The least processor time that the program takes for the input."""
+def seconds(program, text, status=0):
+    """The least processor time that the program takes for the input, which it ends with this status."""
     data = text.encode("utf-8")
     least = None
     for _ in range(REPEATS):
         begun = processor_time()
         run = subprocess.run([program, "eval"], input=data, stdout=subprocess.PIPE, check=False)
         taken = processor_time() - begun
-        if run.returncode != 0:
+        if run.returncode != status:
             sys.exit(f"status {run.returncode}: {run.stdout[:80]!r}")
         least = taken if least is None else min(least, taken)
     return least, len(data)
@@ -189,6 +267,18 @@ def most_steps(make):
     """The most steps that a source of at most MOST_BYTES takes."""
     each = (len(make(2_000).encode("utf-8")) - len(make(1_000).encode("utf-8"))) / 1_000
     return int(MOST_BYTES / each)
+
+
+def growing(program, start, series, status=0):
+    """Prints the time of each series at each of its counts; the program ends with this status."""
+    print()
+    print("| input | count | bytes | ms | ns a byte |")
+    print("|---|---|---|---|---|")
+    for name, make, counts in series:
+        for count in counts:
+            taken, size = seconds(program, make(count), status)
+            net = max(taken - start, 0.0)
+            print(f"| {name} | {count:,} | {size:,} | {net * 1000:.1f} | {net * 1e9 / size:.0f} |")
 
 
 def gathering(program, start):
@@ -218,8 +308,6 @@ def main():
     program = sys.argv[1] if len(sys.argv) > 1 else str(TOP / "crates" / "uset" / "out" / "uset")
     start, _ = seconds(program, lines(2))
     print(f"start: {start * 1000:.1f} ms")
-    print("| input | count | bytes | ms | ns a byte |")
-    print("|---|---|---|---|---|")
     series = [("`pat` lines", lines, (100, 1_000, 10_000, 100_000)), ("rows of a table", rows, (1_000, 10_000, 100_000))]
     for order in ("ascending", "shuffled", "descending"):
         series.append((f"elements, {order}", lambda count, order=order: elements(count, order), (1_000, 10_000, 100_000)))
@@ -231,11 +319,10 @@ def main():
     series.append(("brackets around a string", lambda depth: nested(depth, "{ab}"), (10, 1_000, 100_000, 1_000_000)))
     series.append(("sets one behind another", neighbours, (10, 1_000, 100_000)))
     series.append(("sets with operations", operations, (10, 1_000, 100_000)))
-    for name, make, counts in series:
-        for count in counts:
-            taken, size = seconds(program, make(count))
-            net = max(taken - start, 0.0)
-            print(f"| {name} | {count:,} | {size:,} | {net * 1000:.1f} | {net * 1e9 / size:.0f} |")
+    growing(program, start, series)
+    growing(program, start, KINDS)
+    growing(program, start, NAMED)
+    growing(program, start, FAULTS, status=1)
     gathering(program, start)
     memory(program)
 
