@@ -16,7 +16,7 @@ use Rattle.uset_grammar.specs.Grammar.{Sort, ItemAt, one_character, variable, un
 use Rattle.uset_grammar.specs.Reached.{is_short}
 use Rattle.uset_grammar.proofs.FrontRests.{Behind, Suffix, suffix, more, suffix_of, suffix_then, suffix_behind, single_behind, named_behind}
 
-bound : {A B : Type 0} (o : Option A) (f : A → Option B) (v : B) → (o >>= f) ≡ Some v → (u : A) × (o ≡ Some u) × (f u ≡ Some v)
+pub bound : {A B : Type 0} (o : Option A) (f : A → Option B) (v : B) → (o >>= f) ≡ Some v → (u : A) × (o ≡ Some u) × (f u ≡ Some v)
 bound None f v h = absurd (let g = h in cc)
 bound (Some u) f v h = (u, refl, h)
 
@@ -87,12 +87,12 @@ module _ (white_space : ℕ → Bool) where
   abbrev Long : Text → Text → Type 0
   Long q r = (c : ℕ) × (u : Text) × (q ≡ c ∷ u) × Behind u r
 
-  escape_long : (q : Text) (v : Spelled) (r : Text) → escape_shape white_space q ≡ Some (v, r) → Long q r
+  pub escape_long : (q : Text) (v : Spelled) (r : Text) → escape_shape white_space q ≡ Some (v, r) → Long q r
   escape_long q v r h =
       let b = bound (behind_code 0x5C q) (escape_at white_space) (v, r) h in
       (0x5C, b.0, behind_is 0x5C q b.0 b.1, escape_at_behind b.0 v r b.2)
 
-  long_behind : (q r : Text) → Long q r → Behind q r
+  pub long_behind : (q r : Text) → Long q r → Behind q r
   long_behind q r (c, u, e, b) = subst (λ z. Behind z r) (sym e) (more c (suffix_of b))
 
   not_short : (c : ℕ) (u r : Text) → Behind u r → is_short (c ∷ u) ≡ false
@@ -106,7 +106,7 @@ module _ (white_space : ℕ → Bool) where
   long_short : (q r : Text) → Long q r → is_short q ≡ false
   long_short q r (c, u, e, b) = ap is_short e ∙ not_short c u r b
 
-  with_piece_rest : (s : Spelled) (o : Option (List Spelled × Text)) (v : List Spelled) (r : Text) → with_piece s o ≡ Some (v, r) → (w : List Spelled) × (o ≡ Some (w, r))
+  pub with_piece_rest : (s : Spelled) (o : Option (List Spelled × Text)) (v : List Spelled) (r : Text) → with_piece s o ≡ Some (v, r) → (w : List Spelled) × (o ≡ Some (w, r))
   with_piece_rest s o v r h =
       let b = bound o (λ q. Some (s ∷ q.0, q.1)) (v, r) h in
       let e : ◌≡◌ {A = List Spelled × Text} (s ∷ b.0.0, b.0.1) (v, r) = (let g = b.2 in cc) in
@@ -171,7 +171,7 @@ module _ (white_space : ℕ → Bool) where
       by false true h = at true h
       by false false h = absurd (let g = h in cc)
 
-  property_long : (q : Text) (n : Query) (r : Text) → property_shape white_space q ≡ Some (n, r) → Long q r
+  pub property_long : (q : Text) (n : Query) (r : Text) → property_shape white_space q ≡ Some (n, r) → Long q r
   property_long [] n r h = absurd (let g = h in cc)
   property_long (c ∷ t) n r h = by (c == 0x5B) (c == 0x5C) h
     where

@@ -2,6 +2,7 @@
 use Rattle.std.specs.Prelude.{◌≡◌, ◌↔◌, ℕ, Bool, true, false, List, [], ◌∷◌, ◌++◌, map, Option}
 use mathlib.Core.Logic.{◌⊎◌}
 use Prim.Native.Char.{code}
+use Rattle.std.specs.Str.{all_scalars}
 use Rattle.uset_grammar.specs.Text.{Text, IsBehind}
 use Rattle.uset_grammar.specs.Outcome.{Outcome, meaning}
 use Rattle.uset_grammar.specs.Escape.{Spelled, Apart}
@@ -9,7 +10,7 @@ use Rattle.uset_grammar.specs.EscapeSlips.{Around, in_bracket, EscapeOutcome}
 use Rattle.uset_grammar.specs.BracedString.{StringOutcome}
 use Rattle.uset_grammar.specs.Property.{Query, PropertyOutcome}
 use Rattle.uset_grammar.specs.Unit.{Meaning, an_escape, a_string, a_property, begins_property, UnitBegins, UnitRead, UnitOutcome}
-use Rattle.uset_grammar.specs.Tree.{Tree, Steps}
+use Rattle.uset_grammar.specs.Tree.{Tree, Steps, has}
 use Rattle.uset_grammar.specs.Item.{Item}
 use Rattle.uset_grammar.specs.Body.{Body, Fits}
 use Rattle.uset_grammar.specs.FitsByLists.{item, close, ListedFits}
@@ -20,6 +21,7 @@ use Rattle.uset_grammar.specs.Grammar.{Reads}
 use Rattle.uset_grammar.specs.Reached.{OpenBracket, Moves, Reached}
 use Rattle.uset_grammar.specs.Turn.{UnitReader, at, last_at, turn, Means, Accepts}
 use Rattle.uset_grammar.specs.Answers.{Answer, IsAnswer, AllLawful}
+use Rattle.uset_grammar.specs.Finite.{IsFinite, IsFiniteLanguage}
 
 -- Every source has one answer, under every syntax, whether its tables are there or not, all variables and all
 -- properties.
@@ -114,3 +116,13 @@ pub record RestsAreBehind (l : Language) : Type 0 where
 
 abbrev pub AllRestsAreBehind : Type 0
 AllRestsAreBehind = (l : Language) → RestsAreBehind l
+
+-- What is read of a text of characters is finite, where the variables and the properties are.
+abbrev pub FiniteSets : Type 0
+FiniteSets = (l : Language) → IsFiniteLanguage l → (source : Text) (tree : Tree) (rest : Text) →
+    all_scalars source ≡ true → Reads l source tree rest → IsFinite (has tree)
+
+-- The rest is what stands behind that which is read.
+abbrev pub RestsAreLast : Type 0
+RestsAreLast = (l : Language) (source : Text) (tree : Tree) (rest : Text) → Reads l source tree rest →
+    (front : Text) × (source ≡ front ++ rest)

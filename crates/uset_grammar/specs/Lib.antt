@@ -19,4 +19,5 @@ pub mod Turn
 pub mod Place
 pub mod Answers
 pub mod Shown
+pub mod Finite
 pub mod Laws

@@ -1,5 +1,5 @@
 //! Laws of the grammar, each the contract of a function that does nothing.
-ghost use Rattle.uset_grammar.specs.Laws.{OneAnswer, OneEscape, OneString, OneProperty, OneUnit, ThreeListsTell, CloseFitsBehindBody, AwaitedTells, KindsTell, UnitsAreRead, TurnsMean, ReadAtLast, MovesOn, PlacesAre, AllRestsAreBehind};
+ghost use Rattle.uset_grammar.specs.Laws.{OneAnswer, OneEscape, OneString, OneProperty, OneUnit, ThreeListsTell, CloseFitsBehindBody, AwaitedTells, KindsTell, UnitsAreRead, TurnsMean, ReadAtLast, MovesOn, PlacesAre, AllRestsAreBehind, FiniteSets, RestsAreLast};
 
 /// Every source has exactly one answer: it is read, with one tree and one rest, or refused, with one
 /// kind and one place. So no source has two readings, two faults, both or neither.
@@ -51,4 +51,11 @@ pub fn turns()
     ensures onward { MovesOn }
     ensures places { PlacesAre }
     ensures behind { AllRestsAreBehind }
+{}
+
+/// What is read has finitely many members, where the variables and the sources of the properties have, and it ends in
+/// front of its rest.
+pub fn finite_sets()
+    ensures members { FiniteSets }
+    ensures front { RestsAreLast }
 {}
