@@ -1,45 +1,48 @@
--- Without a fault of source or sink the status is that of the answer, or memory was refused.
+-- An input has one answer, and without a fault of source or sink the status is its, or memory was refused.
 use Rattle.std.proofs.Common.{◌≡◌, ℕ, Bool, true, false, cond, List, Option, None, Some, IfSome, refl, ap, subst, inl, inr, arith}
 use Rattle.std.proofs.lemmas.Bool.{both_ways}
 use Rattle.prop_data.specs.TableText.{table_fault, tables_in}
-use Rattle.uset_tool.specs.Words.{Command, evaluate, count_tables}
+use Rattle.uset_tool.specs.Words.{Command, evaluate, count_tables, table_fault_text}
 use Rattle.uset_variables.specs.Variables.{no_variables}
 use Rattle.uset_tool.specs.declared.status.Status.{Status}
 use Rattle.uset_tool.specs.declared.status.Status.TheVariants.{Done, SomeErr, Usage, Tables, ReadFault, WriteFault, NoMemory, NotText, TooLong}
 use Rattle.uset_tool.specs.Device.{Rose, NoFault}
 use Rattle.uset_tool.specs.Run.{table_lines, script_lines, text_lines, Evaluates, faulty_tables, script, Counts, faulty_text, counted, Results, Answers, usage, too_long, not_text, evaluates, IsWhole, IsWritten, Writes, IsSettled, IsAccepted, IsAnswered}
+use Rattle.uset_tool.specs.Laws.{OneAnswer}
+use Rattle.uset_tool.proofs.Existence.{answer_exists}
 use Rattle.uset_tool.proofs.Once.{RunLaws, laws_of, script_once}
 use Rattle.uset_tool.proofs.RunLemmas.{no_fault_here, of_command, one_command}
 
-evaluated_once : RunLaws → (input t u : List ℕ) (r s : Status) → Evaluates input t r → Evaluates input u s → r ≡ s
-evaluated_once laws input _ _ _ _ (faulty_tables fault e) (faulty_tables other f) = refl
+evaluated_once : RunLaws → (input t u : List ℕ) (r s : Status) → Evaluates input t r → Evaluates input u s → (t ≡ u) × (r ≡ s)
+evaluated_once laws input _ _ _ _ (faulty_tables fault e) (faulty_tables other f) = let same : fault ≡ other = cc in (ap table_fault_text same, refl)
 evaluated_once laws input _ _ _ _ (faulty_tables fault e) (script none text errs answer) = absurd (no_fault_here _ fault none e)
 evaluated_once laws input _ _ _ _ (script none text errs answer) (faulty_tables fault e) = absurd (no_fault_here _ fault none e)
 evaluated_once laws input _ _ _ _ (script none text errs answer) (script none_too other are_errs answer_too) =
-    ap (λ b. cond b SomeErr Done) (script_once (laws_of laws (tables_in (table_lines input)) (laws.allowed_sets (table_lines input) none)) no_variables (script_lines input) text other errs are_errs answer answer_too).1
+    let once = script_once (laws_of laws (tables_in (table_lines input)) (laws.allowed_sets (table_lines input) none)) no_variables (script_lines input) text other errs are_errs answer answer_too in
+    (once.0, ap (λ b. cond b SomeErr Done) once.1)
 
-counted_once : (input t u : List ℕ) (r s : Status) → Counts input t r → Counts input u s → r ≡ s
-counted_once input _ _ _ _ (faulty_text fault e) (faulty_text other f) = refl
+counted_once : (input t u : List ℕ) (r s : Status) → Counts input t r → Counts input u s → (t ≡ u) × (r ≡ s)
+counted_once input _ _ _ _ (faulty_text fault e) (faulty_text other f) = let same : fault ≡ other = cc in (ap table_fault_text same, refl)
 counted_once input _ _ _ _ (faulty_text fault e) (counted none) = absurd (no_fault_here _ fault none e)
 counted_once input _ _ _ _ (counted none) (faulty_text fault e) = absurd (no_fault_here _ fault none e)
-counted_once input _ _ _ _ (counted none) (counted same) = refl
+counted_once input _ _ _ _ (counted none) (counted same) = (refl, refl)
 
-result_once : RunLaws → (command : Command) (input t u : List ℕ) (r s : Status) → Results command input t r → Results command input u s → r ≡ s
+result_once : RunLaws → (command : Command) (input t u : List ℕ) (r s : Status) → Results command input t r → Results command input u s → (t ≡ u) × (r ≡ s)
 result_once laws evaluate input t u r s h k = evaluated_once laws input t u r s h k
 result_once laws count_tables input t u r s h k = counted_once input t u r s h k
 
-answered_once : RunLaws → (words : List (List ℕ)) (input t u : List ℕ) (r s : Status) → Answers words input t r → Answers words input u s → r ≡ s
-answered_once laws words input _ _ _ _ (usage a) (usage b) = refl
+answered_once : RunLaws → (words : List (List ℕ)) (input t u : List ℕ) (r s : Status) → Answers words input t r → Answers words input u s → (t ≡ u) × (r ≡ s)
+answered_once laws words input _ _ _ _ (usage a) (usage b) = (refl, refl)
 answered_once laws words input _ _ _ _ (usage a) (too_long known b) = absurd (both_ways _ a known)
 answered_once laws words input _ _ _ _ (usage a) (not_text known b c) = absurd (both_ways _ a known)
 answered_once laws words input _ _ _ _ (usage a) (evaluates command known b c d) = absurd (both_ways _ a (of_command words command known))
 answered_once laws words input _ _ _ _ (too_long known over) (usage b) = absurd (both_ways _ b known)
-answered_once laws words input _ _ _ _ (too_long known over) (too_long b c) = refl
+answered_once laws words input _ _ _ _ (too_long known over) (too_long b c) = (refl, refl)
 answered_once laws words input _ _ _ _ (too_long known over) (not_text b within c) = absurd (omega (arith, over, within))
 answered_once laws words input _ _ _ _ (too_long known over) (evaluates command b within c d) = absurd (omega (arith, over, within))
 answered_once laws words input _ _ _ _ (not_text known within no_text) (usage b) = absurd (both_ways _ b known)
 answered_once laws words input _ _ _ _ (not_text known within no_text) (too_long b over) = absurd (omega (arith, over, within))
-answered_once laws words input _ _ _ _ (not_text known within no_text) (not_text b c d) = refl
+answered_once laws words input _ _ _ _ (not_text known within no_text) (not_text b c d) = (refl, refl)
 answered_once laws words input _ _ _ _ (not_text known within no_text) (evaluates command b c text d) = absurd (both_ways _ no_text text)
 answered_once laws words input _ _ _ _ (evaluates command known within text h) (usage b) = absurd (both_ways _ b (of_command words command known))
 answered_once laws words input _ _ _ _ (evaluates command known within text h) (too_long b over) = absurd (omega (arith, over, within))
@@ -47,20 +50,26 @@ answered_once laws words input _ _ _ _ (evaluates command known within text h) (
 answered_once laws words input t u r s (evaluates command known within text h) (evaluates other b c d k) =
     result_once laws command input t u r s h (subst (λ o. Results o input u s) (one_command words other command b known) k)
 
--- a whole answer has the status of each answer
-whole_settles : RunLaws → (words : List (List ℕ)) (input before now : List ℕ) (result : Status) → IsWhole (Answers words input) before now result → IsSettled (Answers words input) result
-whole_settles laws words input before now result (t, answer, now_is) = λ u s k. inl (answered_once laws words input t u result s answer k)
+-- an input has one answer, and no other
+pub one_answer_law : RunLaws → OneAnswer
+one_answer_law laws = λ words input.
+    let (text, status, answer) = answer_exists laws words input in
+    (text, status, answer, λ other s h. answered_once laws words input other text s status h answer)
 
-settled : RunLaws → (words : List (List ℕ)) (input before now : List ℕ) (result : Status) → (result ≡ ReadFault → ⊥) → (result ≡ WriteFault → ⊥) → IsWritten (Answers words input) before now result → IsSettled (Answers words input) result
-settled laws words input before now Done no_read no_write h = whole_settles laws words input before now Done h
-settled laws words input before now SomeErr no_read no_write h = whole_settles laws words input before now SomeErr h
-settled laws words input before now Usage no_read no_write h = whole_settles laws words input before now Usage h
-settled laws words input before now Tables no_read no_write h = whole_settles laws words input before now Tables h
-settled laws words input before now NotText no_read no_write h = whole_settles laws words input before now NotText h
-settled laws words input before now TooLong no_read no_write h = whole_settles laws words input before now TooLong h
-settled laws words input before now ReadFault no_read no_write h = absurd (no_read refl)
-settled laws words input before now WriteFault no_read no_write h = absurd (no_write refl)
-settled laws words input before now NoMemory no_read no_write h = λ u s k. inr refl
+-- a whole answer has its status
+whole_settles : (words : List (List ℕ)) (input before now : List ℕ) (result : Status) → IsWhole (Answers words input) before now result → IsSettled (Answers words input) result
+whole_settles words input before now result (t, answer, now_is) = (t, result, answer, inl refl)
+
+settled : OneAnswer → (words : List (List ℕ)) (input before now : List ℕ) (result : Status) → (result ≡ ReadFault → ⊥) → (result ≡ WriteFault → ⊥) → IsWritten (Answers words input) before now result → IsSettled (Answers words input) result
+settled one words input before now Done no_read no_write h = whole_settles words input before now Done h
+settled one words input before now SomeErr no_read no_write h = whole_settles words input before now SomeErr h
+settled one words input before now Usage no_read no_write h = whole_settles words input before now Usage h
+settled one words input before now Tables no_read no_write h = whole_settles words input before now Tables h
+settled one words input before now NotText no_read no_write h = whole_settles words input before now NotText h
+settled one words input before now TooLong no_read no_write h = whole_settles words input before now TooLong h
+settled one words input before now ReadFault no_read no_write h = absurd (no_read refl)
+settled one words input before now WriteFault no_read no_write h = absurd (no_write refl)
+settled one words input before now NoMemory no_read no_write h = let (text, status, answer, only) = one words input in (text, status, answer, inr refl)
 
 script_status : (errs : Bool) → IsAnswered (cond errs SomeErr Done)
 script_status true = inr (inl refl)
@@ -91,13 +100,13 @@ complete words input before now WriteFault no_read no_write ok h = absurd (no_wr
 complete words input before now NoMemory no_read no_write ok h = inr (inr refl)
 
 -- the same, whatever source and sink tell, where no fault was counted
-pub settled_run : RunLaws → (words : List (List ℕ)) (left old new : Option (List ℕ)) (result : Status) (a b c d : ℕ) → (result ≡ ReadFault → Rose a b) → (result ≡ WriteFault → Rose c d) →
+pub settled_run : OneAnswer → (words : List (List ℕ)) (left old new : Option (List ℕ)) (result : Status) (a b c d : ℕ) → (result ≡ ReadFault → Rose a b) → (result ≡ WriteFault → Rose c d) →
     IfSome left (λ input. Writes (Answers words input) old new result) →
     IfSome left (λ input. IfSome old (λ before. NoFault a b → NoFault c d → IsSettled (Answers words input) result))
-settled_run laws words None old new result a b c d read write h = tt
-settled_run laws words (Some input) None new result a b c d read write h = tt
-settled_run laws words (Some input) (Some before) new result a b c d read write (now, new_is, w) =
-    λ no_read no_write. settled laws words input before now result (λ e. no_read (read e)) (λ e. no_write (write e)) w
+settled_run one words None old new result a b c d read write h = tt
+settled_run one words (Some input) None new result a b c d read write h = tt
+settled_run one words (Some input) (Some before) new result a b c d read write (now, new_is, w) =
+    λ no_read no_write. settled one words input before now result (λ e. no_read (read e)) (λ e. no_write (write e)) w
 
 pub complete_run : (words : List (List ℕ)) (left old new : Option (List ℕ)) (result : Status) (a b c d : ℕ) → (result ≡ ReadFault → Rose a b) → (result ≡ WriteFault → Rose c d) →
     IfSome left (λ input. Writes (Answers words input) old new result) →

@@ -2,7 +2,10 @@ pub mod AnswerLemmas
 pub mod Linked
 pub mod Padding
 pub mod DeviceLemmas
+pub mod Listing
+pub mod TextLines
 pub mod Once
+pub mod Existence
 pub mod RunLemmas
 pub mod Complete
 mod LeftLemmas

@@ -6,7 +6,7 @@ use Rattle.cp_invlist.specs.declared.ranges.CodePointRange.{CodePointRange}
 use Rattle.cp_invlist.specs.Ranges.{AreMaximalRanges}
 use Rattle.cp_strset.specs.StringList.{holds, AreCanonical}
 use Rattle.prop_data.specs.Forbidden.{AreAllowed}
-use Rattle.prop_data.specs.Laws.{SetsAreAllowed}
+use Rattle.prop_data.specs.Laws.{SetsAreAllowed, SetsAreBounded}
 use Rattle.prop_data.specs.Tables.{Tables}
 use Rattle.uset_grammar.specs.Text.{Text}
 use Rattle.uset_grammar.specs.Outcome.{Kind}
@@ -14,6 +14,7 @@ use Rattle.uset_grammar.specs.Tree.{Tree, point, string, has}
 use Rattle.uset_grammar.specs.Language.{Language, set as set_value}
 use Rattle.uset_grammar.specs.Place.{size}
 use Rattle.uset_grammar.specs.Answers.{Answer, read as reading, refused, ReadsUnder, IsFault, IsAnswer}
+use Rattle.uset_grammar.specs.Laws.{FiniteSets, RestsAreLast}
 use Rattle.uset_reader.specs.Laws.{OneAnswer}
 use Rattle.uset_reader.specs.Syntaxes.{language_of}
 use Rattle.uset_tool.specs.declared.sink.WriteError.{WriteError}
@@ -29,10 +30,13 @@ pub record Laws (tables : Tables) : Type 0 where
   pub one_list_of_ranges : (m : ℕ → Bool) (rs qs : List CodePointRange) → AreMaximalRanges m rs → AreMaximalRanges m qs → rs ≡ qs
   pub one_list : (a b : List (List ℕ)) → AreCanonical a → AreCanonical b → ((bytes : List ℕ) → holds a bytes ≡ holds b bytes) → a ≡ b
 
--- the same laws under all tables that a table text may mean
+-- the same laws under all tables that a table text may mean, and those by which there is an answer
 pub record RunLaws : Type 0 where
   pub one_answer : OneAnswer
   pub allowed_sets : SetsAreAllowed
+  pub bounded_sets : SetsAreBounded
+  pub finite_sets : FiniteSets
+  pub rests_are_last : RestsAreLast
   pub one_list_of_ranges : (m : ℕ → Bool) (rs qs : List CodePointRange) → AreMaximalRanges m rs → AreMaximalRanges m qs → rs ≡ qs
   pub one_list : (a b : List (List ℕ)) → AreCanonical a → AreCanonical b → ((bytes : List ℕ) → holds a bytes ≡ holds b bytes) → a ≡ b
 

@@ -8,3 +8,4 @@ pub mod Status
 pub mod Words
 pub mod Commands
 pub mod Run
+pub mod Laws

@@ -129,9 +129,9 @@ IsLeft input left ReadFault = TookFront input left limit
 IsLeft input left WriteFault = TookFront input left (limit + 1)
 IsLeft input left NoMemory = TookFront input left (limit + 1)
 
--- whatever the answer is, it has this status, or memory was refused
+-- there is an answer, and it has this status, or memory was refused
 abbrev pub IsSettled : AnswersOf → Status → Type 0
-IsSettled A result = (text : List ℕ) (status : Status) → A text status → (result ≡ status) ⊎ (result ≡ NoMemory)
+IsSettled A result = (text : List ℕ) × (status : Status) × A text status × ((result ≡ status) ⊎ (result ≡ NoMemory))
 
 -- the lines of an input that are its table text
 abbrev pub text_lines : Command → List ℕ → List (List ℕ)

@@ -5,6 +5,7 @@ mod answer;
 mod binding;
 mod counts;
 mod input;
+pub mod laws;
 mod line;
 mod program;
 mod script;

@@ -11,19 +11,17 @@ ghost use Rattle.uset_tool.specs.Run.{Answers, Results, Evaluates, Counts, SaysC
 
 use crate::counts::counts_text;
 use crate::input::{InputError, read_input};
+use crate::laws::one_answer;
 use crate::script::answer_script;
 use crate::sink::{Sink, WriteError, write_all};
 use crate::source::Source;
 use crate::status::Status;
 use crate::table_fault::table_fault_text;
 use crate::words::{Command, find_command};
-use cp_invlist::laws::one_list_of_ranges;
-use cp_strset::laws::one_list;
 use prop_data::laws::allowed_sets;
 use prop_data::{LoadError, PropertyDatabase, TableError};
 use std::alloc::Global;
 use text_lines::split_behind;
-use uset_parse::laws::one_answer;
 
 /// Writes a text, and gives the status that is wanted where all of it was written.
 fn say<K: Sink>(sink: &mut K, text: &str, wanted: Status) -> Status
@@ -185,7 +183,7 @@ pub fn run<S: Source, K: Sink>(
     ensures read_fault { result ≡ Status.ReadFault → Rose (S.faults source.old) (S.faults source.new) }
     ensures write_fault { result ≡ Status.WriteFault → Rose (K.faults sink.old) (K.faults sink.new) }
 
-    // Where no fault was counted, the status is that of the answer, or memory was refused.
+    // Where no fault was counted, the status is that of the one answer, or memory was refused.
     ensures settled { IfSome (S.left source.old) (λ input. IfSome (K.written sink.old) (λ before.
         NoFault (S.faults source.old) (S.faults source.new) → NoFault (K.faults sink.old) (K.faults sink.new) →
         IsSettled (Answers (map string_bytes words.now.items) input) result)) }
@@ -193,10 +191,7 @@ pub fn run<S: Source, K: Sink>(
         NoFault (S.faults source.old) (S.faults source.new) → NoFault (K.faults sink.old) (K.faults sink.new) →
         IsAccepted (map string_bytes words.now.items) input → IsAnswered result)) }
 {
-    // The laws by which an input has one answer.
-    allowed_sets();
+    // The law by which an input has one answer.
     one_answer();
-    one_list_of_ranges();
-    one_list();
     answer_words(alloc, words, source, sink)
 }

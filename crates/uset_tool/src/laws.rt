@@ -1,0 +1,20 @@
+//! The law of answers, the contract of a function that does nothing.
+ghost use Rattle.uset_tool.specs.Laws.{OneAnswer};
+
+use cp_invlist::laws::one_list_of_ranges;
+use cp_strset::laws::one_list;
+use prop_data::laws::{allowed_sets, bounded_sets};
+use uset_grammar::laws::finite_sets;
+use uset_parse::laws::one_answer as one_answer_of_a_source;
+
+/// Any words and any input have exactly one answer: one text to print, with one status.
+pub fn one_answer()
+    ensures { OneAnswer }
+{
+    allowed_sets();
+    bounded_sets();
+    finite_sets();
+    one_answer_of_a_source();
+    one_list_of_ranges();
+    one_list();
+}
