@@ -14,7 +14,9 @@ use Rattle.uset_reader.specs.declared.bracket.OpenBracket.{OpenBracket as CodeBr
 use Rattle.uset_reader.specs.declared.bracket.Taken.{Taken}
 use Rattle.uset_reader.specs.declared.bracket.Taken.TheVariants.{Fits, Reversed, Unfit}
 use Rattle.uset_reader.specs.declared.item.Item.{Item as CodeItem}
-use Rattle.uset_reader.specs.Items.{number_of, item_seen, IsTreeOf, awaits_seen}
+use Rattle.uset_gather.specs.declared.operand.Operand.{Operand}
+use Rattle.uset_reader.specs.declared.arrange.Operation.{Operation}
+use Rattle.uset_reader.specs.Items.{number_of, item_seen, IsTreeOf, IsOperand, awaits_seen, operated, own_steps}
 
 abbrev pub opening_seen : CodeOpening → Opening
 opening_seen o = record { negated = o.negated; leading = o.leading }
@@ -22,6 +24,13 @@ opening_seen o = record { negated = o.negated; leading = o.leading }
 -- The set is what the steps make of another: whatever steps follow.
 abbrev pub Becomes : Gathered → (Steps → Steps) → Gathered → Type 0
 Becomes old steps new = (rest : Steps) (m : Member) → gathers (steps rest) m (gathered_in old m) ≡ gathers rest m (gathered_in new m)
+
+-- the set is what an item's own steps make of another, or an operation with an operand
+abbrev pub GathersItem : Operation → CodeItem → Gathered → Gathered → Type 0
+GathersItem operation item old new = (tree : Tree) → IsTreeOf item tree → Becomes old (own_steps operation (item_seen tree item)) new
+
+abbrev pub GathersSet : Operation → Operand → Gathered → Gathered → Type 0
+GathersSet operation operand old new = (tree : Tree) → IsOperand operand tree → Becomes old (operated operation tree) new
 
 -- What the code keeps of an open bracket: what it begins with and where, what is awaited behind its items, and what
 -- they gather.

@@ -1,8 +1,12 @@
 -- What stands in front, as the code has it.
-use Rattle.std.specs.Prelude.{◌<◌, ℕ, false, length, List}
+use Rattle.std.specs.Prelude.{◌≡◌, ◌<◌, ℕ, false, length, List, Option, MatchOption}
+use Rattle.std.specs.Borrow.{Bor}
 use Rattle.std.specs.Str.{chars}
 use Rattle.uset_grammar.specs.Tree.{Tree, given}
-use Rattle.uset_grammar.specs.Front.{Front, nothing, closing, opening, single, of_name, begins_unit, caret, First, too_short, stray, bare, of_variable, of_bracket, of_property}
+use Rattle.uset_grammar.specs.Text.{Text}
+use Rattle.uset_grammar.specs.Language.{Language}
+use Rattle.uset_grammar.specs.Front.{Front, nothing, closing, opening, single, of_name, begins_unit, caret, bracket_or_unit, First, too_short, stray, bare, of_variable, of_bracket, of_property}
+use Rattle.uset_reader.specs.declared.bracket.Opening.{Opening as CodeOpening}
 use Rattle.uset_reader.specs.declared.front.Front.{Front as CodeFront}
 use Rattle.uset_reader.specs.declared.front.Front.TheVariants.{Nothing, Closing, Opening, Single, Name, Unit as BeginsUnit, Caret}
 use Rattle.uset_reader.specs.declared.front.First.{First as CodeFirst}
@@ -47,3 +51,8 @@ IsBehindFirst Bare text = Unit {0}
 IsBehindFirst (Variable name rest) text = length rest.now < length text
 IsBehindFirst (Bracket o inner) text = length inner.now < length text
 IsBehindFirst Property text = Unit {0}
+
+-- what a bracket begins with, behind its `[`, and what stands behind that; or a unit begins there
+abbrev pub IsOpening : Language → Text → Option (CodeOpening × Bor (List ℕ)) → Type 0
+IsOpening l t result =
+    MatchOption result (bracket_or_unit l t ≡ begins_unit) (λ p. bracket_or_unit l t ≡ opening (opening_seen p.0) (chars p.1.now))

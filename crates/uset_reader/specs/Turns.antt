@@ -19,7 +19,7 @@ use Rattle.uset_reader.specs.declared.turn.Progress.TheVariants.{GoesOn, Done}
 use Rattle.uset_reader.specs.declared.turn.Sort.{Sort as CodeSort}
 use Rattle.uset_reader.specs.declared.turn.Sort.TheVariants.{Written, Variable}
 use Rattle.uset_read.specs.declared.cursor.Cursor.{Cursor}
-use Rattle.uset_read.specs.Cursors.{source_of}
+use Rattle.uset_read.specs.Cursors.{source_of, left_of}
 use Rattle.uset_reader.specs.declared.bracket.Opening.{Opening as CodeOpening}
 use Rattle.uset_reader.specs.declared.item.Item.{Item as CodeItem}
 use Rattle.uset_reader.specs.Brackets.{Stands, IsItem, begun}
@@ -62,6 +62,10 @@ abbrev pub Turns : Language → List ℕ → List ℕ → List CodeBracket → C
 Turns l source left outer b new_outer new result =
     (units : UnitReader l) → Before source left →
     ForAll outer b (λ o os. TurnedTo (turn l units (chars source) (o ∷ os) (chars left)) new_outer new result)
+
+-- the same where the cursor stands
+abbrev pub TurnsAt : Language → Cursor → List CodeBracket → CodeBracket → List CodeBracket → CodeBracket → Result Progress ParseError → Type 0
+TurnsAt l cursor outer b new_outer new result = Turns l (source_of cursor) (left_of cursor) outer b new_outer new result
 
 -- What comes of the parts of a turn, each as the part of the grammar's turn does it.
 

@@ -38,7 +38,7 @@ pub(crate) struct Opening {
 pub(crate) struct OpenBracket {
     gathered: Gathered,
     opening: Opening,
-    awaits: Awaits,
+    pub(crate) awaits: Awaits,
     /// The number of bytes of the source before the bracket.
     pub(crate) before: usize,
 }
@@ -73,8 +73,8 @@ impl OpenBracket {
     ghost use Rattle.uset_grammar.specs.Arranging.{went, next, ending};
     ghost use Rattle.uset_grammar.specs.Turn.{two};
     ghost use Rattle.uset_gather.specs.Gathered.{gathered_in};
-    ghost use Rattle.uset_reader.specs.Items.{number_of, awaits_seen, item_seen, own_steps, range_steps, operated, IsProper, IsTreeOf, IsOperand};
-    ghost use Rattle.uset_reader.specs.Brackets.{Becomes, IsBegun, Takes, Closes, Refuses, KeepsFrame, EndedAs, finished};
+    ghost use Rattle.uset_reader.specs.Items.{number_of, awaits_seen, item_seen, range_steps, IsProper};
+    ghost use Rattle.uset_reader.specs.Brackets.{Becomes, GathersItem, GathersSet, IsBegun, Takes, Closes, Refuses, KeepsFrame, EndedAs, finished};
 
     /// A bracket behind what it begins with.
     pub(crate) fn open(
@@ -147,7 +147,7 @@ impl OpenBracket {
         item: Item<'_>,
     ) -> Result<(), NoMemory>
         requires { IsProper item }
-        ensures becomes { OnOk result ((tree : Tree) → IsTreeOf item.entry tree → Becomes self.old.gathered (own_steps operation (item_seen tree item.entry)) self.new.gathered) }
+        ensures becomes { OnOk result (GathersItem operation item.entry self.old.gathered self.new.gathered) }
         ensures same { KeepsFrame self.old self.new }
     {
         match item {
@@ -164,7 +164,7 @@ impl OpenBracket {
         operation: Operation,
         operand: Operand<'_>,
     ) -> Result<(), NoMemory>
-        ensures becomes { OnOk result ((tree : Tree) → IsOperand operand.entry tree → Becomes self.old.gathered (operated operation tree) self.new.gathered) }
+        ensures becomes { OnOk result (GathersSet operation operand.entry self.old.gathered self.new.gathered) }
         ensures same { KeepsFrame self.old self.new }
     {
         match operation {

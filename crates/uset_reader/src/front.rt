@@ -1,12 +1,11 @@
 //! What stands in front of a text.
-ghost use Rattle.std.specs.Prelude.{◌≡◌, ◌≤◌, ◌<◌, length, IfSome, MatchOption};
+ghost use Rattle.std.specs.Prelude.{◌≡◌, ◌≤◌, ◌<◌, length, IfSome};
 ghost use Rattle.std.specs.Str.{chars};
 ghost use Rattle.uset_grammar.specs.Text.{optional_code};
-ghost use Rattle.uset_grammar.specs.Front.{front, first, header, begins_unit, opening, bracket_or_unit};
+ghost use Rattle.uset_grammar.specs.Front.{front, first, header};
 ghost use Rattle.uset_grammar.specs.Reached.{is_short};
-ghost use Rattle.uset_reader.specs.Brackets.{opening_seen};
 ghost use Rattle.uset_reader.specs.Syntaxes.{language_seen};
-ghost use Rattle.uset_reader.specs.Fronts.{front_seen, first_seen, IsBehindFront, IsBehindFirst};
+ghost use Rattle.uset_reader.specs.Fronts.{front_seen, first_seen, IsBehindFront, IsBehindFirst, IsOpening};
 
 use crate::bracket::Opening;
 use crate::code_point::CodePoint;
@@ -112,7 +111,7 @@ pub(crate) fn look_at_first<'a>(syntax: &Syntax<'_>, source: &'a str) -> First<'
 
 /// Reads what stands behind the `[` of a bracket and in front of its items. `None` where a `:` follows at once.
 fn read_opening<'a>(syntax: &Syntax<'_>, text: &'a str) -> Option<(Opening, &'a str)>
-    ensures parts { MatchOption result (bracket_or_unit (language_seen syntax.now) (chars text.now) ≡ begins_unit) (λ p. bracket_or_unit (language_seen syntax.now) (chars text.now) ≡ opening (opening_seen p.0) (chars p.1.now)) }
+    ensures parts { IsOpening (language_seen syntax.now) (chars text.now) result }
     ensures within { IfSome result (λ p. length p.1.now ≤ length text.now) }
 {
     if let Some((':', _)) = split_first(text) {

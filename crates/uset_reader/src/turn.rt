@@ -10,7 +10,7 @@ ghost use Rattle.uset_grammar.specs.Grammar.{of_unit};
 ghost use Rattle.uset_grammar.specs.Reached.{is_last_property};
 ghost use Rattle.uset_reader.specs.Brackets.{IsItem};
 ghost use Rattle.uset_variables.specs.Values.{is_kept, value_seen};
-ghost use Rattle.uset_reader.specs.Turns.{Turns, IsShorter, IsUnfit, TakesAs, TakesVariable, TakesUnit, Opens, ClosesAs};
+ghost use Rattle.uset_reader.specs.Turns.{TurnsAt, IsShorter, IsUnfit, TakesAs, TakesVariable, TakesUnit, Opens, ClosesAs};
 
 use crate::bracket::{OpenBracket, Opening, Taken};
 use crate::code_point::CodePoint;
@@ -219,7 +219,7 @@ pub(crate) fn turn<'a>(
     outer: &mut Vec<OpenBracket>,
     bracket: &mut OpenBracket,
 ) -> Result<Progress<'a>, ParseError>
-    ensures turns { Turns (language_seen syntax.now) (source_of cursor.entry) (left_of cursor.entry) outer.old.items bracket.old outer.new.items bracket.new result }
+    ensures turns { TurnsAt (language_seen syntax.now) cursor.entry outer.old.items bracket.old outer.new.items bracket.new result }
     ensures shorter { IfOk result (λ p. IsShorter p (left_of cursor.entry)) }
 {
     laws::turns();

@@ -1,10 +1,28 @@
--- What the answers to a script leave in the sink.
+-- What a line is answered with and leaves bound, and what the answers to a script leave in the sink.
 use Rattle.std.specs.Prelude.{◌≡◌, ℕ, Bool, List, ◌++◌, Option, Some, IfSome, Result, Ok, Err}
+use Rattle.std.specs.String.{string_bytes}
+use Rattle.prop_data.specs.declared.database.PropertyDatabase.{PropertyDatabase}
+use Rattle.prop_data.specs.Database.{tables_of}
 use Rattle.prop_data.specs.Tables.{Tables}
+use Rattle.uset_variables.specs.declared.map.VariableMap.{VariableMap}
+use Rattle.uset_variables.specs.Variables.{variables_of}
+use Rattle.uset_tool.specs.declared.answer.Answer.{Answer}
+use Rattle.uset_tool.specs.Script.{Definition, ScriptLine}
 use Rattle.uset_tool.specs.declared.sink.WriteError.{WriteError}
 use Rattle.uset_tool.specs.declared.sink.WriteError.TheVariants.{Failed, NoMemory}
-use Rattle.uset_tool.specs.Answer.{Variables, ScriptAnswer}
+use Rattle.uset_tool.specs.Answer.{Variables, DefinitionAnswer, BindingAnswer, LineAnswer, ScriptAnswer}
 use Rattle.uset_tool.specs.Device.{Appends, IsProperFront, IsFront}
+
+-- a definition is answered with this, and the new variables are those behind it
+abbrev pub AnswersDefinition : PropertyDatabase → List ℕ → Definition → VariableMap → VariableMap → Answer → Type 0
+AnswersDefinition database name d old new a = DefinitionAnswer (tables_of database) (variables_of old) name d (string_bytes a.text) a.is_err (variables_of new)
+
+-- the same of a `let` line, and of any line
+abbrev pub AnswersBinding : PropertyDatabase → List ℕ → Definition → VariableMap → VariableMap → Answer → Type 0
+AnswersBinding database name d old new a = BindingAnswer (tables_of database) (variables_of old) name d (string_bytes a.text) a.is_err (variables_of new)
+
+abbrev pub AnswersLine : PropertyDatabase → ScriptLine → VariableMap → VariableMap → Answer → Type 0
+AnswersLine database line old new a = LineAnswer (tables_of database) (variables_of old) line (string_bytes a.text) a.is_err (variables_of new)
 
 -- where the sink failed, not all of the answer was appended, and where memory was refused, a front of it
 abbrev pub StopsWithin : WriteError → List ℕ → List ℕ → List ℕ → Type 0

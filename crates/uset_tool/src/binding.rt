@@ -1,12 +1,12 @@
 //! Answers to the lines of a script, and what they bind.
 ghost use Rattle.std.specs.Prelude.{◌≡◌, None, true, false, IfOk, OnOk};
 ghost use Rattle.std.specs.String.{string_bytes};
-ghost use Rattle.prop_data.specs.Database.{tables_of};
 ghost use Rattle.uset_variables.specs.Values.{value_seen, kept};
 ghost use Rattle.uset_variables.specs.Variables.{bound, variables_of};
 ghost use Rattle.uset_tool.specs.Script.{script_line, set as set_definition};
 ghost use Rattle.uset_tool.specs.Lines.{definition_seen};
-ghost use Rattle.uset_tool.specs.Answer.{bound_text, is_bound_text, text_after_text, DefinitionAnswer, BindingAnswer, LineAnswer, with_binding, IsBound};
+ghost use Rattle.uset_tool.specs.Answer.{bound_text, is_bound_text, text_after_text, with_binding, IsBound};
+ghost use Rattle.uset_tool.specs.Answered.{AnswersDefinition, AnswersBinding, AnswersLine};
 
 use crate::answer::{Answer, answer_err, answer_fault, answer_pattern};
 use crate::line::{Definition, Line, read_line};
@@ -88,7 +88,7 @@ fn answer_set(
     database: &PropertyDatabase,
 ) -> Result<Answer, NoMemory>
     requires { bound variables.old name.now ≡ None }
-    ensures { IfOk result (λ a. DefinitionAnswer (tables_of database.now) (variables_of variables.old) name.now (set_definition source.now) (string_bytes a.text) a.is_err (variables_of variables.new)) }
+    ensures { IfOk result (AnswersDefinition database.now name.now (set_definition source.now) variables.old variables.new) }
 {
     let (set, length) = match parse_unstable_with_variables(alloc, source, variables, database) {
         Ok(read) => read,
@@ -109,7 +109,7 @@ fn answer_definition(
     database: &PropertyDatabase,
 ) -> Result<Answer, NoMemory>
     requires { bound variables.old name.now ≡ None }
-    ensures { IfOk result (λ a. DefinitionAnswer (tables_of database.now) (variables_of variables.old) name.now (definition_seen definition.entry) (string_bytes a.text) a.is_err (variables_of variables.new)) }
+    ensures { IfOk result (AnswersDefinition database.now name.now (definition_seen definition.entry) variables.old variables.new) }
 {
     match definition {
         Definition::Char(c) => answer_value(alloc, name, VariableValue::Char(c), variables),
@@ -129,7 +129,7 @@ fn answer_binding(
     variables: &mut VariableMap,
     database: &PropertyDatabase,
 ) -> Result<Answer, NoMemory>
-    ensures { IfOk result (λ a. BindingAnswer (tables_of database.now) (variables_of variables.old) name.now (definition_seen definition.entry) (string_bytes a.text) a.is_err (variables_of variables.new)) }
+    ensures { IfOk result (AnswersBinding database.now name.now (definition_seen definition.entry) variables.old variables.new) }
 {
     if variables.get(name).is_some() {
         return answer_bound_before(alloc, name);
@@ -144,7 +144,7 @@ pub(crate) fn answer_line(
     variables: &mut VariableMap,
     database: &PropertyDatabase,
 ) -> Result<Answer, NoMemory>
-    ensures { IfOk result (λ a. LineAnswer (tables_of database.now) (variables_of variables.old) (script_line line.now) (string_bytes a.text) a.is_err (variables_of variables.new)) }
+    ensures { IfOk result (AnswersLine database.now (script_line line.now) variables.old variables.new) }
 {
     match read_line(alloc, line)? {
         Line::Silent => Ok(Answer {
