@@ -9,6 +9,7 @@ mod line;
 mod linear;
 mod load;
 mod name;
+mod named;
 mod numbers;
 mod row;
 mod scripts;
@@ -20,11 +21,12 @@ mod value;
 
 pub use database::PropertyDatabase;
 pub use error::{LoadError, TableError, TableErrorKind};
+pub use named::{LinearlyNamedProperty, NamedEnumeratedProperty};
 pub use prop_binary::{EmojiTable, SetTable};
 pub use prop_names::{
     PropertyEnumToValueNameLinearMap, PropertyEnumToValueNameLookup,
     PropertyEnumToValueNameSparseMap, PropertyScriptToIcuScriptMap, PropertyValueNameToEnumMap,
 };
-pub use prop_values::{MapTable, NamesTable};
+pub use prop_values::{MapTable, NamesTable, ParseableEnumeratedProperty};
 pub use scripts::ScriptWithExtensionsProperty;
 pub use table::{DataError, TableKind, TableName};

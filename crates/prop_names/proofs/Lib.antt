@@ -1,3 +1,4 @@
+pub mod FoldingLemmas
 pub mod SearchLemmas
 pub mod NamesLemmas
 pub mod CopyLemmas

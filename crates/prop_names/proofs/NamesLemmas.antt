@@ -1,8 +1,8 @@
 -- A name more among names in order.
-use Rattle.std.proofs.Common.{◌≡◌, ℕ, Bool, true, false, Some, None, IfSome, List, [], ◌∷◌, cond, refl, sym, ap, ◌∙◌, nat_cmp}
+use Rattle.std.proofs.Common.{◌≡◌, ℕ, Bool, true, false, Option, Some, None, IfSome, List, [], ◌∷◌, cond, refl, subst, sym, ap, ◌∙◌, nat_cmp}
 use Rattle.std.specs.declared.cmp.Ordering.{Ordering}
 use Rattle.std.specs.declared.cmp.Ordering.TheVariants.{Less, Equal, Greater}
-use Rattle.std.specs.BTreeMap.{BTreeMap, insert_entry, get_by_text}
+use Rattle.std.specs.BTreeMap.{BTreeMap, UpdatesBy, insert_entry, get_by_text}
 use Rattle.std.specs.Cmp.Lexicographic.{slice_cmp}
 use Rattle.std.specs.List.Sorted.{IsStrictlySortedBy}
 use Rattle.std.specs.List.{AllByRecursion}
@@ -13,10 +13,10 @@ use Rattle.std.specs.String.{string_bytes, string_cmp}
 use Rattle.std.specs.declared.string.String.{String}
 use Rattle.std.specs.Global.{Global}
 use Rattle.std.proofs.lemmas.Map.Lookups.{exact_bytes}
-use Rattle.std.proofs.lemmas.Map.Text.{is_eq-slice_cmp}
+use Rattle.std.proofs.lemmas.Map.Text.{is_eq-slice_cmp, btree_map_updates_text}
 use Rattle.std.proofs.lemmas.Slice.Eq.{bytes_eq-Decides}
 use Rattle.prop_names.specs.Folding.{stored_folding}
-use Rattle.prop_names.specs.Names.{Names, value_of_folding, with_name, all_above, ascend}
+use Rattle.prop_names.specs.Names.{Names, FoldingsAgree, exact, value_of_folding, with_name, all_above, ascend}
 use Rattle.prop_names.specs.Texts.{text_of, texts}
 
 -- an ordered map takes a name in its place
@@ -38,6 +38,12 @@ lookup-texts m f = in_rows m.entries
     in_rows : (rows : List (String Global × ℕ)) → lookup (bytes_eq f) (texts rows) ≡ lookup (λ k. is_eq (slice_cmp nat_cmp f (string_bytes k))) rows
     in_rows [] = refl
     in_rows (r ∷ rows) = ap (λ b. cond b (Some r.1) (lookup (bytes_eq f) (texts rows))) (sym (is_eq-slice_cmp f (string_bytes r.0))) ∙ ap (λ o. cond (is_eq (slice_cmp nat_cmp f (string_bytes r.0))) (Some r.1) o) (in_rows rows)
+
+-- the value of each name in a map to which one was added
+pub exact-texts : (old new : BTreeMap (String Global) ℕ) (n : List ℕ) (v : ℕ) → UpdatesBy string_cmp (λ k. slice_cmp nat_cmp n (string_bytes k)) old new (Some v) → (q : List ℕ) →
+    exact (texts new.entries) q ≡ cond (bytes_eq n q) (Some v) (exact (texts old.entries) q)
+exact-texts old new n v updates q =
+    lookup-texts new q ∙ (btree_map_updates_text n old new (Some v) updates q ∙ ap (λ o. cond (bytes_eq n q) (Some v) o) (sym (lookup-texts old q)))
 
 -- the names of an ordered map ascend
 above_all : (k : String Global) (rows : List (String Global × ℕ)) → AllByRecursion (λ y. string_cmp k y ≡ Less) (keys_of rows) → all_above (string_bytes k) (texts rows) ≡ true
@@ -99,3 +105,22 @@ value_of_folding-with_name names n v agrees f = by_test (bytes_eq (stored_foldin
     by_test : (b : Bool) → bytes_eq (stored_folding n) f ≡ b → value_of_folding (with_name names n v) f ≡ cond b (Some v) (value_of_folding names f)
     by_test true is = ap (value_of_folding (with_name names n v)) (sym ((bytes_eq-Decides (stored_folding n) f).0 is)) ∙ own_folding names n v agrees
     by_test false is = other_folding names n v f (turned f (stored_folding n) is)
+
+-- names with the same folding have the same value, also with a name more whose folding has no other value
+pub FoldingsAgree-with_name : (names : Names) (n : List ℕ) (v : ℕ) → FoldingsAgree names → IfSome (value_of_folding names (stored_folding n)) (λ other. other ≡ v) →
+    ((q : List ℕ) → exact (with_name names n v) q ≡ cond (bytes_eq n q) (Some v) (exact names q)) → FoldingsAgree (with_name names n v)
+FoldingsAgree-with_name names n v agree own added = λ name value has. by_name name value (bytes_eq n name) refl (sym (added name) ∙ has)
+  where
+    -- a folding that has a value keeps it
+    by_folding : (folding : List ℕ) (value : ℕ) (b : Bool) → bytes_eq (stored_folding n) folding ≡ b → value_of_folding names folding ≡ Some value → cond b (Some v) (value_of_folding names folding) ≡ Some value
+    by_folding folding value true is has =
+        let at_folding : IfSome (value_of_folding names folding) (λ other. other ≡ v) =
+        subst (λ (f : List ℕ). IfSome (value_of_folding names f) (λ other. other ≡ v)) ((bytes_eq-Decides (stored_folding n) folding).0 is) own in
+        let same : value ≡ v = subst (λ (o : Option ℕ). IfSome o (λ other. other ≡ v)) has at_folding in ap (λ (w : ℕ). Some w) (sym same)
+    by_folding folding value false is has = has
+
+    by_name : (name : List ℕ) (value : ℕ) (b : Bool) → bytes_eq n name ≡ b → cond b (Some v) (exact names name) ≡ Some value → value_of_folding (with_name names n v) (stored_folding name) ≡ Some value
+    by_name name value true is has =
+        ap (λ (m : List ℕ). value_of_folding (with_name names n v) (stored_folding m)) (sym ((bytes_eq-Decides n name).0 is)) ∙ (own_folding names n v own ∙ has)
+    by_name name value false is has =
+        value_of_folding-with_name names n v own (stored_folding name) ∙ by_folding (stored_folding name) value (bytes_eq (stored_folding n) (stored_folding name)) refl (agree name value has)

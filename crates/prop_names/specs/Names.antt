@@ -1,5 +1,5 @@
 -- Names with the numbers of values, in the order of the names' bytes.
-use Rattle.std.specs.Prelude.{ℕ, Bool, true, ◌&&◌, List, [], ◌∷◌, Option}
+use Rattle.std.specs.Prelude.{◌≡◌, ℕ, Bool, true, ◌&&◌, List, [], ◌∷◌, Option, Some}
 use Rattle.std.specs.Cmp.Lexicographic.{slice_cmp}
 use Rattle.std.specs.Map.{lookup}
 use Rattle.std.specs.Ordering.{nat_cmp, is_lt}
@@ -21,6 +21,16 @@ value_of_folding names folding = lookup (λ name. bytes_eq folding (stored_foldi
 -- the value of the least name that folds as the query
 abbrev pub loose : Names → List ℕ → Option ℕ
 loose names query = value_of_folding names (query_folding query)
+
+-- Names with the same folding have the same value: the value of a name is that of its folding.
+abbrev pub FoldingsAgree : Names → Type 0
+FoldingsAgree names =
+    (name : List ℕ) (value : ℕ) → exact names name ≡ Some value → value_of_folding names (stored_folding name) ≡ Some value
+
+-- the foldings of names with their values, where names with the same folding have the same value
+pub record AreFoldings (names foldings : Names) : Type 0 where
+  pub found : (folding : List ℕ) → exact foldings folding ≡ value_of_folding names folding
+  pub agree : FoldingsAgree names
 
 -- the names with one more in its place, or with its value
 abbrev pub with_name : Names → List ℕ → ℕ → Names

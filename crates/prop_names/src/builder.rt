@@ -23,17 +23,14 @@ pub struct NamesBuilder {
 }
 
 impl Model for NamesBuilder {
-    ghost use Rattle.std.specs.Prelude.{◌≡◌, ℕ, List};
-    ghost use Rattle.std.specs.Map.{lookup};
-    ghost use Rattle.std.specs.Str.{bytes_eq};
-    ghost use Rattle.prop_names.specs.Names.{Names, value_of_folding};
+    ghost use Rattle.prop_names.specs.Names.{Names, AreFoldings};
     ghost use Rattle.prop_names.specs.Texts.{texts};
 
     ghost Value = { Names };
 
     ghost view = { λ s. texts s.names.entries };
 
-    ghost invariant = { λ s. (f : List ℕ) → lookup (bytes_eq f) (texts s.foldings.entries) ≡ value_of_folding (texts s.names.entries) f };
+    ghost invariant = { λ s. AreFoldings (texts s.names.entries) (texts s.foldings.entries) };
 }
 
 impl NamesBuilder {

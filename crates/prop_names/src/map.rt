@@ -1,8 +1,7 @@
 //! The table that finds the value of a name.
-ghost use Rattle.std.specs.Prelude.{◌≡◌, ℕ, List, IfOk};
-ghost use Rattle.std.specs.Map.{lookup};
-ghost use Rattle.std.specs.Str.{bytes_eq};
-ghost use Rattle.prop_names.specs.Names.{exact, loose, value_of_folding};
+ghost use Rattle.std.specs.Prelude.{◌≡◌, Some, IfSome, IfOk};
+ghost use Rattle.prop_names.specs.Folding.{LacksSpacesAndHyphens};
+ghost use Rattle.prop_names.specs.Names.{AreFoldings, exact, loose};
 
 use crate::list::NameList;
 use cp_invlist::NoMemory;
@@ -19,21 +18,18 @@ pub struct PropertyValueNameToEnumMap {
 }
 
 impl Model for PropertyValueNameToEnumMap {
-    ghost use Rattle.std.specs.Prelude.{◌≡◌, ℕ, List};
-    ghost use Rattle.std.specs.Map.{lookup};
-    ghost use Rattle.std.specs.Str.{bytes_eq};
-    ghost use Rattle.prop_names.specs.Names.{Names, value_of_folding};
+    ghost use Rattle.prop_names.specs.Names.{Names, AreFoldings};
 
     ghost Value = { Names };
 
     ghost view = { λ s. s.names };
 
-    ghost invariant = { λ s. (f : List ℕ) → lookup (bytes_eq f) s.foldings ≡ value_of_folding s.names f };
+    ghost invariant = { λ s. AreFoldings s.names s.foldings };
 }
 
 impl PropertyValueNameToEnumMap {
     pub(crate) fn new(names: NameList, foldings: NameList) -> PropertyValueNameToEnumMap
-        requires agree { (f : List ℕ) → lookup (bytes_eq f) foldings ≡ value_of_folding names f }
+        requires foldings { AreFoldings names foldings }
         ensures { result ≡ names }
     {
         PropertyValueNameToEnumMap { names, foldings }
@@ -49,9 +45,12 @@ impl PropertyValueNameToEnumMap {
         })
     }
 
-    /// The number of the value with this name, compared byte for byte.
+    /// The number of the value with this name, compared byte for byte. A name without white space and hyphens that is
+    /// found so is found loosely too, with the same value.
     pub fn get_strict_u16(&self, name: &[u8]) -> Option<u16>
-        ensures { result ≡ exact self.now name.now }
+        ensures value { result ≡ exact self.now name.now }
+        ensures loosely { LacksSpacesAndHyphens name.now →
+            IfSome result (λ value. loose self.now name.now ≡ Some value) }
     {
         self.names.get(name)
     }
@@ -59,7 +58,9 @@ impl PropertyValueNameToEnumMap {
     /// The number of the value of the least name that folds as this one (UAX 44, section 5.9): in lower case and without
     /// white space, `_` and hyphens, where a name that is kept loses its `_` alone.
     pub fn get_loose_u16(&self, name: &[u8]) -> Option<u16>
-        ensures { result ≡ loose self.now name.now }
+        ensures value { result ≡ loose self.now name.now }
+        ensures strictly { LacksSpacesAndHyphens name.now →
+            IfSome (exact self.now name.now) (λ value. result ≡ Some value) }
     {
         self.foldings.get_folded(name)
     }

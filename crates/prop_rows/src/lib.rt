@@ -5,4 +5,6 @@
 #[cfg(test)]
 mod binary;
 #[cfg(test)]
+mod names;
+#[cfg(test)]
 mod values;

@@ -1,5 +1,6 @@
 -- The law of the packing of groups.
-use Rattle.std.proofs.Common.{◌≡◌, ℕ, Bool, true, false, cond, ◌&&◌, ◌==◌, Some, None, List, [], ◌∷◌, nat_lt, refl, sym, ap, ◌∙◌, arith}
+use Rattle.std.proofs.Common.{◌≡◌, ℕ, ◌<◌, ◌^◌, Bool, true, false, cond, ◌&&◌, ◌==◌, Some, None, List, [], ◌∷◌, nat_lt, refl, sym, ap, ◌∙◌, arith}
+use Rattle.std.specs.Prelude.{is_some}
 use Rattle.std.proofs.lemmas.Bool.{and_parts}
 use Rattle.std.proofs.lemmas.Bool.Decides.{nat_tests}
 use Rattle.prop_values.specs.Groups.{number_in, bits_in, packings, packed_group, unpacked_group}
@@ -37,3 +38,8 @@ unpacked_group-again n group h =
     let same : bits_in packings (number_in packings (bits_in packings n)) ≡ bits_in packings n = grind (arith, nat_tests, parts.0) in
     let again : unpacked_group (number_in packings (bits_in packings n)) ≡ Some (bits_in packings n) = ap (λ b. cond b (Some (bits_in packings (number_in packings (bits_in packings n)))) None) parts.1 ∙ ap Some same in
     ap (λ g. unpacked_group (packed_group g)) (sym group_is) ∙ (again ∙ ap Some group_is)
+
+-- each number that is 16 bits wide unpacks to a group
+pub unpacked_group-is_some : (n : ℕ) → n < 2 ^ 16 → is_some (unpacked_group n) ≡ true
+unpacked_group-is_some n small =
+    let fits : nat_lt n 65536 ≡ true = grind (arith, nat_tests, small) in ap (λ b. is_some (cond b (Some (bits_in packings n)) None)) fits

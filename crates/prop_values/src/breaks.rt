@@ -4,8 +4,8 @@ ghost use Rattle.cp_trie.specs.Values.{below};
 ghost use Rattle.cp_trie.specs.ValueLaws.{below-again, nat_eq-same};
 ghost use Rattle.prop_values.specs.NumberedLaws.{below-is_some};
 
-use crate::property::EnumeratedProperty;
-use crate::tables::MapTable;
+use crate::property::{EnumeratedProperty, ParseableEnumeratedProperty};
+use crate::tables::{MapTable, NamesTable};
 use cp_trie::{TrieValue, ValueError};
 use std::marker::Model;
 
@@ -81,6 +81,14 @@ impl EnumeratedProperty for LineBreak {
     ghost default_packed = { λ _ is. is };
 }
 
+impl ParseableEnumeratedProperty for LineBreak {
+    ghost NAMES = { 7 };
+
+    const NAMES: NamesTable = NamesTable::LINE_BREAK;
+
+    ghost names_accepted = { λ n _. below-is_some 256 n };
+}
+
 /// The class of a character in the breaking of grapheme clusters (UAX 29, section 3).
 #[derive(Clone, Copy, Debug, PartialEq, Eq, PartialOrd, Ord, Hash)]
 pub struct GraphemeClusterBreak(u8);
@@ -151,6 +159,14 @@ impl EnumeratedProperty for GraphemeClusterBreak {
     ghost accepted = { λ n _. below-is_some 256 n };
 
     ghost default_packed = { λ _ is. is };
+}
+
+impl ParseableEnumeratedProperty for GraphemeClusterBreak {
+    ghost NAMES = { 8 };
+
+    const NAMES: NamesTable = NamesTable::GRAPHEME_CLUSTER_BREAK;
+
+    ghost names_accepted = { λ n _. below-is_some 256 n };
 }
 
 /// The class of a character in the breaking of words (UAX 29, section 4).
@@ -225,6 +241,14 @@ impl EnumeratedProperty for WordBreak {
     ghost default_packed = { λ _ is. is };
 }
 
+impl ParseableEnumeratedProperty for WordBreak {
+    ghost NAMES = { 9 };
+
+    const NAMES: NamesTable = NamesTable::WORD_BREAK;
+
+    ghost names_accepted = { λ n _. below-is_some 256 n };
+}
+
 /// The class of a character in the breaking of sentences (UAX 29, section 5).
 #[derive(Clone, Copy, Debug, PartialEq, Eq, PartialOrd, Ord, Hash)]
 pub struct SentenceBreak(u8);
@@ -295,4 +319,12 @@ impl EnumeratedProperty for SentenceBreak {
     ghost accepted = { λ n _. below-is_some 256 n };
 
     ghost default_packed = { λ _ is. is };
+}
+
+impl ParseableEnumeratedProperty for SentenceBreak {
+    ghost NAMES = { 10 };
+
+    const NAMES: NamesTable = NamesTable::SENTENCE_BREAK;
+
+    ghost names_accepted = { λ n _. below-is_some 256 n };
 }

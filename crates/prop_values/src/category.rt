@@ -4,8 +4,8 @@ ghost use Rattle.prop_values.specs.declared.category.GeneralCategory.TheVariants
 ghost use Rattle.prop_values.specs.Category.{category_of, number_of, AnswersCategory};
 ghost use Rattle.prop_values.specs.CategoryLaws.{category_of-again, same_category, category_of-accepted, default_number_of};
 
-use crate::property::EnumeratedProperty;
-use crate::tables::MapTable;
+use crate::property::{EnumeratedProperty, ParseableEnumeratedProperty};
+use crate::tables::{MapTable, NamesTable};
 use cp_trie::{TrieValue, ValueError};
 use thiserror::Error;
 
@@ -169,4 +169,12 @@ impl EnumeratedProperty for GeneralCategory {
     ghost accepted = { λ n _. category_of-accepted n };
 
     ghost default_packed = { default_number_of };
+}
+
+impl ParseableEnumeratedProperty for GeneralCategory {
+    ghost NAMES = { 3 };
+
+    const NAMES: NamesTable = NamesTable::GENERAL_CATEGORY;
+
+    ghost names_accepted = { λ n _. category_of-accepted n };
 }

@@ -2,11 +2,13 @@
 ghost use Rattle.std.specs.Prelude.{◌≡◌, ◌<◌, ◌+◌, ◌%◌, ◌^◌, ◌&&◌, ◌||◌, ℕ, not, true, false, map};
 ghost use Rattle.prop_values.specs.Category.{number_of};
 ghost use Rattle.prop_values.specs.Groups.{has, named_groups, packed_group, unpacked_group, number_in, bits_in};
-ghost use Rattle.prop_values.specs.GroupLaws.{unpacked_group-again};
+ghost use Rattle.prop_values.specs.GroupLaws.{unpacked_group-again, unpacked_group-is_some};
 ghost use Rattle.cp_trie.specs.ValueLaws.{nat_eq-same};
 ghost use Rattle.prop_values.specs.declared.category.GeneralCategory.{GeneralCategory};
 
 use crate::category::GeneralCategory;
+use crate::property::ParseableEnumeratedProperty;
+use crate::tables::NamesTable;
 use cp_trie::{TrieValue, ValueError};
 use std::marker::Model;
 
@@ -388,4 +390,12 @@ impl TrieValue for GeneralCategoryGroup {
     fn to_u32(self) -> u32 {
         u32::from(number_of_bits(&PACKINGS, self.0))
     }
+}
+
+impl ParseableEnumeratedProperty for GeneralCategoryGroup {
+    ghost NAMES = { 17 };
+
+    const NAMES: NamesTable = NamesTable::GENERAL_CATEGORY_MASK;
+
+    ghost names_accepted = { unpacked_group-is_some };
 }

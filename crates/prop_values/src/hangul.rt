@@ -4,8 +4,8 @@ ghost use Rattle.cp_trie.specs.Values.{below};
 ghost use Rattle.cp_trie.specs.ValueLaws.{below-again, nat_eq-same};
 ghost use Rattle.prop_values.specs.NumberedLaws.{below-is_some};
 
-use crate::property::EnumeratedProperty;
-use crate::tables::MapTable;
+use crate::property::{EnumeratedProperty, ParseableEnumeratedProperty};
+use crate::tables::{MapTable, NamesTable};
 use cp_trie::{TrieValue, ValueError};
 use std::marker::Model;
 
@@ -93,4 +93,12 @@ impl EnumeratedProperty for HangulSyllableType {
     ghost accepted = { λ n _. below-is_some 256 n };
 
     ghost default_packed = { λ _ is. is };
+}
+
+impl ParseableEnumeratedProperty for HangulSyllableType {
+    ghost NAMES = { 5 };
+
+    const NAMES: NamesTable = NamesTable::HANGUL_SYLLABLE_TYPE;
+
+    ghost names_accepted = { λ n _. below-is_some 256 n };
 }

@@ -4,8 +4,8 @@ ghost use Rattle.cp_trie.specs.Values.{below};
 ghost use Rattle.cp_trie.specs.ValueLaws.{below-again, nat_eq-same};
 ghost use Rattle.prop_values.specs.NumberedLaws.{below-is_some};
 
-use crate::property::EnumeratedProperty;
-use crate::tables::MapTable;
+use crate::property::{EnumeratedProperty, ParseableEnumeratedProperty};
+use crate::tables::{MapTable, NamesTable};
 use cp_trie::{TrieValue, ValueError};
 use std::marker::Model;
 
@@ -81,6 +81,14 @@ impl EnumeratedProperty for IndicConjunctBreak {
     ghost default_packed = { λ _ is. is };
 }
 
+impl ParseableEnumeratedProperty for IndicConjunctBreak {
+    ghost NAMES = { 12 };
+
+    const NAMES: NamesTable = NamesTable::INDIC_CONJUNCT_BREAK;
+
+    ghost names_accepted = { λ n _. below-is_some 256 n };
+}
+
 /// The structural category of a syllabic component in Indic scripts (UAX 44, section 5.3).
 #[derive(Clone, Copy, Debug, PartialEq, Eq, PartialOrd, Ord, Hash)]
 pub struct IndicSyllabicCategory(u8);
@@ -151,4 +159,12 @@ impl EnumeratedProperty for IndicSyllabicCategory {
     ghost accepted = { λ n _. below-is_some 256 n };
 
     ghost default_packed = { λ _ is. is };
+}
+
+impl ParseableEnumeratedProperty for IndicSyllabicCategory {
+    ghost NAMES = { 13 };
+
+    const NAMES: NamesTable = NamesTable::INDIC_SYLLABIC_CATEGORY;
+
+    ghost names_accepted = { λ n _. below-is_some 256 n };
 }

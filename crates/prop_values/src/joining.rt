@@ -4,8 +4,8 @@ ghost use Rattle.cp_trie.specs.Values.{below};
 ghost use Rattle.cp_trie.specs.ValueLaws.{below-again, nat_eq-same};
 ghost use Rattle.prop_values.specs.NumberedLaws.{below-is_some};
 
-use crate::property::EnumeratedProperty;
-use crate::tables::MapTable;
+use crate::property::{EnumeratedProperty, ParseableEnumeratedProperty};
+use crate::tables::{MapTable, NamesTable};
 use cp_trie::{TrieValue, ValueError};
 use std::marker::Model;
 
@@ -81,6 +81,14 @@ impl EnumeratedProperty for JoiningGroup {
     ghost default_packed = { λ _ is. is };
 }
 
+impl ParseableEnumeratedProperty for JoiningGroup {
+    ghost NAMES = { 14 };
+
+    const NAMES: NamesTable = NamesTable::JOINING_GROUP;
+
+    ghost names_accepted = { λ n _. below-is_some 256 n };
+}
+
 /// The joining type of a character (UAX 44, section 5.3).
 #[derive(Clone, Copy, Debug, PartialEq, Eq, PartialOrd, Ord, Hash)]
 pub struct JoiningType(u8);
@@ -151,4 +159,12 @@ impl EnumeratedProperty for JoiningType {
     ghost accepted = { λ n _. below-is_some 256 n };
 
     ghost default_packed = { λ _ is. is };
+}
+
+impl ParseableEnumeratedProperty for JoiningType {
+    ghost NAMES = { 15 };
+
+    const NAMES: NamesTable = NamesTable::JOINING_TYPE;
+
+    ghost names_accepted = { λ n _. below-is_some 256 n };
 }

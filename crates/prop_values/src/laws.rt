@@ -10,13 +10,14 @@ use crate::block::Block;
 use crate::breaks::{GraphemeClusterBreak, LineBreak, SentenceBreak, WordBreak};
 use crate::category::GeneralCategory;
 use crate::glyph::BidiMirroringGlyph;
+use crate::group::GeneralCategoryGroup;
 use crate::hangul::HangulSyllableType;
 use crate::indic::{IndicConjunctBreak, IndicSyllabicCategory};
 use crate::joining::{JoiningGroup, JoiningType};
 use crate::layout::{EastAsianWidth, VerticalOrientation};
 use crate::marks::CanonicalCombiningClass;
 use crate::numeric::NumericType;
-use crate::property::EnumeratedProperty;
+use crate::property::{EnumeratedProperty, ParseableEnumeratedProperty};
 use crate::script::Script;
 
 /// Two groups with the same categories are the same, so they are equal.
@@ -45,6 +46,30 @@ pub fn numbers_of_tables()
         ∷ ⟦<JoiningType as EnumeratedProperty>⟧.TABLE
         ∷ ⟦<VerticalOrientation as EnumeratedProperty>⟧.TABLE
         ∷ ⟦<BidiMirroringGlyph as EnumeratedProperty>⟧.TABLE
+        ∷ []) ≡ numbers_from 0 18 }
+{}
+
+/// The tables of names of the property types, in this order, have the numbers 0 to 17.
+pub fn numbers_of_names_tables()
+    ensures { (
+        ⟦<BidiClass as ParseableEnumeratedProperty>⟧.NAMES
+        ∷ ⟦<Block as ParseableEnumeratedProperty>⟧.NAMES
+        ∷ ⟦<NumericType as ParseableEnumeratedProperty>⟧.NAMES
+        ∷ ⟦<GeneralCategory as ParseableEnumeratedProperty>⟧.NAMES
+        ∷ ⟦<Script as ParseableEnumeratedProperty>⟧.NAMES
+        ∷ ⟦<HangulSyllableType as ParseableEnumeratedProperty>⟧.NAMES
+        ∷ ⟦<EastAsianWidth as ParseableEnumeratedProperty>⟧.NAMES
+        ∷ ⟦<LineBreak as ParseableEnumeratedProperty>⟧.NAMES
+        ∷ ⟦<GraphemeClusterBreak as ParseableEnumeratedProperty>⟧.NAMES
+        ∷ ⟦<WordBreak as ParseableEnumeratedProperty>⟧.NAMES
+        ∷ ⟦<SentenceBreak as ParseableEnumeratedProperty>⟧.NAMES
+        ∷ ⟦<CanonicalCombiningClass as ParseableEnumeratedProperty>⟧.NAMES
+        ∷ ⟦<IndicConjunctBreak as ParseableEnumeratedProperty>⟧.NAMES
+        ∷ ⟦<IndicSyllabicCategory as ParseableEnumeratedProperty>⟧.NAMES
+        ∷ ⟦<JoiningGroup as ParseableEnumeratedProperty>⟧.NAMES
+        ∷ ⟦<JoiningType as ParseableEnumeratedProperty>⟧.NAMES
+        ∷ ⟦<VerticalOrientation as ParseableEnumeratedProperty>⟧.NAMES
+        ∷ ⟦<GeneralCategoryGroup as ParseableEnumeratedProperty>⟧.NAMES
         ∷ []) ≡ numbers_from 0 18 }
 {}
 

@@ -4,8 +4,8 @@ ghost use Rattle.cp_trie.specs.Values.{below};
 ghost use Rattle.cp_trie.specs.ValueLaws.{below-again, nat_eq-same};
 ghost use Rattle.prop_values.specs.NumberedLaws.{below-is_some};
 
-use crate::property::EnumeratedProperty;
-use crate::tables::MapTable;
+use crate::property::{EnumeratedProperty, ParseableEnumeratedProperty};
+use crate::tables::{MapTable, NamesTable};
 use cp_trie::{TrieValue, ValueError};
 use std::marker::Model;
 
@@ -81,6 +81,14 @@ impl EnumeratedProperty for EastAsianWidth {
     ghost default_packed = { λ _ is. is };
 }
 
+impl ParseableEnumeratedProperty for EastAsianWidth {
+    ghost NAMES = { 6 };
+
+    const NAMES: NamesTable = NamesTable::EAST_ASIAN_WIDTH;
+
+    ghost names_accepted = { λ n _. below-is_some 256 n };
+}
+
 /// The orientation of a character in vertical text (UAX 50).
 #[derive(Clone, Copy, Debug, PartialEq, Eq, PartialOrd, Ord, Hash)]
 pub struct VerticalOrientation(u8);
@@ -151,4 +159,12 @@ impl EnumeratedProperty for VerticalOrientation {
     ghost accepted = { λ n _. below-is_some 256 n };
 
     ghost default_packed = { λ _ is. is };
+}
+
+impl ParseableEnumeratedProperty for VerticalOrientation {
+    ghost NAMES = { 16 };
+
+    const NAMES: NamesTable = NamesTable::VERTICAL_ORIENTATION;
+
+    ghost names_accepted = { λ n _. below-is_some 256 n };
 }

@@ -32,7 +32,7 @@ pub use joining::{JoiningGroup, JoiningType};
 pub use layout::{EastAsianWidth, VerticalOrientation};
 pub use marks::CanonicalCombiningClass;
 pub use numeric::NumericType;
-pub use property::EnumeratedProperty;
+pub use property::{EnumeratedProperty, ParseableEnumeratedProperty};
 pub use script::{Script, ScriptWithExt};
 pub use subtag::Subtag;
 pub use tables::{MapTable, NamesTable};

@@ -5,8 +5,8 @@ ghost use Rattle.cp_trie.specs.ValueLaws.{below-again, nat_eq-same};
 ghost use Rattle.prop_values.specs.NumberedLaws.{below-is_some};
 ghost use Rattle.prop_values.specs.ScriptWithExt.{kind_of, with_extensions};
 
-use crate::property::EnumeratedProperty;
-use crate::tables::MapTable;
+use crate::property::{EnumeratedProperty, ParseableEnumeratedProperty};
+use crate::tables::{MapTable, NamesTable};
 use cp_trie::{TrieValue, ValueError};
 use std::marker::Model;
 
@@ -104,6 +104,14 @@ impl EnumeratedProperty for Script {
     ghost accepted = { λ n _. below-is_some 65536 n };
 
     ghost default_packed = { λ _ is. is };
+}
+
+impl ParseableEnumeratedProperty for Script {
+    ghost NAMES = { 4 };
+
+    const NAMES: NamesTable = NamesTable::SCRIPT;
+
+    ghost names_accepted = { λ n _. below-is_some 65536 n };
 }
 
 /// A script, or the place of a list of scripts, as the map of script extensions (UAX 24, section 2.8) keeps it for a

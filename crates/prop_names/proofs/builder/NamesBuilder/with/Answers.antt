@@ -1,15 +1,14 @@
 use Rattle.std.proofs.Common.{◌≡◌, ℕ, List, Option, Some, IfSome, cond, subst, sym, ap, ap₂, ◌∙◌}
 use Rattle.std.specs.Str.{bytes_eq}
 use Rattle.std.specs.String.{string_bytes}
-use Rattle.std.proofs.lemmas.Map.Text.{btree_map_updates_text}
 use Rattle.prop_names.specs.Folding.{stored_folding}
-use Rattle.prop_names.specs.Names.{Names, value_of_folding, with_name}
+use Rattle.prop_names.specs.Names.{Names, FoldingsAgree, exact, value_of_folding, with_name}
 use Rattle.prop_names.specs.Texts.{texts}
-use Rattle.prop_names.proofs.NamesLemmas.{texts-insert_entry, value_of_folding-with_name, lookup-texts}
+use Rattle.prop_names.proofs.NamesLemmas.{FoldingsAgree-with_name, exact-texts, texts-insert_entry, value_of_folding-with_name}
 use Rattle.prop_names.proofs.builder.NamesBuilder.with.Goals as goal
 
 pub invariant_of-result : goal.invariant_of-result
-invariant_of-result c = λ f.
+invariant_of-result c =
     let old = c.self.inside in
     let name = string_bytes c.args.name in
     let folding = string_bytes c.args.folding in
@@ -17,10 +16,14 @@ invariant_of-result c = λ f.
     let agrees : IfSome (value_of_folding (texts old.names.entries) (stored_folding name)) (λ other. other ≡ c.args.value) =
     subst (λ (n : Names). IfSome (value_of_folding n (stored_folding name)) (λ other. other ≡ c.args.value)) (sym c.self.view_is)
     (subst (λ (g : List ℕ). IfSome (value_of_folding c.args.self g) (λ other. other ≡ c.args.value)) c.requires.folds c.requires.agrees) in
-    lookup-texts c.insert-2.new.self f
-    ∙ (btree_map_updates_text folding old.foldings c.insert-2.new.self (Some c.args.value) c.in_ok-insert-2.ensures.updates f
-    ∙ (ap₂ (λ (g : List ℕ) (v : Option ℕ). cond (bytes_eq g f) (Some c.args.value) v) c.requires.folds (sym (lookup-texts old.foldings f) ∙ c.self.invariant f)
-    ∙ (sym (value_of_folding-with_name (texts old.names.entries) name c.args.value agrees f) ∙ ap (λ (n : Names). value_of_folding n f) (sym named))))
+    record {
+      found = λ f. exact-texts old.foldings c.insert-2.new.self folding c.args.value c.in_ok-insert-2.ensures.updates f
+          ∙ (ap₂ (λ (g : List ℕ) (v : Option ℕ). cond (bytes_eq g f) (Some c.args.value) v) c.requires.folds (c.self.invariant.found f)
+          ∙ (sym (value_of_folding-with_name (texts old.names.entries) name c.args.value agrees f) ∙ ap (λ (n : Names). value_of_folding n f) (sym named)));
+      agree = subst FoldingsAgree (sym named)
+          (FoldingsAgree-with_name (texts old.names.entries) name c.args.value c.self.invariant.agree agrees
+          (λ q. ap (λ (n : Names). exact n q) (sym named) ∙ exact-texts old.names c.insert.new.self name c.args.value c.in_ok-insert.ensures.updates q));
+    }
 
 pub returns : goal.returns
 returns c =
