@@ -15,8 +15,6 @@ mod row;
 mod scripts;
 mod string;
 mod table;
-#[cfg(test)]
-mod tests;
 mod value;
 
 pub use database::PropertyDatabase;

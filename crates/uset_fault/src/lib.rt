@@ -3,7 +3,5 @@
 
 mod error;
 mod shown;
-#[cfg(test)]
-mod tests;
 
 pub use error::{ParseError, ParseErrorKind};

@@ -3,8 +3,6 @@
 
 mod calls;
 pub mod laws;
-#[cfg(test)]
-mod tests;
 
 pub use calls::{parse, parse_unstable, parse_unstable_with_variables, parse_with_variables};
 pub use uset_fault::{ParseError, ParseErrorKind};

@@ -9,8 +9,6 @@ mod escape;
 mod name;
 mod property;
 mod stop;
-#[cfg(test)]
-mod tests;
 mod text;
 
 pub use braced_string::read_string;

@@ -2,8 +2,6 @@
 #![tactic(auto)]
 
 mod map;
-#[cfg(test)]
-mod tests;
 mod value;
 
 pub use map::{InsertError, VariableMap};

@@ -1,12 +1,13 @@
-use crate::{
-    InsertError, ParseError, ParseErrorKind, VariableMap, VariableValue, parse, parse_unstable,
-    parse_unstable_with_variables, parse_with_variables,
-};
+//! The four calls that read a source.
 use cp_invlist::CodePointInversionList;
 use cp_strset::CodePointInversionListAndStringList;
 use prop_data::PropertyDatabase;
 use std::alloc::{AllocError, Global};
 use std::test::Fail;
+use uset_parse::{
+    InsertError, ParseError, ParseErrorKind, VariableMap, VariableValue, parse, parse_unstable,
+    parse_unstable_with_variables, parse_with_variables,
+};
 use uset_reader::{Syntax, read_set};
 
 /// The three syntax tables for ASCII.

@@ -1,5 +1,6 @@
-use crate::{ParseError, ParseErrorKind};
+//! Faults shown with their sources.
 use std::test::Fail;
+use uset_fault::{ParseError, ParseErrorKind};
 
 #[test]
 fn a_fault_is_shown_behind_the_front_of_its_source(rt: HostRuntime) -> Result<(), Fail> {

@@ -1,8 +1,9 @@
-use crate::{InsertError, VariableMap, VariableString, VariableValue};
+//! Maps of variables.
 use cp_invlist::CodePointInversionList;
 use cp_strset::CodePointInversionListAndStringList;
 use std::alloc::{AllocError, Global};
 use std::test::Fail;
+use uset_variables::{InsertError, VariableMap, VariableString, VariableValue};
 
 fn text(alloc: Global, s: &str) -> Result<String, AllocError> {
     String::from_str(alloc, s)

@@ -1,9 +1,10 @@
-use crate::{
+//! Units at the front of a text: escapes, strings, properties and names.
+use cp_invlist::CodePointInversionList;
+use std::test::Fail;
+use uset_read::{
     Around, Cursor, Form, Kind, Spelled, Stop, close_property, read_escape, read_name,
     read_property, read_string,
 };
-use cp_invlist::CodePointInversionList;
-use std::test::Fail;
 
 /// White space of patterns.
 const SPACES: [u32; 10] = [

@@ -1,0 +1,101 @@
+//! Tables of maps.
+use crate::fixtures::{EVERY_KIND, Faulty, assert_faults};
+use prop_data::{MapTable, PropertyDatabase, TableErrorKind};
+use std::alloc::Global;
+use std::process::Abort;
+use std::test::Fail;
+
+/// The number of the value at the code point.
+fn value(database: &PropertyDatabase, table: MapTable, code_point: u32) -> Option<u32> {
+    Some(database.map(table)?.get32(code_point))
+}
+
+/// Asserts that the text has these values in its maps.
+fn assert_values(
+    rt: &impl Abort,
+    alloc: Global,
+    text: &str,
+    rows: &[(MapTable, u32, Option<u32>)],
+) -> Result<(), Fail> {
+    let database = PropertyDatabase::from_text(alloc, text)?;
+    for (table, code_point, expected) in rows {
+        let found = value(&database, *table, *code_point);
+        assert_eq!(rt; found, *expected, "at {} {code_point}", table.number());
+    }
+    Ok(())
+}
+
+#[test]
+fn maps_are_read(rt: HostRuntime) -> Result<(), Fail> {
+    let text = "map Script 103\n41-5A 25\n61-7A 0025\n30FC 0\nset Dash\n2D\n\
+        map General_Category 29\nmap Bidi_Mirroring_Glyph 0\n28 6291497\nend";
+    let rows = [
+        (MapTable::SCRIPT, 0x40, Some(103)),
+        (MapTable::SCRIPT, 0x41, Some(25)),
+        (MapTable::SCRIPT, 0x5A, Some(25)),
+        (MapTable::SCRIPT, 0x5B, Some(103)),
+        (MapTable::SCRIPT, 0x7A, Some(25)),
+        (MapTable::SCRIPT, 0x30FC, Some(0)),
+        (MapTable::SCRIPT, 0x10_FFFF, Some(103)),
+        (MapTable::SCRIPT, 0x11_0000, Some(103)),
+        (MapTable::GENERAL_CATEGORY, 0, Some(29)),
+        (MapTable::GENERAL_CATEGORY, 0x10_FFFF, Some(29)),
+        (MapTable::GENERAL_CATEGORY, 0x11_0000, Some(0)),
+        (MapTable::BIDI_MIRRORING_GLYPH, 0x28, Some(0x60_0029)),
+        (MapTable::BLOCK, 0x28, None),
+    ];
+    assert_values(&rt, rt.alloc(), text, &rows)
+}
+
+#[test]
+fn maps_of_a_text_of_every_kind_are_read(rt: HostRuntime) -> Result<(), Fail> {
+    let rows = [
+        (MapTable::GENERAL_CATEGORY, 0x2F, Some(0)),
+        (MapTable::GENERAL_CATEGORY, 0x39, Some(9)),
+        (MapTable::GENERAL_CATEGORY, 0x61, Some(2)),
+        (MapTable::GENERAL_CATEGORY, 0xD800, Some(18)),
+        (MapTable::SCRIPT, 0x3096, Some(20)),
+        (MapTable::SCRIPT, 0x3097, Some(103)),
+        (MapTable::CANONICAL_COMBINING_CLASS, 0x314, Some(230)),
+        (MapTable::CANONICAL_COMBINING_CLASS, 0x315, Some(0)),
+        (MapTable::BIDI_MIRRORING_GLYPH, 0x28, None),
+    ];
+    assert_values(&rt, rt.alloc(), EVERY_KIND, &rows)
+}
+
+/// Numbers that a property has no value for, and misspelled, large or disordered ranges.
+const FAULTS: &[Faulty] = &[
+    ("map General_Category 30", 1, TableErrorKind::ValueOutOfType),
+    ("map Block 65536", 1, TableErrorKind::ValueOutOfType),
+    (
+        "map Bidi_Mirroring_Glyph 4294967296",
+        1,
+        TableErrorKind::ValueOutOfType,
+    ),
+    ("map Script 12345678901", 1, TableErrorKind::BadNumber),
+    ("map Script -1", 1, TableErrorKind::BadNumber),
+    (
+        "map Script 0\nset Dash\nmap Script 0",
+        3,
+        TableErrorKind::TableTwice,
+    ),
+    ("map Script 0\n41 2G", 2, TableErrorKind::BadNumber),
+    ("map Script 0\n4G 65536", 2, TableErrorKind::BadNumber),
+    ("map Script 0\n110000 65536", 2, TableErrorKind::TooLarge),
+    (
+        "map Script 0\n41 1\n41 65536",
+        3,
+        TableErrorKind::RangeOrder,
+    ),
+    ("map Script 0\n41 65536", 2, TableErrorKind::ValueOutOfType),
+    (
+        "map Line_Break 0\n41 256",
+        2,
+        TableErrorKind::ValueOutOfType,
+    ),
+];
+
+#[test]
+fn faults_of_maps_are_told(rt: HostRuntime) {
+    assert_faults(&rt, rt.alloc(), FAULTS);
+}

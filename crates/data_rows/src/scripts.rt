@@ -1,0 +1,197 @@
+//! Scripts with extensions, and their lists.
+use crate::fixtures::{EVERY_KIND, Faulty, assert_faults};
+use prop_data::{PropertyDatabase, TableErrorKind};
+use prop_values::Script;
+use std::alloc::Global;
+use std::process::Abort;
+use std::test::Fail;
+
+/// The number at the code point.
+fn number(database: &PropertyDatabase, code_point: u32) -> Option<u16> {
+    Some(database.scripts()?.script_trie().get32(code_point).0)
+}
+
+/// Asserts which numbers the code points have.
+fn assert_numbers(
+    rt: &impl Abort,
+    alloc: Global,
+    text: &str,
+    rows: &[(u32, u16)],
+) -> Result<(), Fail> {
+    let database = PropertyDatabase::from_text(alloc, text)?;
+    for (code_point, expected) in rows {
+        assert_eq!(rt;
+            number(&database, *code_point),
+            Some(*expected),
+            "at {code_point}"
+        );
+    }
+    Ok(())
+}
+
+const SCRIPTS: &str =
+    "ext 6\n1\n3\nscx 103\n41-5A 25\n30FC 1024\n30FD 03077\n30FE 2054\n30FF 65535\n\
+    ext 0\n20\n22\next 00005 25\n0\n65535\next 1023\nend";
+
+#[test]
+fn scripts_with_extensions_are_read(rt: HostRuntime) -> Result<(), Fail> {
+    let rows = [
+        (0x40, 103),
+        (0x5A, 25),
+        (0x30FC, 1024),
+        (0x30FD, 3077),
+        (0x30FE, 2054),
+        (0x30FF, 65535),
+        (0x10_FFFF, 103),
+        (0x11_0000, 103),
+    ];
+    assert_numbers(&rt, rt.alloc(), SCRIPTS, &rows)
+}
+
+#[test]
+fn scripts_of_a_text_of_every_kind_are_read(rt: HostRuntime) -> Result<(), Fail> {
+    let rows = [(0x61, 25), (0x30FA, 22), (0x30FB, 103), (0x30FC, 1024)];
+    assert_numbers(&rt, rt.alloc(), EVERY_KIND, &rows)
+}
+
+#[test]
+fn past_the_last_code_point_a_script_is_unknown(rt: HostRuntime) -> Result<(), Fail> {
+    let rows = [(0x10_FFFF, 7), (0x11_0000, 103)];
+    assert_numbers(&rt, rt.alloc(), "scx 7\nend", &rows)
+}
+
+/// The list at the index.
+fn list(database: &PropertyDatabase, index: u16) -> Option<&[Script]> {
+    database.scripts()?.extensions(index)
+}
+
+/// Whether the scripts have these numbers.
+fn have_numbers(scripts: Option<&[Script]>, numbers: &[u16]) -> bool {
+    let Some(scripts) = scripts else {
+        return false;
+    };
+    scripts.len() == numbers.len()
+        && scripts
+            .iter()
+            .zip(numbers)
+            .all(|(script, number)| script.to_icu4c_value() == *number)
+}
+
+#[test]
+fn lists_are_found_by_their_indices(rt: HostRuntime) -> Result<(), Fail> {
+    let database = PropertyDatabase::from_text(rt.alloc(), SCRIPTS)?;
+    let lists: [(u16, &[u16]); 4] = [
+        (0, &[20, 22]),
+        (5, &[25, 0, 65535]),
+        (6, &[1, 3]),
+        (1023, &[]),
+    ];
+    for (index, numbers) in lists {
+        assert!(rt; have_numbers(list(&database, index), numbers), "at {index}");
+    }
+    Ok(())
+}
+
+#[test]
+fn other_indices_have_no_list(rt: HostRuntime) -> Result<(), Fail> {
+    let database = PropertyDatabase::from_text(rt.alloc(), SCRIPTS)?;
+    assert!(rt; list(&database, 1).is_none());
+    assert!(rt; list(&database, 1024).is_none());
+    Ok(())
+}
+
+#[test]
+fn lists_alone_are_no_scripts(rt: HostRuntime) -> Result<(), Fail> {
+    let database = PropertyDatabase::from_text(rt.alloc(), "ext 0\n20\nend")?;
+    assert!(rt; database.scripts().is_none());
+    Ok(())
+}
+
+#[test]
+fn a_copy_of_scripts_answers_alike(rt: HostRuntime) -> Result<(), Fail> {
+    let database = PropertyDatabase::from_text(rt.alloc(), SCRIPTS)?;
+    let copy = database.scripts().ok_or("no table")?.copy(rt.alloc())?;
+    assert_eq!(rt; copy.script_trie().get32(0x30FC).0, 1024);
+    assert!(rt; have_numbers(copy.extensions(0), &[20, 22]));
+    Ok(())
+}
+
+/// Headers and rows that are none, tables that are there, and misspelled numbers.
+const FAULTS: &[Faulty] = &[
+    ("scx", 1, TableErrorKind::UnknownLine),
+    ("scx 103 0", 1, TableErrorKind::UnknownLine),
+    ("ext", 1, TableErrorKind::UnknownLine),
+    ("ext 0 25 1", 1, TableErrorKind::UnknownLine),
+    ("scx 103\n41", 2, TableErrorKind::UnknownLine),
+    ("ext 0\n20 21", 2, TableErrorKind::UnknownLine),
+    ("scx 103\nset Dash\nscx 0", 3, TableErrorKind::TableTwice),
+    ("scx 103\nscx x", 2, TableErrorKind::TableTwice),
+    ("ext 0\next 00", 2, TableErrorKind::TableTwice),
+    ("ext 0\next 0 25", 2, TableErrorKind::TableTwice),
+    ("ext 0 25\next 0 x", 2, TableErrorKind::TableTwice),
+    ("scx x", 1, TableErrorKind::BadNumber),
+    ("ext x", 1, TableErrorKind::BadNumber),
+    ("ext 1024 x", 1, TableErrorKind::BadNumber),
+    ("ext 12345678901", 1, TableErrorKind::BadNumber),
+    ("scx 103\n4G 65536", 2, TableErrorKind::BadNumber),
+    ("scx 103\n41 x", 2, TableErrorKind::BadNumber),
+    ("ext 0\n2A", 2, TableErrorKind::BadNumber),
+    (
+        "ext 5\n1\n3\nscx 103\n41-5A 25\n30FC 1024\n30FD 03077\n30FE 1029\next 0\n20\n22\next 00005 25\nend",
+        12,
+        TableErrorKind::TableTwice,
+    ),
+];
+
+/// Indices, code points and numbers of no script, and scripts out of order.
+const OUT_OF_BOUNDS: &[Faulty] = &[
+    ("ext 1024", 1, TableErrorKind::TooLarge),
+    ("ext 1024 65536", 1, TableErrorKind::TooLarge),
+    ("ext 4294967296", 1, TableErrorKind::TooLarge),
+    ("scx 103\n110000 65536", 2, TableErrorKind::TooLarge),
+    ("scx 103\n41 0\n41 65536", 3, TableErrorKind::RangeOrder),
+    ("scx 65536", 1, TableErrorKind::ValueOutOfType),
+    ("ext 0 65536", 1, TableErrorKind::ValueOutOfType),
+    ("scx 103\n41 65536", 2, TableErrorKind::ValueOutOfType),
+    ("ext 0\n20\n65536", 3, TableErrorKind::ValueOutOfType),
+    ("ext 0\n20\n20", 3, TableErrorKind::ExtensionOrder),
+    ("ext 0\n20\n19", 3, TableErrorKind::ExtensionOrder),
+    ("ext 0 25\n0\n25\n24", 4, TableErrorKind::ExtensionOrder),
+];
+
+/// Numbers whose list is not there at `end`.
+const MISSING: &[Faulty] = &[
+    ("scx 1024\nend", 2, TableErrorKind::ExtensionMissing),
+    ("scx 0\n41 2049\nend", 3, TableErrorKind::ExtensionMissing),
+    (
+        "scx 0\n41 3073\n42 7\next 1\nend",
+        5,
+        TableErrorKind::ExtensionMissing,
+    ),
+    (
+        "ext 1 25\nscx 1025\nend",
+        3,
+        TableErrorKind::ExtensionMissing,
+    ),
+    ("scx 4095\nend", 2, TableErrorKind::ExtensionMissing),
+    ("scx 4096\nend\nend", 3, TableErrorKind::AfterEnd),
+    ("end\nscx 0", 2, TableErrorKind::AfterEnd),
+    ("end\next 0", 2, TableErrorKind::AfterEnd),
+    ("scx 103\nend\n41 0", 3, TableErrorKind::UnknownLine),
+    ("scx 1024", 2, TableErrorKind::NoEnd),
+];
+
+#[test]
+fn faults_of_scripts_with_extensions_are_told(rt: HostRuntime) {
+    assert_faults(&rt, rt.alloc(), FAULTS);
+}
+
+#[test]
+fn numbers_of_scripts_out_of_bounds_are_told(rt: HostRuntime) {
+    assert_faults(&rt, rt.alloc(), OUT_OF_BOUNDS);
+}
+
+#[test]
+fn missing_lists_of_scripts_are_told(rt: HostRuntime) {
+    assert_faults(&rt, rt.alloc(), MISSING);
+}
