@@ -17,6 +17,7 @@ pub mod TurnIsMoveOrFault
 pub mod MoveOrFaultIsTurn
 pub mod Completion
 pub mod OneAnswer
+pub mod FreeUnits
 pub mod Finiteness
 pub mod ThreeLists
 pub mod SampleLanguage
