@@ -1,12 +1,11 @@
 -- What is read of a unit is read of it before any other rest.
-use Rattle.std.proofs.Common.{◌≡◌, arith, ℕ, ◌+◌, ◌≤◌, zero, suc, length, Bool, true, false, cond, List, [], ◌∷◌, ◌++◌, Option, Some, None, refl, sym, ap, ◌∙◌, subst, append_assoc}
+use Rattle.std.proofs.Common.{◌≡◌, arith, ℕ, ◌≤◌, zero, suc, length, Bool, true, false, cond, List, [], ◌∷◌, ◌++◌, Option, Some, None, refl, sym, ap, ◌∙◌, subst, append_assoc}
 use Rattle.std.specs.Prelude.{◌==◌}
 use Rattle.std.proofs.lemmas.Bool.{eqb-true}
 use Rattle.std.proofs.lemmas.List.{length-append}
 use Rattle.uset_grammar.specs.Text.{Text, ◌>>=◌, behind_code}
 use Rattle.uset_grammar.specs.Escape.{is_hex, Spelled, named, itself, numbers, digits, value, up_to_brace, words, values, at_least_one, braced, braced_or, escape_by, escape_at, escape_shape, plain, Letter, four, two, six, name, other, letter}
-use Rattle.uset_grammar.specs.BracedString.{with_piece, pieces_shape, string_shape, StringRead}
-use Rattle.uset_grammar.specs.EscapeSlips.{EscapeRead}
+use Rattle.uset_grammar.specs.BracedString.{with_piece, pieces_shape, string_shape}
 use Rattle.uset_grammar.specs.Property.{Query, Form, posix, perl, mark, up_to, closed, without_white, inner, caret_or, perl_shape, property_shape, PropertyRead}
 use Rattle.uset_grammar.specs.Property as P
 use Rattle.uset_grammar.specs.Unit.{Meaning, UnitRead, escape_read, string_read, property_read}
@@ -34,8 +33,7 @@ then_free : {A B : Type 0} (f : Text → Option (A × Text)) (g : A → Text →
 then_free f g t v r h first second =
     let b = bound (f t) (λ p. g p.0 p.1) (v, r) h in
     let (w, e, here) = first b.0.0 b.0.1 b.1 in
-    let (x, k, there) = second b.0.0 b.0.1 b.2 in
-    (
+    let (x, k, there) = second b.0.0 b.0.1 b.2 in (
       w ++ x,
       e ∙ (ap (λ z. w ++ z) k ∙ sym (append_assoc w x r)),
       λ s. ap (λ z. f z >>= λ p. g p.0 p.1) (append_assoc w x s) ∙ (ap (λ o. o >>= λ p. g p.0 p.1) (here (x ++ s)) ∙ there s),
@@ -129,8 +127,7 @@ module _ (white_space : ℕ → Bool) where
   escape_by_free six c t v r h =
       let b = bound (behind_code 0x30 t) (λ u. (behind_code 0x30 u >>= digits 6 [])) (v, r) h in
       let d = bound (behind_code 0x30 b.0) (digits 6 []) (v, r) b.2 in
-      let (w, e, here) = digits_free 6 [] d.0 v r d.2 in
-      (
+      let (w, e, here) = digits_free 6 [] d.0 v r d.2 in (
         0x30 ∷ 0x30 ∷ w,
         behind_is 0x30 t b.0 b.1 ∙ ap (λ z. 0x30 ∷ z) (behind_is 0x30 b.0 d.0 d.1 ∙ ap (λ z. 0x30 ∷ z) e),
         here,
@@ -186,32 +183,30 @@ module _ (white_space : ℕ → Bool) where
           let (vs, k, is) = piece_parts b.0.0 (pieces_shape white_space n b.0.1) v r b.2 in
           let (d, w, start, there) = more b.0.1 vs k in
           let (c2, w2, split, escaped) = escape_free (c ∷ t) b.0.0 b.0.1 b.1 in
-          let behind : t ≡ c2 ∷ (w2 ++ b.0.1) = (let k : ◌≡◌ {A = Text} (c ∷ t) (0x5C ∷ c2 ∷ (w2 ++ b.0.1)) = split in cc) in
-          (
+          let behind : t ≡ c2 ∷ (w2 ++ b.0.1) = (let k : ◌≡◌ {A = Text} (c ∷ t) (0x5C ∷ c2 ∷ (w2 ++ b.0.1)) = split in cc) in (
             c,
             c2 ∷ (w2 ++ d ∷ w),
             ap (λ u. c ∷ u) (behind ∙ ap (λ u. c2 ∷ u) (ap (λ u. w2 ++ u) start ∙ sym (append_assoc w2 (d ∷ w) r))),
             λ m s le.
-              let longer = length-append w2 (d ∷ w) in
-              let rest : pieces_shape white_space m (d ∷ (w ++ s)) ≡ Some (vs, s) = at_less (length w) m (λ m. pieces_shape white_space m (d ∷ (w ++ s)) ≡ Some (vs, s)) (omega (arith, le, longer)) (λ k le. there k s le) in
-              let same : escape_shape white_space (c ∷ c2 ∷ ((w2 ++ d ∷ w) ++ s)) ≡ Some (b.0.0, d ∷ (w ++ s)) =
-              ap (λ u. escape_shape white_space (c ∷ c2 ∷ u)) (append_assoc w2 (d ∷ w) s)
-              ∙ (ap (λ e. escape_shape white_space (e ∷ c2 ∷ (w2 ++ d ∷ (w ++ s)))) (eqb-true c 0x5C g) ∙ escaped (d ∷ (w ++ s))) in
-              here false false true e f g m (c2 ∷ ((w2 ++ d ∷ w) ++ s))
-              ∙ (ap (λ o. o >>= λ p. with_piece p.0 (pieces_shape white_space m p.1)) same
-              ∙ (ap (with_piece b.0.0) rest ∙ ap (λ vs. Some (vs, s)) is)),
+                let longer = length-append w2 (d ∷ w) in
+                let rest : pieces_shape white_space m (d ∷ (w ++ s)) ≡ Some (vs, s) = at_less (length w) m (λ m. pieces_shape white_space m (d ∷ (w ++ s)) ≡ Some (vs, s)) (omega (arith, le, longer)) (λ k le. there k s le) in
+                let same : escape_shape white_space (c ∷ c2 ∷ ((w2 ++ d ∷ w) ++ s)) ≡ Some (b.0.0, d ∷ (w ++ s)) =
+                ap (λ u. escape_shape white_space (c ∷ c2 ∷ u)) (append_assoc w2 (d ∷ w) s)
+                ∙ (ap (λ e. escape_shape white_space (e ∷ c2 ∷ (w2 ++ d ∷ (w ++ s)))) (eqb-true c 0x5C g) ∙ escaped (d ∷ (w ++ s))) in
+                here false false true e f g m (c2 ∷ ((w2 ++ d ∷ w) ++ s))
+                ∙ (ap (λ o. o >>= λ p. with_piece p.0 (pieces_shape white_space m p.1)) same
+                ∙ (ap (with_piece b.0.0) rest ∙ ap (λ vs. Some (vs, s)) is)),
           )
       by false false false e f g h more =
           let (vs, k, is) = piece_parts (itself c) (pieces_shape white_space n t) v r h in
-          let (d, w, start, there) = more t vs k in
-          (
+          let (d, w, start, there) = more t vs k in (
             c,
             d ∷ w,
             ap (λ u. c ∷ u) start,
             λ m s le.
-              here false false false e f g m (d ∷ (w ++ s))
-              ∙ (ap (with_piece (itself c)) (at_less (length w) m (λ m. pieces_shape white_space m (d ∷ (w ++ s)) ≡ Some (vs, s)) le (λ k le. there k s le))
-              ∙ ap (λ vs. Some (vs, s)) is),
+                here false false false e f g m (d ∷ (w ++ s))
+                ∙ (ap (with_piece (itself c)) (at_less (length w) m (λ m. pieces_shape white_space m (d ∷ (w ++ s)) ≡ Some (vs, s)) le (λ k le. there k s le))
+                ∙ ap (λ vs. Some (vs, s)) is),
           )
 
   -- a string, with its first two characters

@@ -18,6 +18,7 @@ pub mod MoveOrFaultIsTurn
 pub mod Completion
 pub mod OneAnswer
 pub mod FreeUnits
+pub mod FreeRests
 pub mod Finiteness
 pub mod ThreeLists
 pub mod SampleLanguage
