@@ -17,6 +17,8 @@ pub mod TurnIsMoveOrFault
 pub mod MoveOrFaultIsTurn
 pub mod Completion
 pub mod OneAnswer
+pub mod FreeUnits
+pub mod FreeRests
 pub mod Finiteness
 pub mod ThreeLists
 pub mod SampleLanguage

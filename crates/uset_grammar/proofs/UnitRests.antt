@@ -20,7 +20,7 @@ pub bound : {A B : Type 0} (o : Option A) (f : A → Option B) (v : B) → (o >>
 bound None f v h = absurd (let g = h in cc)
 bound (Some u) f v h = (u, refl, h)
 
-behind_is : (m : ℕ) (t u : Text) → behind_code m t ≡ Some u → t ≡ m ∷ u
+pub behind_is : (m : ℕ) (t u : Text) → behind_code m t ≡ Some u → t ≡ m ∷ u
 behind_is m [] u h = absurd (let g = h in cc)
 behind_is m (c ∷ t) u h = by (c == m) refl h
   where

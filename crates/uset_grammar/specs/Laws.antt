@@ -22,6 +22,7 @@ use Rattle.uset_grammar.specs.Reached.{OpenBracket, Moves, Reached}
 use Rattle.uset_grammar.specs.Turn.{UnitReader, at, last_at, turn, Means, Accepts}
 use Rattle.uset_grammar.specs.Answers.{Answer, IsAnswer, AllLawful}
 use Rattle.uset_grammar.specs.Finite.{IsFinite, IsFiniteLanguage}
+use Rattle.uset_grammar.specs.Rests.{may_follow}
 
 -- Every source has one answer, under every syntax, whether its tables are there or not, all variables and all
 -- properties.
@@ -126,3 +127,8 @@ FiniteSets = (l : Language) → IsFiniteLanguage l → (source : Text) (tree : T
 abbrev pub RestsAreLast : Type 0
 RestsAreLast = (l : Language) (source : Text) (tree : Tree) (rest : Text) → Reads l source tree rest →
     (front : Text) × (source ≡ front ++ rest)
+
+-- What is read in front of a rest is read in front of any other that may follow it.
+abbrev pub FreeRest : Type 0
+FreeRest = (l : Language) (pattern rest other : Text) (tree : Tree) → Reads l (pattern ++ rest) tree rest →
+    may_follow l pattern other ≡ true → Reads l (pattern ++ other) tree other

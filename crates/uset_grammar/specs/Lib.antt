@@ -20,4 +20,5 @@ pub mod Place
 pub mod Answers
 pub mod Shown
 pub mod Finite
+pub mod Rests
 pub mod Laws

@@ -1,5 +1,5 @@
 //! Laws of the grammar, each the contract of a function that does nothing.
-ghost use Rattle.uset_grammar.specs.Laws.{OneAnswer, OneEscape, OneString, OneProperty, OneUnit, ThreeListsTell, CloseFitsBehindBody, AwaitedTells, KindsTell, UnitsAreRead, TurnsMean, ReadAtLast, MovesOn, PlacesAre, AllRestsAreBehind, FiniteSets, RestsAreLast};
+ghost use Rattle.uset_grammar.specs.Laws.{OneAnswer, OneEscape, OneString, OneProperty, OneUnit, ThreeListsTell, CloseFitsBehindBody, AwaitedTells, KindsTell, UnitsAreRead, TurnsMean, ReadAtLast, MovesOn, PlacesAre, AllRestsAreBehind, FiniteSets, RestsAreLast, FreeRest};
 
 /// Every source has exactly one answer: it is read, with one tree and one rest, or refused, with one
 /// kind and one place. So no source has two readings, two faults, both or neither.
@@ -58,4 +58,10 @@ pub fn turns()
 pub fn finite_sets()
     ensures members { FiniteSets }
     ensures front { RestsAreLast }
+{}
+
+/// What is read in front of a rest is read in front of any other: whatever stands behind a bracket or a property, and
+/// whatever doesn't continue the name of a variable.
+pub fn free_rest()
+    ensures { FreeRest }
 {}
