@@ -5,6 +5,8 @@
 #[cfg(test)]
 mod calls;
 #[cfg(test)]
+mod patterns;
+#[cfg(test)]
 mod shown;
 #[cfg(test)]
 mod units;
