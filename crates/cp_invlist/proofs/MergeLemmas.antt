@@ -1,12 +1,15 @@
 -- A walk over the elements of two sets in order gives the merged list.
-use Rattle.std.proofs.Common.{◌≡◌, ℕ, suc, ◌%◌, ◌<◌, ◌≤◌, Bool, true, false, not, ◌==◌, min, Option, Some, None, IfNone, option_to_list, List, [], ◌∷◌, ◌++◌, length, All, refl, sym, ap, ap₂, ◌∙◌, arith, subst, ◌⊎◌, inl, inr}
+use Rattle.std.proofs.Common.{◌≡◌, ℕ, zero, suc, ◌%◌, ◌<◌, ◌≤◌, Bool, true, false, not, ◌==◌, if◌then◌else◌, Some, None, List, [], ◌∷◌, ◌++◌, length, take, drop, All, refl, sym, ap, ap₂, ◌∙◌, subst, append_assoc, arith, ◌⊎◌, inl, inr}
 use mathlib.Core.Bool.{beq}
 use Rattle.std.proofs.lemmas.Bool.{le-leb, lt-leb, eq-eqb, ne_eqb, cases_lt, cases_eq, cond-true, cond-false, cases_Bool}
-use Rattle.std.proofs.lemmas.List.Elements.{All-weaker, All-push}
-use Rattle.cp_invlist.specs.InversionList.{differ, contains, ascends_from, has_even_length}
-use Rattle.cp_invlist.specs.Merge.{keeps, elements_behind, turned_at, turned_list, lower_of}
+use Rattle.std.proofs.lemmas.List.{take-append-drop, drop_all, length-take-le, append-nil}
+use Rattle.std.proofs.lemmas.List.Elements.{All-weaker, All-push, All-head, All-tail}
+use Rattle.cp_invlist.specs.InversionList.{differ, contains, ascends_from, has_even_length, IsInversionList}
+use Rattle.std.specs.List.{slice_get}
+use Rattle.cp_invlist.specs.Merge.{keeps, inside_behind, turns_first, turns_second, turned_list, extended}
 use Rattle.cp_invlist.specs.declared.merge.Operation.{Operation}
-use Rattle.cp_invlist.proofs.Lists.{ascends_from-parts, ascends_from-cons, ascends_from-lower, ascends_from-append, contains-append, contains-below, contains-all_at_most, has_even_length-append}
+use Rattle.cp_invlist.specs.declared.merge.Operation.TheVariants.{Union, Difference, Intersection}
+use Rattle.cp_invlist.proofs.Lists.{ascends_from-parts, ascends_from-cons, ascends_from-lower, ascends_from-append, contains-append, contains-below, contains-all_at_most, has_even_length-append, IsInversionList-from}
 use Rattle.cp_invlist.proofs.Partition.{odd_length, differ-false}
 
 -- What is left of a list from a number on: whether that number stands inside the set, and which numbers from it on are members.
@@ -14,6 +17,16 @@ pub record Tracks (whole rest : List ℕ) (inside : Bool) (n : ℕ) : Type 0 whe
   pub ascends : ascends_from n rest ≡ true
   pub even : has_even_length rest ≡ not inside
   pub members : (d : ℕ) → n ≤ d → contains whole d ≡ differ inside (contains rest d)
+
+-- the elements behind a number, where none before it is left
+abbrev pub elements_behind : ℕ → List ℕ → List ℕ
+elements_behind x [] = []
+elements_behind x (y ∷ ys) = if x == y then ys else y ∷ ys
+
+-- whether a side is inside behind a number: it turns at each of its elements
+abbrev pub turned_at : ℕ → List ℕ → Bool → Bool
+turned_at x [] b = b
+turned_at x (y ∷ ys) b = if x == y then not b else b
 
 -- the number is at most the first element
 abbrev pub IsAtMostFirst : ℕ → List ℕ → Type 0
@@ -237,32 +250,6 @@ Walks-members op first second out a b w d = elim (cases_lt d w.at) [
       ∙ ap₂ (keeps op) (sym (w.first_track.members d new ∙ differ-false a)) (sym (w.second_track.members d new ∙ differ-false b))
 ]
 
--- the lower of the next elements is the lowest that is left
-pub IsLowest-from_lower : (o p : Option ℕ) (us vs : List ℕ) (x : ℕ) → IfNone o (us ≡ []) → IfNone p (vs ≡ []) → lower_of o p ≡ Some x →
-    IsLowest x (option_to_list o ++ us) (option_to_list p ++ vs)
-IsLowest-from_lower None None us vs x ho hp h = cc
-IsLowest-from_lower None (Some y) us vs x ho hp h =
-    let same : x ≡ y = cc in
-    rw ho (record { first = tt; second = omega arith; there = inr same })
-IsLowest-from_lower (Some y) None us vs x ho hp h =
-    let same : x ≡ y = cc in
-    rw hp (record { first = omega arith; second = tt; there = inl same })
-IsLowest-from_lower (Some y) (Some z) us vs x ho hp h =
-    let same : min y z ≡ x = cc in
-    record {
-      first = omega arith;
-      second = omega arith;
-      there = elim (cases_lt z y) [ inl lt ↦ inr (omega arith) | inr ge ↦ inl (omega arith) ];
-    }
-
--- nothing is left where there is no next element
-pub none_left : (o p : Option ℕ) (us vs : List ℕ) → IfNone o (us ≡ []) → IfNone p (vs ≡ []) → lower_of o p ≡ None →
-    ((option_to_list o ++ us) ≡ []) × ((option_to_list p ++ vs) ≡ [])
-none_left None None us vs ho hp h = (ho, hp)
-none_left None (Some y) us vs ho hp h = cc
-none_left (Some y) None us vs ho hp h = cc
-none_left (Some y) (Some z) us vs ho hp h = cc
-
 -- a list whose end is as it is to be, and one whose end turns
 pub turned_list-kept : (xs : List ℕ) (x : ℕ) (b : Bool) → (length xs % 2 == 1) ≡ b → turned_list xs x b ≡ xs
 turned_list-kept xs x b h = cond-true _ _ _ (kept_parity (has_even_length xs) b (odd_length xs ∙ h))
@@ -270,20 +257,177 @@ turned_list-kept xs x b h = cond-true _ _ _ (kept_parity (has_even_length xs) b 
 pub turned_list-pushed : (xs : List ℕ) (x : ℕ) (b : Bool) → (length xs % 2 == 1) ≡ not b → turned_list xs x b ≡ xs ++ x ∷ []
 turned_list-pushed xs x b h = cond-false _ _ _ (turned_parity (has_even_length xs) b (odd_length xs ∙ h))
 
--- one turn of the walk, with each of its outcomes by an equation
-pub Walks-next : (op : Operation) (first second left right out left' right' out' : List ℕ) (a b a' b' k : Bool) (x : ℕ) →
-    Walks op first second left right out a b → IsLowest x left right → left' ≡ elements_behind x left → right' ≡ elements_behind x right →
-    a' ≡ turned_at x left a → b' ≡ turned_at x right b → k ≡ keeps op a' b' → out' ≡ turned_list out x k →
-    Walks op first second left' right' out' a' b'
-Walks-next op first second left right out left' right' out' a b a' b' k x w lowest el er ea eb ek eo =
-    let kept : k ≡ keeps op (turned_at x left a) (turned_at x right b) = ek ∙ ap₂ (keeps op) ea eb in
-    rw (el, er, ea, eb, eo, kept) (Walks-step op first second left right out a b x w lowest)
+-- all elements of a stretch are below the first of a list
+abbrev pub AreBelowFirst : List ℕ → List ℕ → Type 0
+AreBelowFirst xs [] = Unit {0}
+AreBelowFirst xs (y ∷ ys) = All (λ x. x < y) xs
 
-pub Walks-empty : (op : Operation) (first second left right out : List ℕ) (a b : Bool) → Walks op first second left right out a b →
-    (left ≡ []) × (right ≡ []) → Walks op first second [] [] out a b
-Walks-empty op first second left right out a b w none =
-    subst (λ (r : List ℕ). Walks op first second [] r out a b) none.1
-    (subst (λ (l : List ℕ). Walks op first second l right out a b) none.0 w)
+elements_behind-same : (x : ℕ) (xs : List ℕ) → elements_behind x (x ∷ xs) ≡ xs
+elements_behind-same x xs = cond-true _ _ _ (eq-eqb x x refl)
+
+turned_at-same : (x : ℕ) (xs : List ℕ) (a : Bool) → turned_at x (x ∷ xs) a ≡ not a
+turned_at-same x xs a = cond-true _ _ _ (eq-eqb x x refl)
+
+elements_behind-below : (x : ℕ) (xs ys : List ℕ) → AreBelowFirst (x ∷ xs) ys → elements_behind x ys ≡ ys
+elements_behind-below x xs [] h = refl
+elements_behind-below x xs (y ∷ ys) h = cond-false _ _ _ (ne_eqb x y (λ same. let lt = All-head (λ z. z < y) x xs h in omega arith))
+
+turned_at-below : (x : ℕ) (xs ys : List ℕ) (b : Bool) → AreBelowFirst (x ∷ xs) ys → turned_at x ys b ≡ b
+turned_at-below x xs [] b h = refl
+turned_at-below x xs (y ∷ ys) b h = cond-false _ _ _ (ne_eqb x y (λ same. let lt = All-head (λ z. z < y) x xs h in omega arith))
+
+AreBelowFirst-head : (x : ℕ) (xs ys : List ℕ) → AreBelowFirst (x ∷ xs) ys → IsAtMostFirst x ys
+AreBelowFirst-head x xs [] h = tt
+AreBelowFirst-head x xs (y ∷ ys) h = let lt = All-head (λ z. z < y) x xs h in omega arith
+
+AreBelowFirst-tail : (x : ℕ) (xs ys : List ℕ) → AreBelowFirst (x ∷ xs) ys → AreBelowFirst xs ys
+AreBelowFirst-tail x xs [] h = tt
+AreBelowFirst-tail x xs (y ∷ ys) h = All-tail (λ z. z < y) x xs h
+
+-- an element of the first list alone turns the merged list, or does not, whatever stands before it
+turned_list-first : (op : Operation) (out : List ℕ) (a b : Bool) (x : ℕ) → has_even_length out ≡ not (keeps op a b) →
+    turned_list out x (keeps op (not a) b) ≡ extended out (x ∷ []) (turns_first op b)
+turned_list-first Union out true true x h = rw h refl
+turned_list-first Union out true false x h = rw h refl
+turned_list-first Union out false true x h = rw h refl
+turned_list-first Union out false false x h = rw h refl
+turned_list-first Difference out true true x h = rw h refl
+turned_list-first Difference out true false x h = rw h refl
+turned_list-first Difference out false true x h = rw h refl
+turned_list-first Difference out false false x h = rw h refl
+turned_list-first Intersection out true true x h = rw h refl
+turned_list-first Intersection out true false x h = rw h refl
+turned_list-first Intersection out false true x h = rw h refl
+turned_list-first Intersection out false false x h = rw h refl
+
+turned_list-second : (op : Operation) (out : List ℕ) (a b : Bool) (x : ℕ) → has_even_length out ≡ not (keeps op a b) →
+    turned_list out x (keeps op a (not b)) ≡ extended out (x ∷ []) (turns_second op a)
+turned_list-second Union out true true x h = rw h refl
+turned_list-second Union out true false x h = rw h refl
+turned_list-second Union out false true x h = rw h refl
+turned_list-second Union out false false x h = rw h refl
+turned_list-second Difference out true true x h = rw h refl
+turned_list-second Difference out true false x h = rw h refl
+turned_list-second Difference out false true x h = rw h refl
+turned_list-second Difference out false false x h = rw h refl
+turned_list-second Intersection out true true x h = rw h refl
+turned_list-second Intersection out true false x h = rw h refl
+turned_list-second Intersection out false true x h = rw h refl
+turned_list-second Intersection out false false x h = rw h refl
+
+extended-none : (out : List ℕ) (t : Bool) → extended out [] t ≡ out
+extended-none out true = append-nil out
+extended-none out false = refl
+
+extended-push : (out xs : List ℕ) (x : ℕ) (t : Bool) → extended (extended out (x ∷ []) t) xs t ≡ extended out (x ∷ xs) t
+extended-push out xs x true = append_assoc out (x ∷ []) xs
+extended-push out xs x false = refl
+
+-- a stretch of the first list below what is left of the second
+stretch_first : (op : Operation) (first second xs left right out : List ℕ) (a b : Bool) →
+    Walks op first second (xs ++ left) right out a b → AreBelowFirst xs right →
+    Walks op first second left right (extended out xs (turns_first op b)) (inside_behind xs a) b
+stretch_first op first second [] left right out a b w below = rw (extended-none out (turns_first op b)) w
+stretch_first op first second (x ∷ xs) left right out a b w below =
+    let lowest : IsLowest x (x ∷ xs ++ left) right = record { first = omega arith; second = AreBelowFirst-head x xs right below; there = inl refl } in
+    let step = Walks-step op first second (x ∷ xs ++ left) right out a b x w lowest in
+    let passed = rw (
+      elements_behind-same x (xs ++ left),
+      elements_behind-below x xs right below,
+      turned_at-same x (xs ++ left) a,
+      turned_at-below x xs right b below,
+      turned_list-first op out a b x w.merged.even,
+    ) at step in
+    rw (sym (extended-push out xs x (turns_first op b)))
+    (stretch_first op first second xs left right (extended out (x ∷ []) (turns_first op b)) (not a) b passed (AreBelowFirst-tail x xs right below))
+
+-- a stretch of the second list below what is left of the first
+stretch_second : (op : Operation) (first second xs left right out : List ℕ) (a b : Bool) →
+    Walks op first second left (xs ++ right) out a b → AreBelowFirst xs left →
+    Walks op first second left right (extended out xs (turns_second op a)) a (inside_behind xs b)
+stretch_second op first second [] left right out a b w below = rw (extended-none out (turns_second op a)) w
+stretch_second op first second (x ∷ xs) left right out a b w below =
+    let lowest : IsLowest x left (x ∷ xs ++ right) = record { first = AreBelowFirst-head x xs left below; second = omega arith; there = inr refl } in
+    let step = Walks-step op first second left (x ∷ xs ++ right) out a b x w lowest in
+    let passed = rw (
+      elements_behind-same x (xs ++ right),
+      elements_behind-below x xs left below,
+      turned_at-same x (xs ++ right) b,
+      turned_at-below x xs left a below,
+      turned_list-second op out a b x w.merged.even,
+    ) at step in
+    rw (sym (extended-push out xs x (turns_second op a)))
+    (stretch_second op first second xs left right (extended out (x ∷ []) (turns_second op a)) a (not b) passed (AreBelowFirst-tail x xs left below))
+
+-- so many elements of the first list are taken, with each outcome by an equation
+pub Walks-first : (op : Operation) (first second left right out left' out' : List ℕ) (a b a' : Bool) (n : ℕ) →
+    Walks op first second left right out a b → AreBelowFirst (take n left) right → left' ≡ drop n left →
+    a' ≡ inside_behind (take n left) a → out' ≡ extended out (take n left) (turns_first op b) →
+    Walks op first second left' right out' a' b
+Walks-first op first second left right out left' out' a b a' n w below el ea eo =
+    rw (el, ea, eo) (stretch_first op first second (take n left) (drop n left) right out a b (rw (take-append-drop n left) w) below)
+
+pub Walks-second : (op : Operation) (first second left right out right' out' : List ℕ) (a b b' : Bool) (n : ℕ) →
+    Walks op first second left right out a b → AreBelowFirst (take n right) left → right' ≡ drop n right →
+    b' ≡ inside_behind (take n right) b → out' ≡ extended out (take n right) (turns_second op a) →
+    Walks op first second left right' out' a b'
+Walks-second op first second left right out right' out' a b b' n w below er eb eo =
+    let whole = subst (λ (r : List ℕ). Walks op first second left r out a b) (sym (take-append-drop n right)) w in
+    rw (er, eb, eo) (stretch_second op first second (take n right) left (drop n right) out a b whole below)
+
+-- an element of both lists is taken
+pub Walks-both : (op : Operation) (first second left right out left' right' out' : List ℕ) (a b a' b' k : Bool) (x : ℕ) →
+    Walks op first second left right out a b → slice_get left 0 ≡ Some x → slice_get right 0 ≡ Some x →
+    left' ≡ drop 1 left → right' ≡ drop 1 right → a' ≡ inside_behind (take 1 left) a → b' ≡ inside_behind (take 1 right) b →
+    k ≡ keeps op a' b' → out' ≡ turned_list out x k → Walks op first second left' right' out' a' b'
+Walks-both op first second [] right out left' right' out' a b a' b' k x w fl fr el er ea eb ek eo = cc
+Walks-both op first second (y ∷ ys) [] out left' right' out' a b a' b' k x w fl fr el er ea eb ek eo = cc
+Walks-both op first second (y ∷ ys) (z ∷ zs) out left' right' out' a b a' b' k x w fl fr el er ea eb ek eo =
+    let yx : y ≡ x = cc in
+    let zx : z ≡ x = cc in
+    let lowest : IsLowest x (y ∷ ys) (z ∷ zs) = record { first = omega arith; second = omega arith; there = inl (sym yx) } in
+    let step = Walks-step op first second (y ∷ ys) (z ∷ zs) out a b x w lowest in
+    let passed = rw (eq-eqb x y (sym yx), eq-eqb x z (sym zx)) at step in
+    rw (el, er, eo, ek, ea, eb) passed
+
+-- where a list has ended, each stretch of the other is below it
+pub AreBelowFirst-end : (xs ys : List ℕ) → slice_get ys 0 ≡ None → AreBelowFirst xs ys
+AreBelowFirst-end xs [] h = tt
+AreBelowFirst-end xs (y ∷ ys) h = cc
+
+pub AreBelowFirst-from : (xs ys : List ℕ) (y : ℕ) → slice_get ys 0 ≡ Some y → All (λ x. x < y) xs → AreBelowFirst xs ys
+AreBelowFirst-from xs [] y h all = tt
+AreBelowFirst-from xs (z ∷ zs) y h all = let same : z ≡ y = cc in rw same all
+
+AreBelowFirst-none : (ys : List ℕ) → AreBelowFirst [] ys
+AreBelowFirst-none [] = tt
+AreBelowFirst-none (y ∷ ys) = λ k d lt. absurd (omega arith)
+
+-- a stretch of a list, where that list or the other has ended
+AreBelowFirst-ended : (n : ℕ) (xs ys : List ℕ) → (slice_get xs 0 ≡ None) ⊎ (slice_get ys 0 ≡ None) → AreBelowFirst (take n xs) ys
+AreBelowFirst-ended n xs ys (inr h) = AreBelowFirst-end (take n xs) ys h
+AreBelowFirst-ended zero xs ys (inl h) = AreBelowFirst-none ys
+AreBelowFirst-ended (suc n) [] ys (inl h) = AreBelowFirst-none ys
+AreBelowFirst-ended (suc n) (x ∷ xs) ys (inl h) = cc
+
+-- what is left of both lists is taken, where one of them has ended
+pub Walks-rest : (op : Operation) (first second left right out out' out'' : List ℕ) (a b a' b' : Bool) (n m : ℕ) →
+    Walks op first second left right out a b → (slice_get left 0 ≡ None) ⊎ (slice_get right 0 ≡ None) → n ≡ length left → m ≡ length right →
+    a' ≡ inside_behind (take n left) a → out' ≡ extended out (take n left) (turns_first op b) →
+    b' ≡ inside_behind (take m right) b → out'' ≡ extended out' (take m right) (turns_second op a') →
+    Walks op first second [] [] out'' a' b'
+Walks-rest op first second left right out out' out'' a b a' b' n m w ended en em ea eo eb eo' =
+    let none_left = sym (drop_all n left (omega arith)) in
+    let none_right = sym (drop_all m right (omega arith)) in
+    let behind_first = Walks-first op first second left right out [] out' a b a' n w (AreBelowFirst-ended n left right ended) none_left ea eo in
+    Walks-second op first second [] right out' [] out'' a' b b' m behind_first tt none_right eb eo'
+
+-- the merged list of two walks that ended
+pub Walks-list : (op : Operation) (first second out : List ℕ) (a b : Bool) → Walks op first second [] [] out a b → IsInversionList out
+Walks-list op first second out true b w = cc
+Walks-list op first second out false true w = cc
+Walks-list op first second out false false w =
+    IsInversionList-from out w.merged.ascends (w.merged.even ∙ elim op as (λ o. not (keeps o false false) ≡ true) [ Union ↦ refl | Difference ↦ refl | Intersection ↦ refl ])
 
 pub beq-other : (a b : Bool) → not (beq a b) ≡ true → a ≡ not b
 beq-other true true h = sym h
@@ -296,3 +440,18 @@ beq-same true true h = refl
 beq-same true false h = h
 beq-same false true h = sym h
 beq-same false false h = refl
+
+pub beq-differ : (a b : Bool) → not (beq a b) ≡ differ a b
+beq-differ true true = refl
+beq-differ true false = refl
+beq-differ false true = refl
+beq-differ false false = refl
+
+inside_behind-odd : (xs : List ℕ) (b : Bool) → inside_behind xs b ≡ differ b (not (has_even_length xs))
+inside_behind-odd [] b = sym (differ-false b)
+inside_behind-odd (x ∷ xs) b = inside_behind-odd xs (not b) ∙ sym (differ-true b (not (has_even_length xs)))
+
+pub inside_behind-take : (n : ℕ) (xs : List ℕ) (b : Bool) → n ≤ length xs → not (beq b (n % 2 == 1)) ≡ inside_behind (take n xs) b
+inside_behind-take n xs b le =
+    beq-differ b (n % 2 == 1) ∙ ap (λ m. differ b (m % 2 == 1)) (sym (length-take-le n xs le))
+    ∙ ap (differ b) (sym (odd_length (take n xs))) ∙ sym (inside_behind-odd (take n xs) b)

@@ -1,9 +1,8 @@
 -- How two sets are merged: a walk over the elements of both lists in order, which keeps count of whether it is inside each.
-use Rattle.std.specs.Prelude.{◌≡◌, ℕ, IfNone, ◌==◌, Bool, not, ◌&&◌, ◌||◌, if◌then◌else◌, Option, Some, None, option_to_list, min, List, [], ◌∷◌, ◌++◌}
+use Rattle.std.specs.Prelude.{◌≡◌, ℕ, Bool, true, false, not, ◌&&◌, ◌||◌, if◌then◌else◌, List, [], ◌∷◌, ◌++◌}
 use Rattle.cp_invlist.specs.InversionList.{contains, differ, has_even_length}
 use Rattle.cp_invlist.specs.declared.merge.Operation.{Operation}
 use Rattle.cp_invlist.specs.declared.merge.Operation.TheVariants.{Union, Difference, Intersection}
-use Rattle.cp_invlist.specs.declared.merge.Side.{Side}
 
 -- whether the operation keeps a number, by whether it is in the first set and in the second
 abbrev pub keeps : Operation → Bool → Bool → Bool
@@ -15,30 +14,23 @@ keeps Intersection x y = x && y
 abbrev pub IsKept : Operation → List ℕ → List ℕ → List ℕ → Type 0
 IsKept operation first second kept = (d : ℕ) → contains kept d ≡ keeps operation (contains first d) (contains second d)
 
--- the elements that a side has still to pass
-abbrev pub elements_of : Side → List ℕ
-elements_of s = option_to_list s.next ++ s.cursor.rest.now
+-- whether the walk is inside a set behind some of its elements: it turns at each of them
+abbrev pub inside_behind : List ℕ → Bool → Bool
+inside_behind [] b = b
+inside_behind (x ∷ xs) b = inside_behind xs (not b)
 
--- a side with no next element has none left
-abbrev pub IsAtNext : Side → Type 0
-IsAtNext s = IfNone s.next (s.cursor.rest.now ≡ [])
+-- whether the merged list turns where the first list does, by whether the walk is inside the second set
+abbrev pub turns_first : Operation → Bool → Bool
+turns_first operation b = differ (keeps operation true b) (keeps operation false b)
 
--- the elements behind a number, where none before it is left
-abbrev pub elements_behind : ℕ → List ℕ → List ℕ
-elements_behind x [] = []
-elements_behind x (y ∷ ys) = if x == y then ys else y ∷ ys
-
--- whether a side is inside behind a number: it turns at each of its elements
-abbrev pub turned_at : ℕ → List ℕ → Bool → Bool
-turned_at x [] b = b
-turned_at x (y ∷ ys) b = if x == y then not b else b
-
--- the lower of two numbers that are there
-abbrev pub lower_of : Option ℕ → Option ℕ → Option ℕ
-lower_of None o = o
-lower_of (Some x) None = Some x
-lower_of (Some x) (Some y) = Some (min x y)
+-- whether it turns where the second list does, by whether the walk is inside the first set
+abbrev pub turns_second : Operation → Bool → Bool
+turns_second operation a = differ (keeps operation a true) (keeps operation a false)
 
 -- a list with the number put behind it where that turns whether its end is inside
 abbrev pub turned_list : List ℕ → ℕ → Bool → List ℕ
 turned_list xs x b = if differ (has_even_length xs) b then xs else xs ++ x ∷ []
+
+-- a list with these elements put behind it where it turns at each of them
+abbrev pub extended : List ℕ → List ℕ → Bool → List ℕ
+extended xs ys turns = if turns then xs ++ ys else xs

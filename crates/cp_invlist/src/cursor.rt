@@ -1,31 +1,70 @@
 //! The only way to an element of a list that is merged.
-ghost use Rattle.std.specs.Prelude.{◌≡◌, ℕ, ◌+◌, length, option_to_list, IfNone, [], ◌++◌};
+ghost use Rattle.std.specs.Prelude.{◌≡◌, ◌+◌, ◌<◌, ◌≤◌, false, length, take, drop, All, IfSome};
+ghost use Rattle.std.specs.List.{slice_get};
+ghost use Rattle.cp_invlist.specs.Merge.{inside_behind};
 
 use crate::steps::Steps;
 use std::sync::ledger::Ledger;
 
-/// What is left of a list. Each element that is taken from it is one step.
+/// What is left of a list, and whether the walk is inside the set. Elements are looked at from the front on, and each
+/// that is taken is one step.
 #[derive(Drop)]
 pub(crate) struct Cursor<'a> {
     rest: &'a [u32],
+    pub(crate) inside: bool,
 }
 
 impl<'a> Cursor<'a> {
     pub(crate) fn new(list: &'a [u32]) -> Cursor<'a>
-        ensures { result.rest.now ≡ list.now }
+        ensures list { result.rest.now ≡ list.now }
+        ensures outside { result.inside ≡ false }
     {
-        Cursor { rest: list }
+        Cursor {
+            rest: list,
+            inside: false,
+        }
     }
 
-    /// Takes the first element that is left.
-    pub(crate) fn take<L: Ledger>(&mut self, steps: &mut Steps<L>) -> Option<u32>
-        ensures element { self.old.rest.now ≡ option_to_list result ++ self.new.rest.now }
-        ensures ended { IfNone result (self.new.rest.now ≡ []) }
+    /// How many elements are left.
+    pub(crate) fn len(&self) -> usize
+        ensures { result ≡ length self.now.rest.now }
+    {
+        self.rest.len()
+    }
+
+    /// The first element that is left.
+    pub(crate) fn first(&self) -> Option<u32>
+        ensures { result ≡ slice_get self.now.rest.now 0 }
+    {
+        self.rest.first().copied()
+    }
+
+    /// How many of the elements that are left stand before the first that isn't below the number.
+    pub(crate) fn count_below(&self, number: u32) -> usize
+        ensures bound { result ≤ length self.now.rest.now }
+        ensures below { All (λ x. x < number) (take result self.now.rest.now) }
+        ensures behind { IfSome (slice_get self.now.rest.now result) (λ x. number ≤ x) }
+    {
+        for (index, element) in self.rest.iter().enumerate() {
+            if *element >= number {
+                return index;
+            }
+        }
+        self.rest.len()
+    }
+
+    /// Takes so many elements from the front.
+    pub(crate) fn take<L: Ledger>(&mut self, count: usize, steps: &mut Steps<L>) -> &'a [u32]
+        requires { count ≤ length self.old.rest.now }
+        ensures front { result.now ≡ take count self.old.rest.now }
+        ensures rest { self.new.rest.now ≡ drop count self.old.rest.now }
+        ensures inside { self.new.inside ≡ inside_behind (take count self.old.rest.now) self.old.inside }
         ensures cost { steps.new + length self.new.rest.now ≡ steps.old + length self.old.rest.now }
     {
-        let (first, rest) = self.rest.split_first()?;
+        let (front, rest) = self.rest.split_at(count);
         self.rest = rest;
-        steps.tick();
-        Some(*first)
+        self.inside = self.inside != (count % 2 == 1);
+        steps.count(front.len());
+        front
     }
 }

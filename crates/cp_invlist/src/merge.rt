@@ -1,7 +1,7 @@
 //! The linear merge that union, difference and intersection are made of.
-ghost use Rattle.std.specs.Prelude.{◌≡◌, ◌+◌, ◌<◌, ◌≤◌, OnOk, OnErr, IfOk, false, length};
+ghost use Rattle.std.specs.Prelude.{◌≡◌, ◌+◌, ◌<◌, ◌≤◌, OnOk, OnErr, IfOk, length};
 ghost use Rattle.cp_invlist.specs.InversionList.{IsInversionList};
-ghost use Rattle.cp_invlist.specs.Merge.{keeps, IsAtNext, elements_of, elements_behind, turned_at, lower_of, turned_list, IsKept};
+ghost use Rattle.cp_invlist.specs.Merge.{keeps, turns_first, turns_second, turned_list, extended, IsKept};
 
 use crate::cursor::Cursor;
 use crate::error::NoMemory;
@@ -31,58 +31,19 @@ impl Operation {
             Operation::Intersection => in_first && in_second,
         }
     }
-}
 
-/// One of the two lists on the way: its next element, and whether the walk is inside the set.
-#[derive(Drop)]
-struct Side<'a> {
-    cursor: Cursor<'a>,
-    next: Option<u32>,
-    inside: bool,
-}
-
-impl<'a> Side<'a> {
-    fn new<L: Ledger>(list: &'a [u32], steps: &mut Steps<L>) -> Side<'a>
-        ensures elements { elements_of result ≡ list.now }
-        ensures outside { result.inside ≡ false }
-        ensures at_next { IsAtNext result }
-        ensures cost { steps.new + length result.cursor.rest.now ≡ steps.old + length list.now }
+    /// Whether the merged list turns at each element of the first list, where the walk stays on one side of the second.
+    fn turns_at_first(self, in_second: bool) -> bool
+        ensures { result ≡ turns_first self in_second }
     {
-        let mut cursor = Cursor::new(list);
-        let next = cursor.take(steps);
-        Side {
-            cursor,
-            next,
-            inside: false,
-        }
+        self.keeps(true, in_second) != self.keeps(false, in_second)
     }
 
-    /// Goes behind the number, which is at most the next element.
-    fn pass<L: Ledger>(&mut self, number: u32, steps: &mut Steps<L>)
-        requires { IsAtNext self.old }
-        ensures at_next { IsAtNext self.new }
-        ensures elements { elements_of self.new ≡ elements_behind number (elements_of self.old) }
-        ensures inside { self.new.inside ≡ turned_at number (elements_of self.old) self.old.inside }
-        ensures cost { steps.new + length self.new.cursor.rest.now ≡ steps.old + length self.old.cursor.rest.now }
+    /// Whether it turns at each element of the second list, where the walk stays on one side of the first.
+    fn turns_at_second(self, in_first: bool) -> bool
+        ensures { result ≡ turns_second self in_first }
     {
-        let Some(next) = self.next else {
-            return;
-        };
-        if next == number {
-            self.inside = !self.inside;
-            self.next = self.cursor.take(steps);
-        }
-    }
-}
-
-/// The lower of the next elements.
-fn lower(first: Option<u32>, second: Option<u32>) -> Option<u32>
-    ensures { result ≡ lower_of first second }
-{
-    match (first, second) {
-        (Some(x), Some(y)) => Some(x.min(y)),
-        (Some(x), None) => Some(x),
-        (None, other) => other,
+        self.keeps(in_first, true) != self.keeps(in_first, false)
     }
 }
 
@@ -96,7 +57,24 @@ fn turn(merged: &mut Vec<u32>, number: u32, inside: bool) -> Result<(), NoMemory
     Ok(())
 }
 
-/// The list of the numbers that the operation keeps of two sets. It takes one step for each element of the two lists.
+/// Puts the elements behind the list where it turns at each of them.
+fn extend(merged: &mut Vec<u32>, elements: &[u32], turns: bool) -> Result<(), NoMemory>
+    ensures ok { OnOk result (merged.new.items ≡ extended merged.old.items elements.now turns) }
+{
+    if !turns {
+        return Ok(());
+    }
+    // where the lists alternate, there is one element
+    if let [only] = elements {
+        merged.push(*only)?;
+    } else {
+        merged.extend_from_slice(elements)?;
+    }
+    Ok(())
+}
+
+/// The list of the numbers that the operation keeps of two sets: stretches of one list that lie between two elements of
+/// the other, and elements of both. It takes one step for each element of the two lists.
 pub(crate) fn merge<L: Ledger>(
     alloc: Global,
     operation: Operation,
@@ -111,15 +89,26 @@ pub(crate) fn merge<L: Ledger>(
     ensures counted { OnOk result (steps.new ≡ steps.old + (length first.now + length second.now)) }
     ensures at_most { OnErr result (steps.new ≤ steps.old + (length first.now + length second.now)) }
 {
-    let mut left = Side::new(first, steps);
-    let mut right = Side::new(second, steps);
+    let mut left = Cursor::new(first);
+    let mut right = Cursor::new(second);
     let mut merged = Vec::new(alloc);
-    'elements: while let Some(number) = lower(left.next, right.next) {
-        left.pass(number, steps);
-        right.pass(number, steps);
-        let inside = operation.keeps(left.inside, right.inside);
-        turn(&mut merged, number, inside)?;
+    'elements: while let (Some(x), Some(y)) = (left.first(), right.first()) {
+        if x < y {
+            let stretch = left.take(left.count_below(y), steps);
+            extend(&mut merged, stretch, operation.turns_at_first(right.inside))?;
+        } else if y < x {
+            let stretch = right.take(right.count_below(x), steps);
+            extend(&mut merged, stretch, operation.turns_at_second(left.inside))?;
+        } else {
+            left.take(1, steps);
+            right.take(1, steps);
+            turn(&mut merged, x, operation.keeps(left.inside, right.inside))?;
+        }
     }
+    let rest = left.take(left.len(), steps);
+    extend(&mut merged, rest, operation.turns_at_first(right.inside))?;
+    let rest = right.take(right.len(), steps);
+    extend(&mut merged, rest, operation.turns_at_second(left.inside))?;
     Ok(merged)
 }
 

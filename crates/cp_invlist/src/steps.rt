@@ -35,6 +35,13 @@ impl<L: Ledger> Steps<L> {
     pub fn tick(&mut self)
         ensures { self.new ≡ self.old + 1 }
     {
-        self.book.add(&mut self.share, 1);
+        self.count(1);
+    }
+
+    /// So many steps more.
+    pub(crate) fn count(&mut self, steps: usize)
+        ensures { self.new ≡ self.old + steps }
+    {
+        self.book.add(&mut self.share, steps as u64);
     }
 }

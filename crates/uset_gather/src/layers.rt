@@ -1,7 +1,7 @@
 //! Layers: what painted ranges make of a set, and how many of them become one.
-ghost use Rattle.std.specs.Prelude.{◌≡◌, ◌≤◌, ℕ, Bool, false, IfOk, OnOk, length, take};
+ghost use Rattle.std.specs.Prelude.{◌≡◌, ◌≤◌, ℕ, Bool, false, IfOk, OnOk, IfNone, option_to_list, [], ◌++◌, length, take};
 ghost use Rattle.cp_invlist.specs.InversionList.{contains};
-ghost use Rattle.uset_gather.specs.Painting.{in_changed, AreMembers, IsPutOnto, covered, painted, painted_alike, behind, behind_all};
+ghost use Rattle.uset_gather.specs.Painting.{in_changed, AreMembers, IsPutOnto, painted, painted_alike, behind, behind_all};
 
 use crate::painting::PaintedRange;
 use crate::run::Run;
@@ -100,14 +100,30 @@ fn layer_of(alloc: Global, run: Run, member: bool) -> Result<Layer, NoMemory>
     })
 }
 
-/// The layer of ranges in the order in which they were painted.
-fn layered(alloc: Global, ranges: &[PaintedRange]) -> Result<Layer, NoMemory>
-    ensures { IfOk result (λ layer. (c : ℕ) (b : Bool) → behind layer c b ≡ painted ranges.now c b) }
+/// From this capacity on a list gives back the room that falls free.
+const LARGE: usize = 4096;
+
+/// Takes the last range, and gives back the room behind it from time to time.
+fn take_last(ranges: &mut Vec<PaintedRange>) -> Option<PaintedRange>
+    ensures last { ranges.old.items ≡ ranges.new.items ++ option_to_list result }
+    ensures ended { IfNone result (ranges.old.items ≡ []) }
+{
+    let capacity = ranges.capacity();
+    if capacity >= LARGE && ranges.len() <= capacity - capacity / 8 {
+        ranges.shrink_to_fit();
+    }
+    ranges.pop()
+}
+
+/// The layer of ranges in the order in which they were painted. Their room is given back while it is made.
+fn layered(alloc: Global, mut ranges: Vec<PaintedRange>) -> Result<Layer, NoMemory>
+    ensures { IfOk result (λ layer. (c : ℕ) (b : Bool) → behind layer c b ≡ painted ranges.items c b) }
 {
     let mut layers = Vec::new(alloc);
     let mut run = Run::new(alloc);
-    let mut member = false;
-    for painted in ranges {
+    let mut member = ranges.first().is_some_and(|painted| painted.member);
+    ranges.reverse();
+    'to_come: while let Some(painted) = take_last(&mut ranges) {
         if painted.member != member {
             let before = replace(&mut run, Run::new(alloc));
             push(&mut layers, layer_of(alloc, before, member)?)?;
@@ -118,15 +134,14 @@ fn layered(alloc: Global, ranges: &[PaintedRange]) -> Result<Layer, NoMemory>
     merged(layers, layer_of(alloc, run, member)?)
 }
 
-/// The set of the code points that the ranges cover.
-fn united(alloc: Global, ranges: &[PaintedRange]) -> Result<CodePointInversionListBuilder, NoMemory>
-    ensures { IfOk result (λ set. (c : ℕ) → contains set c ≡ covered ranges.now c) }
+/// The set of ranges in the order in which they were painted: what their layer makes of no members.
+pub(crate) fn flattened(
+    alloc: Global,
+    ranges: Vec<PaintedRange>,
+) -> Result<CodePointInversionListBuilder, NoMemory>
+    ensures { IfOk result (λ set. (c : ℕ) → contains set c ≡ painted ranges.items c false) }
 {
-    let mut run = Run::new(alloc);
-    for painted in ranges {
-        run.add_range(painted.range)?;
-    }
-    run.into_builder()
+    Ok(layered(alloc, ranges)?.added)
 }
 
 /// How many ranges at the front are painted as members: all before the first that isn't.
@@ -140,17 +155,4 @@ pub(crate) fn members_in_front(ranges: &[PaintedRange]) -> usize
         }
     }
     ranges.len()
-}
-
-/// The set of ranges in the order in which they were painted. What is painted first needs no layer.
-pub(crate) fn flattened(
-    alloc: Global,
-    ranges: &[PaintedRange],
-) -> Result<CodePointInversionListBuilder, NoMemory>
-    ensures { IfOk result (λ set. (c : ℕ) → contains set c ≡ painted ranges.now c false) }
-{
-    let (front, rest) = ranges.split_at(members_in_front(ranges));
-    let set = united(alloc, front)?;
-    let layer = layered(alloc, rest)?;
-    without_and_with(set, &layer.removed.build(), layer.added)
 }

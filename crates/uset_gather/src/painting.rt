@@ -88,18 +88,19 @@ impl Painting {
         if self.ranges.len() < other.ranges.len() {
             swap(self, &mut other);
         }
-        self.paint(&other)
+        self.paint(other)
     }
 
     /// Paints the members of the other set onto this one.
-    fn paint(&mut self, other: &Painting) -> Result<(), NoMemory>
-        ensures { OnOk result ((c : ℕ) → in_painting self.new c ≡ (in_painting self.old c || in_painting other.now c)) }
+    fn paint(&mut self, other: Painting) -> Result<(), NoMemory>
+        ensures { OnOk result ((c : ℕ) → in_painting self.new c ≡ (in_painting self.old c || in_painting other c)) }
     {
         if other.is_plain() {
             return self.add_ranges(&other.ranges);
         }
-        let set = flattened(other.alloc, &other.ranges)?.build();
-        if other.complemented {
+        let complemented = other.complemented;
+        let set = flattened(other.alloc, other.ranges)?.build();
+        if complemented {
             self.add_outside(&set)
         } else {
             self.add_set(&set)
@@ -167,7 +168,7 @@ impl Painting {
     pub(crate) fn into_set(self) -> Result<CodePointInversionList, NoMemory>
         ensures { IfOk result (λ set. (c : ℕ) → contains set c ≡ in_painting self c) }
     {
-        let mut builder = flattened(self.alloc, &self.ranges)?;
+        let mut builder = flattened(self.alloc, self.ranges)?;
         if self.complemented {
             builder.complement()?;
         }

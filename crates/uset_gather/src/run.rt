@@ -24,11 +24,11 @@ pub(crate) struct Run {
 
 /// The set of the ranges, which are in the order of their first code points.
 #[tactic(auto, using(std::proofs::lemmas::List::Folds::list_any_more))]
-fn union(alloc: Global, ranges: &[CodePointRange]) -> Result<CodePointInversionList, NoMemory>
-    ensures { IfOk result (λ set. (c : ℕ) → contains set c ≡ in_some ranges.now c) }
+fn union(alloc: Global, ranges: Vec<CodePointRange>) -> Result<CodePointInversionList, NoMemory>
+    ensures { IfOk result (λ set. (c : ℕ) → contains set c ≡ in_some ranges.items c) }
 {
     let mut builder = CodePointInversionListBuilder::new(alloc);
-    for range in ranges {
+    for range in &ranges {
         builder.add_range32(*range)?;
     }
     Ok(builder.build())
@@ -83,7 +83,7 @@ impl Run {
         }
         self.aside.sort_unstable_by_key(|range| range.start);
         let mut builder = self.builder;
-        builder.add_set(&union(self.alloc, &self.aside)?)?;
+        builder.add_set(&union(self.alloc, self.aside)?)?;
         Ok(builder)
     }
 }

@@ -1,37 +1,62 @@
-use Rattle.std.proofs.Common.{arith, ap, length, length-append, sym}
-use Rattle.cp_invlist.specs.Merge.{elements_of}
-use Rattle.cp_invlist.proofs.MergeLemmas.{Walks-next, Walks-empty, Walks-members, IsLowest-from_lower, none_left}
+use Rattle.std.proofs.Common.{rules, ◌≡◌, Some, None, [], ap, ap₂, sym, ◌∙◌, arith, ◌⊎◌, inl, inr}
+use Rattle.std.specs.List.{slice_get}
+use Rattle.cp_invlist.specs.Merge.{extended}
+use Rattle.cp_invlist.proofs.MergeLemmas.{Walks, Walks-first, Walks-second, Walks-both, Walks-rest, Walks-list, Walks-members, AreBelowFirst-from}
+use Rattle.cp_invlist.proofs.merge.merge.Goals.{in_default, in_default-2}
+use Rattle.cp_invlist.proofs.merge.merge.Given.{Over}
 use Rattle.cp_invlist.proofs.merge.merge.Goals as goal
 
-pub elements-preserved : goal.elements-preserved
-elements-preserved g c =
-    let h = c.elements.invariant in
-    let lowest = IsLowest-from_lower c.elements.left.next c.elements.right.next c.elements.left.cursor.rest.now c.elements.right.cursor.rest.now
-    c.in-Some.number h.left_next h.right_next (sym c.in-Some.ensures) in
-    record {
-      left_next = c.pass.ensures.at_next;
-      right_next = c.pass-in-Some.ensures.at_next;
-      walk =
-          Walks-next c.args.operation c.args.first.now c.args.second.now (elements_of c.elements.left) (elements_of c.elements.right)
-          c.elements.merged.items (elements_of c.pass.new.self) (elements_of c.pass-in-Some.new.self) c.turn.new.merged.items
-          c.elements.left.inside c.elements.right.inside c.pass.new.self.inside c.pass-in-Some.new.self.inside c.keeps-inside.result
-          c.in-Some.number h.walk lowest c.pass.ensures.elements c.pass-in-Some.ensures.elements c.pass.ensures.inside
-          c.pass-in-Some.ensures.inside c.keeps-inside.ensures c.in_ok-turn.ensures.ok;
-      cost = omega arith;
-    }
+pub elements-preserved-in_ok-extend : goal.elements-preserved-in_ok-extend
+elements-preserved-in_ok-extend g c = record {
+  walk =
+      Walks-first c.args.operation c.args.first.now c.args.second.now c.elements.left.rest.now c.elements.right.rest.now c.elements.merged.items
+      c.take-stretch.new.self.rest.now c.extend.new.merged.items c.elements.left.inside c.elements.right.inside c.take-stretch.new.self.inside
+      c.count_below.result c.elements.invariant.walk
+      (AreBelowFirst-from _ c.elements.right.rest.now c.in-Some-Some.y (sym c.in-Some-Some.ensures') c.count_below.ensures.below)
+      c.take-stretch.ensures.rest c.take-stretch.ensures.inside
+      (c.in_ok-extend.ensures.ok ∙ ap₂ (extended c.elements.merged.items) c.take-stretch.ensures.front c.turns_at_first.ensures);
+  cost = omega (arith, c.take-stretch.ensures.cost, c.elements.invariant.cost);
+}
 
-pub returns-clause-members : goal.returns-clause-members
-returns-clause-members g c =
-    let h = c.elements.invariant in
-    let none = none_left c.elements.left.next c.elements.right.next c.elements.left.cursor.rest.now c.elements.right.cursor.rest.now
-    h.left_next h.right_next (sym c.in_default.ensures) in
-    Walks-members c.args.operation c.args.first.now c.args.second.now c.elements.merged.items c.elements.left.inside c.elements.right.inside
-    (Walks-empty _ _ _ _ _ _ _ _ h.walk none)
+pub elements-preserved-in_ok-extend-2 : goal.elements-preserved-in_ok-extend-2
+elements-preserved-in_ok-extend-2 g c = record {
+  walk =
+      Walks-second c.args.operation c.args.first.now c.args.second.now c.elements.left.rest.now c.elements.right.rest.now c.elements.merged.items
+      c.take-stretch-then-y-x.new.self.rest.now c.extend-then-y-x.new.merged.items c.elements.left.inside c.elements.right.inside
+      c.take-stretch-then-y-x.new.self.inside c.count_below-then-y-x.result c.elements.invariant.walk
+      (AreBelowFirst-from _ c.elements.left.rest.now c.in-Some-Some.x (sym c.in-Some-Some.ensures) c.count_below-then-y-x.ensures.below)
+      c.take-stretch-then-y-x.ensures.rest c.take-stretch-then-y-x.ensures.inside
+      (c.in_ok-extend-2.ensures.ok ∙ ap₂ (extended c.elements.merged.items) c.take-stretch-then-y-x.ensures.front c.turns_at_second.ensures);
+  cost = omega (arith, c.take-stretch-then-y-x.ensures.cost, c.elements.invariant.cost);
+}
+
+pub elements-preserved : goal.elements-preserved
+elements-preserved g c = record {
+  walk =
+      Walks-both c.args.operation c.args.first.now c.args.second.now c.elements.left.rest.now c.elements.right.rest.now c.elements.merged.items
+      c.take.new.self.rest.now c.take-else-y-x.new.self.rest.now c.turn.new.merged.items c.elements.left.inside c.elements.right.inside
+      c.take.new.self.inside c.take-else-y-x.new.self.inside c.keeps.result c.in-Some-Some.x c.elements.invariant.walk
+      (sym c.in-Some-Some.ensures) (sym c.in-Some-Some.ensures' ∙ ap Some (omega arith)) c.take.ensures.rest c.take-else-y-x.ensures.rest c.take.ensures.inside c.take-else-y-x.ensures.inside
+      c.keeps.ensures c.in_ok-turn.ensures.ok;
+  cost = omega (arith, c.take.ensures.cost, c.take-else-y-x.ensures.cost, c.elements.invariant.cost);
+}
 
 -- both lists are taken to their ends
-pub returns-clause-counted : goal.returns-clause-counted
-returns-clause-counted g c =
-    let h = c.elements.invariant in
-    let none = none_left c.elements.left.next c.elements.right.next c.elements.left.cursor.rest.now c.elements.right.cursor.rest.now
-    h.left_next h.right_next (sym c.in_default.ensures) in
-    omega (arith, simp length-append at (ap length none.0), simp length-append at (ap length none.1))
+walked : (g : Over) (c : goal.In_ok-extend-4 g) →
+    Walks c.args.operation c.args.first.now c.args.second.now [] [] c.extend-3.new.merged.items c.take-rest.new.self.inside c.take-rest-2.new.self.inside
+walked g c =
+    let ended : (slice_get c.elements.left.rest.now 0 ≡ None) ⊎ (slice_get c.elements.right.rest.now 0 ≡ None) =
+    elim c.match-first.branch [ in_default w ↦ inr (sym w.in_default.ensures') | in_default-2 w ↦ inl (search rules) ] in
+    Walks-rest c.args.operation c.args.first.now c.args.second.now c.elements.left.rest.now c.elements.right.rest.now c.elements.merged.items
+    c.extend-2.new.merged.items c.extend-3.new.merged.items c.elements.left.inside c.elements.right.inside c.take-rest.new.self.inside
+    c.take-rest-2.new.self.inside c.len.result c.len-2.result c.elements.invariant.walk ended c.len.ensures c.len-2.ensures
+    c.take-rest.ensures.inside
+    (c.in_ok-extend-3.ensures.ok ∙ ap₂ (extended c.elements.merged.items) c.take-rest.ensures.front c.turns_at_first-2.ensures)
+    c.take-rest-2.ensures.inside
+    (c.in_ok-extend-4.ensures.ok ∙ ap₂ (extended c.extend-2.new.merged.items) c.take-rest-2.ensures.front c.turns_at_second-2.ensures)
+
+pub returns-clause-list : goal.returns-clause-list
+returns-clause-list g c = Walks-list c.args.operation c.args.first.now c.args.second.now c.extend-3.new.merged.items _ _ (walked g c)
+
+pub returns-clause-members : goal.returns-clause-members
+returns-clause-members g c = Walks-members c.args.operation c.args.first.now c.args.second.now c.extend-3.new.merged.items _ _ (walked g c)

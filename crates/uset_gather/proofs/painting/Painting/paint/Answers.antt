@@ -5,16 +5,16 @@ use Rattle.uset_gather.proofs.GatheredLemmas.{on_ok}
 use Rattle.uset_gather.proofs.PaintingLemmas.{painting_outside, painting_inside}
 use Rattle.uset_gather.proofs.painting.Painting.paint.Goals as goal
 
-pub returns-then-other : goal.returns-then-other
-returns-then-other c =
-    let flat : (d : ℕ) → contains c.build-set.result d ≡ painted c.args.other.now.ranges.items d false =
-    λ d. ap (λ xs. contains xs d) c.build-set.ensures ∙ (rw c.deref-2.ensures.value at c.in_ok-flattened.ensures) d in
+pub returns-then-complemented : goal.returns-then-complemented
+returns-then-complemented c =
+    let flat : (d : ℕ) → contains c.build-set.result d ≡ painted c.args.other.ranges.items d false =
+    λ d. ap (λ xs. contains xs d) c.build-set.ensures ∙ c.in_ok-flattened.ensures d in
     on_ok c.add_outside.result (λ h d.
-    h d ∙ ap (λ b. in_painting c.args.self.now d || b) (painting_outside c.args.other.now c.build-set.result d c.if-other.true (flat d))) c.add_outside.ensures
+    h d ∙ ap (λ b. in_painting c.args.self.now d || b) (painting_outside c.args.other c.build-set.result d c.if-complemented.true (flat d))) c.add_outside.ensures
 
 pub returns : goal.returns
 returns c =
-    let flat : (d : ℕ) → contains c.build-set.result d ≡ painted c.args.other.now.ranges.items d false =
-    λ d. ap (λ xs. contains xs d) c.build-set.ensures ∙ (rw c.deref-2.ensures.value at c.in_ok-flattened.ensures) d in
+    let flat : (d : ℕ) → contains c.build-set.result d ≡ painted c.args.other.ranges.items d false =
+    λ d. ap (λ xs. contains xs d) c.build-set.ensures ∙ c.in_ok-flattened.ensures d in
     on_ok c.add_set.result (λ h d.
-    h d ∙ ap (λ b. in_painting c.args.self.now d || b) (painting_inside c.args.other.now c.build-set.result d c.if-other.false (flat d))) c.add_set.ensures
+    h d ∙ ap (λ b. in_painting c.args.self.now d || b) (painting_inside c.args.other c.build-set.result d c.if-complemented.false (flat d))) c.add_set.ensures

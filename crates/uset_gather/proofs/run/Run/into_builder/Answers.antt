@@ -11,4 +11,4 @@ returns-then-is_empty c =
 pub returns : goal.returns
 returns c =
     settled c.args.self c.sort_unstable_by_key.new.self.items c.in_ok-union.field-0 _ c.sort_unstable_by_key.ensures.permutation
-    (rw c.deref.ensures.value at c.in_ok-union.ensures) c.in_ok-add_set.ensures.ok
+    c.in_ok-union.ensures c.in_ok-add_set.ensures.ok
