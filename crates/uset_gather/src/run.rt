@@ -109,7 +109,7 @@ impl Run {
             return Ok(self.builder);
         }
         let front = self.builder.build();
-        if front.get_inversion_list().len() <= 2 * FEW {
+        if front.get_inversion_list().len() <= self.aside.len() / 8 {
             put_aside(&mut self.aside, &front)?;
             return sorted_union(self.alloc, self.aside);
         }
