@@ -1,9 +1,8 @@
 -- The ranges that a set is told by.
-use Rattle.std.proofs.Common.{◌≡◌, ℕ, ◌+◌, ◌<◌, ◌≤◌, arith, Bool, true, false, ◌||◌, ◌&&◌, not, nat_le, List, [], ◌∷◌, ◌++◌, IsPermutation, inl, inr, refl, sym, ap, ◌∙◌}
-use Rattle.std.proofs.Math.Bool.{or_assoc}
+use Rattle.std.proofs.Common.{◌≡◌, ℕ, ◌+◌, ◌<◌, ◌≤◌, arith, Bool, true, false, ◌||◌, ◌&&◌, not, nat_le, List, [], ◌∷◌, ◌++◌, inl, inr, refl, sym, ap, ◌∙◌}
+use Rattle.std.proofs.Math.Bool.{or_assoc, or_comm}
 use Rattle.std.proofs.lemmas.Bool.{cases_lt, le-leb, lt-leb}
 use Rattle.std.proofs.lemmas.List.Folds.{list_any-append}
-use Rattle.std.proofs.lemmas.List.Sorted.{list_any-IsPermutation}
 use Rattle.cp_invlist.specs.InversionList.{contains, is_code_point}
 use Rattle.cp_invlist.specs.Ranges.{in_code_points, is_outside, AreRangesFrom, AreMaximalRanges}
 use Rattle.cp_invlist.specs.declared.ranges.CodePointRange.{CodePointRange}
@@ -73,12 +72,14 @@ joined_more start old new given r c before_it it =
     ∙ (ap (λ b. b || in_code_points r c) before_it
     ∙ (or_assoc start (in_some given c) (in_code_points r c) ∙ ap (λ b. start || b) (sym (spelled_more given r c))))
 
--- the set of what was put aside was joined to the builder
-pub settled : (run : Run) (sorted : List CodePointRange) (union joined : List ℕ) → IsPermutation run.aside.items sorted → ((c : ℕ) → contains union c ≡ in_some sorted c) →
-    ((c : ℕ) → contains joined c ≡ (contains run.builder c || contains union c)) → (c : ℕ) → contains joined c ≡ in_run run c
+-- what was put aside was joined to what had gone to the builder
+pub gathered_in_run : (run : Run) (front joined : List ℕ) (c : ℕ) → front ≡ run.builder → contains joined c ≡ (in_some run.aside.items c || contains front c) →
+    contains joined c ≡ in_run run c
 unfolding in_run
-settled run sorted union joined permuted union_is joined_is c =
-    joined_is c ∙ ap (λ b. contains run.builder c || b) (union_is c ∙ sym (list_any-IsPermutation (λ r. in_code_points r c) run.aside.items sorted permuted))
+gathered_in_run run front joined c same joined_is =
+    joined_is
+    ∙ (ap (λ xs. in_some run.aside.items c || contains xs c) same
+    ∙ or_comm (in_some run.aside.items c) (contains run.builder c))
 
 -- nothing was put aside
 pub none_aside : (run : Run) → run.aside.items ≡ [] → (c : ℕ) → contains run.builder c ≡ in_run run c

@@ -1,8 +1,9 @@
 //! Ranges that are painted alike.
-ghost use Rattle.std.specs.Prelude.{◌≡◌, ℕ, IfOk};
+ghost use Rattle.std.specs.Prelude.{◌≡◌, ◌||◌, ℕ, IfOk, OnOk};
 ghost use Rattle.cp_invlist.specs.InversionList.{contains};
 ghost use Rattle.uset_gather.specs.Painting.{in_some};
 
+use cp_invlist::laws::members_are_code_points;
 use cp_invlist::{CodePointInversionList, CodePointInversionListBuilder, CodePointRange, NoMemory};
 use std::alloc::Global;
 
@@ -24,14 +25,40 @@ pub(crate) struct Run {
 
 /// The set of the ranges, which are in the order of their first code points.
 #[tactic(auto, using(std::proofs::lemmas::List::Folds::list_any_more))]
-fn union(alloc: Global, ranges: Vec<CodePointRange>) -> Result<CodePointInversionList, NoMemory>
-    ensures { IfOk result (λ set. (c : ℕ) → contains set c ≡ in_some ranges.items c) }
+fn union(
+    alloc: Global,
+    ranges: &[CodePointRange],
+) -> Result<CodePointInversionListBuilder, NoMemory>
+    ensures { IfOk result (λ set. (c : ℕ) → contains set c ≡ in_some ranges.now c) }
 {
     let mut builder = CodePointInversionListBuilder::new(alloc);
-    for range in &ranges {
+    for range in ranges {
         builder.add_range32(*range)?;
     }
-    Ok(builder.build())
+    Ok(builder)
+}
+
+/// The set of the ranges in any order.
+fn sorted_union(
+    alloc: Global,
+    mut ranges: Vec<CodePointRange>,
+) -> Result<CodePointInversionListBuilder, NoMemory>
+    ensures { IfOk result (λ set. (c : ℕ) → contains set c ≡ in_some ranges.items c) }
+{
+    ranges.sort_unstable_by_key(|range| range.start);
+    union(alloc, &ranges)
+}
+
+/// Puts the ranges of the set behind the others.
+fn put_aside(aside: &mut Vec<CodePointRange>, set: &CodePointInversionList) -> Result<(), NoMemory>
+    ensures { OnOk result ((c : ℕ) → in_some aside.new.items c ≡ (in_some aside.old.items c || contains set.now c)) }
+{
+    members_are_code_points();
+    aside.reserve(set.get_inversion_list().len() / 2)?;
+    for range in set.iter_ranges() {
+        aside.push(range)?;
+    }
+    Ok(())
 }
 
 impl Run {
@@ -74,16 +101,20 @@ impl Run {
         Ok(())
     }
 
-    /// The set of the ranges.
+    /// The set of the ranges. A few that went to the builder go with the others, so that no list is merged.
     pub(crate) fn into_builder(mut self) -> Result<CodePointInversionListBuilder, NoMemory>
         ensures { IfOk result (λ set. (c : ℕ) → contains set c ≡ in_run self c) }
     {
         if self.aside.is_empty() {
             return Ok(self.builder);
         }
-        self.aside.sort_unstable_by_key(|range| range.start);
-        let mut builder = self.builder;
-        builder.add_set(&union(self.alloc, self.aside)?)?;
+        let front = self.builder.build();
+        if front.get_inversion_list().len() <= self.aside.len() / 8 {
+            put_aside(&mut self.aside, &front)?;
+            return sorted_union(self.alloc, self.aside);
+        }
+        let mut builder = sorted_union(self.alloc, self.aside)?;
+        builder.add_set(&front)?;
         Ok(builder)
     }
 }

@@ -4,4 +4,4 @@ use Rattle.uset_gather.specs.Painting.{in_some}
 use Rattle.uset_gather.proofs.run.union.Given as goal
 
 abbrev pub invariant-loop-range : goal.invariant-loop-range
-invariant-loop-range l = (c : ℕ) → contains l.builder c ≡ in_some (take l.range-index l.fn.ranges.items) c
+invariant-loop-range l = (c : ℕ) → contains l.builder c ≡ in_some (take l.range-index l.fn.ranges) c

@@ -1,6 +1,8 @@
-use Rattle.std.proofs.Common.{◌≡◌, length, rules}
+use Rattle.std.proofs.Common.{◌≡◌, ◌||◌, length, rules, ap, ◌∙◌}
 use Rattle.std.proofs.lemmas.List.{nil_from_length}
-use Rattle.uset_gather.proofs.RangesLemmas.{settled, none_aside}
+use Rattle.cp_invlist.specs.InversionList.{contains}
+use Rattle.uset_gather.proofs.GatheredLemmas.{if_ok}
+use Rattle.uset_gather.proofs.RangesLemmas.{gathered_in_run, none_aside}
 use Rattle.uset_gather.proofs.run.Run.into_builder.Goals as goal
 
 pub returns-then-is_empty : goal.returns-then-is_empty
@@ -8,7 +10,12 @@ returns-then-is_empty c =
     let none : length c.args.self.aside.items ≡ 0 = search rules in
     none_aside c.args.self (nil_from_length c.args.self.aside.items none)
 
+pub returns-then-get_inversion_list-len : goal.returns-then-get_inversion_list-len
+returns-then-get_inversion_list-len c =
+    if_ok c.sorted_union.result (λ set h d. gathered_in_run c.args.self c.build-front.result set d c.build-front.ensures (h d ∙ c.in_ok-put_aside.ensures d))
+    c.sorted_union.ensures
+
 pub returns : goal.returns
-returns c =
-    settled c.args.self c.sort_unstable_by_key.new.self.items c.in_ok-union.field-0 _ c.sort_unstable_by_key.ensures.permutation
-    c.in_ok-union.ensures c.in_ok-add_set.ensures.ok
+returns c = λ d.
+    gathered_in_run c.args.self c.build-front.result c.add_set.new.self d c.build-front.ensures
+    (c.in_ok-add_set.ensures.ok d ∙ ap (λ b. b || contains c.build-front.result d) (c.in_ok-builder.ensures d))
