@@ -136,7 +136,8 @@ fn answer_words<S: Source, K: Sink>(
     source: &mut S,
     sink: &mut K,
 ) -> Status
-    ensures written { IfSome (S.left source.old) (λ input. Writes (Answers (map string_bytes words.now.items) input) (K.written sink.old) (K.written sink.new) result) }
+    ensures written { IfSome (S.left source.old) (λ input.
+        Writes (Answers (map string_bytes words.now.items) input) (K.written sink.old) (K.written sink.new) result) }
     ensures left { IfSome (S.left source.old) (λ input. IsLeft input (S.left source.new) result) }
     ensures usage { result ≡ Status.Usage → is_known (map string_bytes words.now.items) ≡ false }
     ensures unknown { is_known (map string_bytes words.now.items) ≡ false → EndsAs Status.Usage result }
@@ -172,7 +173,8 @@ pub fn run<S: Source, K: Sink>(
     source: &mut S,
     sink: &mut K,
 ) -> Status
-    ensures written { IfSome (S.left source.old) (λ input. Writes (Answers (map string_bytes words.now.items) input) (K.written sink.old) (K.written sink.new) result) }
+    ensures written { IfSome (S.left source.old) (λ input.
+        Writes (Answers (map string_bytes words.now.items) input) (K.written sink.old) (K.written sink.new) result) }
     ensures left { IfSome (S.left source.old) (λ input. IsLeft input (S.left source.new) result) }
 
     // Why the run ended before an answer.
