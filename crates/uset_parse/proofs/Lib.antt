@@ -1,1 +1,5 @@
 pub mod ReadingLemmas
+pub mod NumberInBraces
+pub mod EscapedItems
+pub mod PatternRead
+pub mod DatabasePatterns

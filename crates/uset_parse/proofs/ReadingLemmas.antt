@@ -1,5 +1,5 @@
 -- What the calls answer.
-use Rattle.std.proofs.Common.{◌≡◌, ℕ, ◌+◌, List, length, Option, Some, None, refl, sym, ap, ◌∙◌, subst}
+use Rattle.std.proofs.Common.{◌≡◌, ℕ, ◌+◌, List, length, Option, Some, None, sym, ap, ◌∙◌, subst}
 use Rattle.std.specs.Str.{chars}
 use Rattle.cp_strset.specs.StringSet.{StringSet}
 use Rattle.uset_grammar.specs.Outcome.{Kind, internal}
@@ -13,7 +13,7 @@ use Rattle.uset_read.specs.declared.cursor.Cursor.{Cursor}
 use Rattle.uset_read.specs.Cursors.{source_of, left_of}
 use Rattle.uset_fault.specs.declared.error.ParseError.{ParseError}
 use Rattle.uset_fault.specs.declared.error.ParseErrorKind.TheVariants.{Internal, NoMemory}
-use Rattle.uset_fault.specs.Errors.{kind_of, offset_in, kind_told, ToldAs, Tells}
+use Rattle.uset_fault.specs.Errors.{kind_of, offset_in, kind_told, ToldAs}
 use Rattle.uset_reader.specs.Readings.{IsReading, IsRefusal}
 use Rattle.uset_parse.specs.Reading.{IsRead, IsRefused}
 
