@@ -1,7 +1,7 @@
 #!/usr/bin/env python3
 """Times `uset eval` on inputs of growing size, and prints the time a byte, so that growth shows: first for
 patterns, then for tables of each kind, for properties and variables, for sources with a fault at their end, and for
-sets that take many steps; and the memory that brackets inside one another take.
+sets that take many steps; and the memory that brackets inside one another and elements of one bracket take.
 
 Usage: bench/growth.py [PROGRAM]. PROGRAM is crates/uset/out/uset, which `rt run` in crates/uset builds.
 Each input is timed REPEATS times, and the least processor time stands in the table: others may use the
@@ -263,6 +263,18 @@ def peak(program, text):
     return usage.ru_maxrss * 1024
 
 
+def peak_at_answer(program, text):
+    """The most memory, in bytes, that the program has held as it begins to write an answer that fills a pipe."""
+    with subprocess.Popen([program, "eval"], stdin=subprocess.PIPE, stdout=subprocess.PIPE) as run:
+        run.stdin.write(text.encode("utf-8"))
+        run.stdin.close()
+        run.stdout.read(1)
+        status = Path(f"/proc/{run.pid}/status").read_text(encoding="ascii")
+        run.stdout.read()
+    kibibytes = next(line.split()[1] for line in status.splitlines() if line.startswith("VmHWM:"))
+    return int(kibibytes) * 1024
+
+
 def most_steps(make):
     """The most steps that a source of at most MOST_BYTES takes."""
     each = (len(make(2_000).encode("utf-8")) - len(make(1_000).encode("utf-8"))) / 1_000
@@ -304,6 +316,27 @@ def memory(program):
         print(f"| {depth:,} | {taken / depth:.0f} |")
 
 
+def memory_of_elements(program):
+    """Prints what an element of one bracket takes beside the text itself and the program as it answers short lines."""
+    script = lines(20_000)
+    least = peak_at_answer(program, script) - len(script)
+    print()
+    print("| elements of one bracket | count | bytes of memory an element |")
+    print("|---|---|---|")
+    for name, opening, shuffled in (
+        ("ascending", "[", False),
+        ("ascending, in a complement", "[^", False),
+        ("shuffled", "[", True),
+    ):
+        for count in (131_000, 262_000, 523_000):
+            chosen = [element(index) for index in range(count)]
+            if shuffled:
+                random.Random(1).shuffle(chosen)
+            text = TABLES + "pat " + opening + "".join(chosen) + "]\n"
+            taken = peak_at_answer(program, text) - len(text.encode("utf-8")) - least
+            print(f"| {name} | {count:,} | {taken / count:.1f} |")
+
+
 def main():
     program = sys.argv[1] if len(sys.argv) > 1 else str(TOP / "crates" / "uset" / "out" / "uset")
     start, _ = seconds(program, lines(2))
@@ -325,6 +358,7 @@ def main():
     growing(program, start, FAULTS, status=1)
     gathering(program, start)
     memory(program)
+    memory_of_elements(program)
 
 
 if __name__ == "__main__":
