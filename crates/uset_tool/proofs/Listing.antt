@@ -172,8 +172,8 @@ strings_of m (t ∷ ts) h = by (cases_Bool (m (encode_utf8_all t))) (strings_of 
         none_of_one = All-insert_key (slice_cmp nat_cmp) (encode_utf8_all t) (λ s. length (chars s) ≢ 1) ss canonical.none_of_one not_one;
       },
       λ bytes. insert_holds ss (encode_utf8_all t) bytes
-      ∙ (ap (λ b. bytes_eq (encode_utf8_all t) bytes || b) (holding bytes)
-      ∙ with_one (m bytes) (bytes_eq (encode_utf8_all t) bytes) _ (λ e. sym (same bytes e) ∙ has)),
+          ∙ (ap (λ b. bytes_eq (encode_utf8_all t) bytes || b) (holding bytes)
+          ∙ with_one (m bytes) (bytes_eq (encode_utf8_all t) bytes) _ (λ e. sym (same bytes e) ∙ has)),
     )
     by (inr lacks) (ss, canonical, holding) =
         (ss, canonical, λ bytes. holding bytes ∙ without (m bytes) (bytes_eq (encode_utf8_all t) bytes) _ (λ e. sym (same bytes e) ∙ lacks))

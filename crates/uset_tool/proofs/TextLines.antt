@@ -20,8 +20,7 @@ within xs ys c = let n = length-append xs (c ∷ ys) in omega arith
 -- in front of it, and behind it
 pub parted : (xs ys : List ℕ) (c : ℕ) → c < 128 → IsUtf8 (xs ++ c ∷ ys) → IsUtf8 xs × IsUtf8 ys
 parted xs ys c low u =
-    let at = IsCharBoundary-before_ascii (xs ++ c ∷ ys) (length xs) (within xs ys c) (subst (λ n. n < 128) (sym (get_or-append_seam xs c ys 0)) low) in
-    (
+    let at = IsCharBoundary-before_ascii (xs ++ c ∷ ys) (length xs) (within xs ys c) (subst (λ n. n < 128) (sym (get_or-append_seam xs c ys 0)) low) in (
       subst IsUtf8 (take-append_seam xs (c ∷ ys)) (IsUtf8-take (xs ++ c ∷ ys) (length xs) u at),
       behind_ascii c ys low (subst IsUtf8 (drop-append_seam xs (c ∷ ys)) (IsUtf8-drop (xs ++ c ∷ ys) (length xs) u at)),
     )
