@@ -31,3 +31,39 @@ fn tables_are_counted_by_their_kinds(rt: HostRuntime) -> Result<(), Fail> {
     }
     Ok(())
 }
+
+/// A text for each kind of fault, and its answer.
+const DAMAGED: [(&str, &str); 16] = [
+    ("hello", "tables line 1: UnknownLine\n"),
+    ("set Nothing", "tables line 1: UnknownTable\n"),
+    ("set Dash\nset Dash", "tables line 2: TableTwice\n"),
+    ("set Dash\n2G", "tables line 2: BadNumber\n"),
+    ("set Dash\n110000", "tables line 2: TooLarge\n"),
+    ("set Dash\n2D\n2D", "tables line 3: RangeOrder\n"),
+    ("map General_Category 30", "tables line 1: ValueOutOfType\n"),
+    ("names Script\n25 La.tin", "tables line 2: BadName\n"),
+    (
+        "names Script\n25 Latin\n20 LA_TIN",
+        "tables line 3: NamesClash\n",
+    ),
+    ("set XID_Start\n5D", "tables line 2: SyntaxAscii\n"),
+    ("ext 0\n20\n20", "tables line 3: ExtensionOrder\n"),
+    ("emoji Basic_Emoji\n{0041}", "tables line 2: StringOfOne\n"),
+    ("emoji Basic_Emoji\n{}\n{}", "tables line 3: StringTwice\n"),
+    ("scx 1024\nend", "tables line 2: ExtensionMissing\n"),
+    ("set Dash", "tables line 2: NoEnd\n"),
+    ("end\nend", "tables line 2: AfterEnd\n"),
+];
+
+#[test]
+fn a_damaged_text_is_answered_with_its_first_fault(rt: HostRuntime) -> Result<(), Fail> {
+    let alloc = rt.alloc();
+    let mut words = Vec::new(alloc);
+    words.push(String::from_str(alloc, "tables")?)?;
+    for (input, expected) in DAMAGED {
+        let (status, sink) = run_in_memory(alloc, &words, input.as_bytes().to_vec(alloc)?);
+        assert_eq!(rt; sink.written(), expected.as_bytes(), "for {expected}");
+        assert_eq!(rt; status.code(), 3, "for {expected}");
+    }
+    Ok(())
+}

@@ -19,6 +19,8 @@ mod faults;
 #[cfg(test)]
 mod fixtures;
 #[cfg(test)]
+mod guide;
+#[cfg(test)]
 mod patterns;
 #[cfg(test)]
 mod properties;
