@@ -1,5 +1,5 @@
 -- Sets by their members, which are code points and strings.
-use Rattle.std.specs.Prelude.{Bool}
+use Rattle.std.specs.Prelude.{◌≡◌, Bool}
 use Rattle.std.specs.BTreeSet.{contains_text}
 use Rattle.cp_invlist.specs.InversionList.{contains}
 use Rattle.cp_strset.specs.StringList.{holds}
@@ -14,6 +14,10 @@ use Rattle.uset_grammar.specs.Tree.{Member, point, string, in_source, negation}
 abbrev pub gathered_in : Gathered → Member → Bool
 gathered_in g (point c) = in_painting g.code_points c
 gathered_in g (string bytes) = contains_text g.strings bytes
+
+-- what was gathered has these members
+abbrev pub HasMembers : Gathered → (Member → Bool) → Type 0
+HasMembers g members = (m : Member) → gathered_in g m ≡ members m
 
 -- whether the set has the member
 abbrev pub in_set : StringSet → Member → Bool

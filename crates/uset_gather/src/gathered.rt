@@ -21,7 +21,7 @@ impl Gathered {
     ghost use Rattle.std.specs.String.{string_bytes};
     ghost use Rattle.cp_strset.specs.StringList.{sole_of};
     ghost use Rattle.uset_grammar.specs.Tree.{Member, in_range, is_text, negation};
-    ghost use Rattle.uset_gather.specs.Gathered.{gathered_in, operand_in, in_set};
+    ghost use Rattle.uset_gather.specs.Gathered.{gathered_in, HasMembers, operand_in, in_set};
 
     /// Nothing yet.
     pub fn new(alloc: Global) -> Gathered
@@ -36,7 +36,7 @@ impl Gathered {
     /// Adds the code points of the range.
     pub fn add_range(&mut self, range: CodePointRange) -> Result<(), NoMemory>
         requires { range.end ≤ 0x10_FFFF }
-        ensures { OnOk result ((m : Member) → gathered_in self.new m ≡ (gathered_in self.old m || in_range range.start range.end m)) }
+        ensures { OnOk result (HasMembers self.new (λ m. gathered_in self.old m || in_range range.start range.end m)) }
     {
         self.code_points.add_range(range)
     }
@@ -44,14 +44,14 @@ impl Gathered {
     /// Adds a string, which isn't one character.
     pub fn add_text(&mut self, text: String) -> Result<(), NoMemory>
         requires { sole_of (chars (string_bytes text)) ≡ None }
-        ensures { OnOk result ((m : Member) → gathered_in self.new m ≡ (gathered_in self.old m || is_text (chars (string_bytes text)) m)) }
+        ensures { OnOk result (HasMembers self.new (λ m. gathered_in self.old m || is_text (chars (string_bytes text)) m)) }
     {
         self.strings.insert(text)
     }
 
     /// Adds the members of the operand.
     pub fn join(&mut self, operand: Operand<'_>, alloc: Global) -> Result<(), NoMemory>
-        ensures { OnOk result ((m : Member) → gathered_in self.new m ≡ (gathered_in self.old m || operand_in operand.entry m)) }
+        ensures { OnOk result (HasMembers self.new (λ m. gathered_in self.old m || operand_in operand.entry m)) }
     {
         match operand {
             Operand::Gathered(other) => {
@@ -69,7 +69,7 @@ impl Gathered {
 
     /// Takes the members of the operand away.
     pub fn remove(&mut self, operand: Operand<'_>) -> Result<(), NoMemory>
-        ensures { OnOk result ((m : Member) → gathered_in self.new m ≡ (gathered_in self.old m && not (operand_in operand.entry m))) }
+        ensures { OnOk result (HasMembers self.new (λ m. gathered_in self.old m && not (operand_in operand.entry m))) }
     {
         match operand {
             Operand::Gathered(other) => {
@@ -87,7 +87,7 @@ impl Gathered {
 
     /// Keeps only the members of the operand.
     pub fn retain(&mut self, operand: Operand<'_>, alloc: Global) -> Result<(), NoMemory>
-        ensures { OnOk result ((m : Member) → gathered_in self.new m ≡ (gathered_in self.old m && operand_in operand.entry m)) }
+        ensures { OnOk result (HasMembers self.new (λ m. gathered_in self.old m && operand_in operand.entry m)) }
     {
         match operand {
             Operand::Gathered(other) => {

@@ -1,9 +1,6 @@
 //! The calls that read a pattern.
 ghost use Rattle.std.specs.Prelude.{IfOk, IfErr};
-ghost use Rattle.prop_data.specs.Database.{tables_of};
-ghost use Rattle.uset_variables.specs.Variables.{variables_of, no_variables};
-ghost use Rattle.uset_reader.specs.Syntaxes.{language_of};
-ghost use Rattle.uset_parse.specs.Reading.{IsRead, IsRefused};
+ghost use Rattle.uset_parse.specs.Reading.{language_with, language_without, IsRead, IsRefused};
 
 use cp_strset::CodePointInversionListAndStringList;
 use prop_data::PropertyDatabase;
@@ -21,8 +18,8 @@ pub fn parse_unstable_with_variables(
     variable_map: &VariableMap,
     database: &PropertyDatabase,
 ) -> Result<(CodePointInversionListAndStringList, usize), ParseError>
-    ensures read { IfOk result (λ p. IsRead (language_of (variables_of variable_map.now) (tables_of database.now)) source.now p.0 p.1) }
-    ensures refused { IfErr result (IsRefused (language_of (variables_of variable_map.now) (tables_of database.now)) source.now) }
+    ensures read { IfOk result (λ p. IsRead (language_with variable_map.now database.now) source.now p.0 p.1) }
+    ensures refused { IfErr result (IsRefused (language_with variable_map.now database.now) source.now) }
 {
     let Some(syntax) = Syntax::of(variable_map, database) else {
         return Err(ParseErrorKind::Internal.into());
@@ -39,8 +36,8 @@ pub fn parse_with_variables(
     variable_map: &VariableMap,
     database: &PropertyDatabase,
 ) -> Result<(CodePointInversionListAndStringList, usize), ParseError>
-    ensures read { IfOk result (λ p. IsRead (language_of (variables_of variable_map.now) (tables_of database.now)) source.now p.0 p.1) }
-    ensures refused { IfErr result (IsRefused (language_of (variables_of variable_map.now) (tables_of database.now)) source.now) }
+    ensures read { IfOk result (λ p. IsRead (language_with variable_map.now database.now) source.now p.0 p.1) }
+    ensures refused { IfErr result (IsRefused (language_with variable_map.now database.now) source.now) }
 {
     parse_unstable_with_variables(alloc, source, variable_map, database)
 }
@@ -51,8 +48,8 @@ pub fn parse_unstable(
     source: &str,
     database: &PropertyDatabase,
 ) -> Result<(CodePointInversionListAndStringList, usize), ParseError>
-    ensures read { IfOk result (λ p. IsRead (language_of no_variables (tables_of database.now)) source.now p.0 p.1) }
-    ensures refused { IfErr result (IsRefused (language_of no_variables (tables_of database.now)) source.now) }
+    ensures read { IfOk result (λ p. IsRead (language_without database.now) source.now p.0 p.1) }
+    ensures refused { IfErr result (IsRefused (language_without database.now) source.now) }
 {
     parse_unstable_with_variables(alloc, source, &VariableMap::new(alloc), database)
 }
@@ -63,8 +60,8 @@ pub fn parse(
     source: &str,
     database: &PropertyDatabase,
 ) -> Result<(CodePointInversionListAndStringList, usize), ParseError>
-    ensures read { IfOk result (λ p. IsRead (language_of no_variables (tables_of database.now)) source.now p.0 p.1) }
-    ensures refused { IfErr result (IsRefused (language_of no_variables (tables_of database.now)) source.now) }
+    ensures read { IfOk result (λ p. IsRead (language_without database.now) source.now p.0 p.1) }
+    ensures refused { IfErr result (IsRefused (language_without database.now) source.now) }
 {
     parse_unstable(alloc, source, database)
 }
