@@ -6,6 +6,9 @@ use std::test::Fail;
 const EVERY_KIND: &str =
     "set XID_Start\n41-5A\n61-7A\nset XID_Continue\n30-39\n41-5A\n5F\n61-7A\nset Pattern_White_Space\n9-D\n20\n85\n200E-200F\n2028-2029\nset ASCII_Hex_Digit\n30-39\n41-46\n61-66\nmap General_Category 0\n30-39 9\n41-5A 1\n61-7A 2\nD800-DFFF 18\nnames General_Category_Mask\n1 Lu\n1 Uppercase_Letter\n2 Ll\n2 Lowercase_Letter\n9 Nd\n9 Decimal_Number\n65534 L\n65534 Letter\nmap Script 103\n41-5A 25\n61-7A 25\n3041-3096 20\n30A1-30FA 22\n30FC 0\nnames Script\n25 Latn\n25 Latin\n20 Hira\n20 Hiragana\n22 Kana\n22 Katakana\n0 Zyyy\n0 Common\nlong Script\n25 Latin\nshort Script\n25 Latn\nscx 103\n41-5A 25\n61-7A 25\n3041-3096 20\n30A1-30FA 22\n30FC 1024\next 0\n20\n22\nmap Canonical_Combining_Class 0\n300-314 230\nnames Canonical_Combining_Class\n230 A\n230 Above\nemoji Basic_Emoji\n231A-231B\n{00A9_FE0F}\nend\n";
 
+/// The counts of a text with one table, of a set.
+const ONE_SET: &str = "set 1\nmap 0\nnames 0\nlong 0\nshort 0\nscx 0\next 0\nemoji 0\n";
+
 #[test]
 fn tables_are_counted_by_their_kinds(rt: HostRuntime) -> Result<(), Fail> {
     let alloc = rt.alloc();
@@ -24,6 +27,9 @@ fn tables_are_counted_by_their_kinds(rt: HostRuntime) -> Result<(), Fail> {
         ),
         ("end\npat [a]\n", "tables line 2: UnknownLine\n", 3),
         ("set XID_Start\n", "tables line 2: NoEnd\n", 3),
+        // A CR that no LF follows belongs to its line.
+        ("set Dash\n2D\nend\r", "tables line 3: BadNumber\n", 3),
+        ("set Dash\n2D\r\nend\r\n", ONE_SET, 0),
     ] {
         let (status, sink) = run_in_memory(alloc, &words, input.as_bytes().to_vec(alloc)?);
         assert_eq!(rt; sink.written(), expected.as_bytes(), "for {expected}");
