@@ -1,6 +1,7 @@
 -- Sets by their members, which are code points and strings.
-use Rattle.std.specs.Prelude.{◌≡◌, Bool}
+use Rattle.std.specs.Prelude.{◌≡◌, ℕ, Bool, List}
 use Rattle.std.specs.BTreeSet.{contains_text}
+use Rattle.std.specs.Str.{chars}
 use Rattle.cp_invlist.specs.InversionList.{contains}
 use Rattle.cp_strset.specs.StringList.{holds}
 use Rattle.cp_strset.specs.StringSet.{StringSet}
@@ -8,7 +9,7 @@ use Rattle.uset_gather.specs.declared.gathered.Gathered.{Gathered}
 use Rattle.uset_gather.specs.declared.operand.Operand.{Operand}
 use Rattle.uset_gather.specs.declared.operand.Operand.TheVariants.{Gathered as Other, Set, CodePoints, Complement}
 use Rattle.uset_gather.specs.Painting.{in_painting}
-use Rattle.uset_grammar.specs.Tree.{Member, point, string, in_source, negation}
+use Rattle.uset_grammar.specs.Tree.{Member, point, string, is_text, in_source, negation}
 
 -- the member was gathered
 abbrev pub gathered_in : Gathered → Member → Bool
@@ -18,6 +19,10 @@ gathered_in g (string bytes) = contains_text g.strings bytes
 -- what was gathered has these members
 abbrev pub HasMembers : Gathered → (Member → Bool) → Type 0
 HasMembers g members = (m : Member) → gathered_in g m ≡ members m
+
+-- whether the member is the string with these bytes
+abbrev pub is_string : List ℕ → Member → Bool
+is_string bytes m = is_text (chars bytes) m
 
 -- whether the set has the member
 abbrev pub in_set : StringSet → Member → Bool

@@ -20,8 +20,8 @@ impl Gathered {
     ghost use Rattle.std.specs.Str.{chars};
     ghost use Rattle.std.specs.String.{string_bytes};
     ghost use Rattle.cp_strset.specs.StringList.{sole_of};
-    ghost use Rattle.uset_grammar.specs.Tree.{Member, in_range, is_text, negation};
-    ghost use Rattle.uset_gather.specs.Gathered.{gathered_in, HasMembers, operand_in, in_set};
+    ghost use Rattle.uset_grammar.specs.Tree.{Member, in_range, negation};
+    ghost use Rattle.uset_gather.specs.Gathered.{gathered_in, HasMembers, is_string, operand_in, in_set};
 
     /// Nothing yet.
     pub fn new(alloc: Global) -> Gathered
@@ -44,7 +44,7 @@ impl Gathered {
     /// Adds a string, which isn't one character.
     pub fn add_text(&mut self, text: String) -> Result<(), NoMemory>
         requires { sole_of (chars (string_bytes text)) ≡ None }
-        ensures { OnOk result (HasMembers self.new (λ m. gathered_in self.old m || is_text (chars (string_bytes text)) m)) }
+        ensures { OnOk result (HasMembers self.new (λ m. gathered_in self.old m || is_string (string_bytes text) m)) }
     {
         self.strings.insert(text)
     }
