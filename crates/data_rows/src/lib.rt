@@ -17,6 +17,8 @@ mod names;
 #[cfg(test)]
 mod names_tables;
 #[cfg(test)]
+mod nearest;
+#[cfg(test)]
 mod scripts;
 #[cfg(test)]
 mod sets;
