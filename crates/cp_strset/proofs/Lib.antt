@@ -4,3 +4,4 @@ pub mod OneList
 pub mod Clones
 pub mod Written
 pub mod Equality
+pub mod Printable

@@ -1,5 +1,5 @@
 -- A set as a pattern of UTS 35 in escapes alone.
-use Rattle.std.specs.Prelude.{◌≡◌, ℕ, ◌==◌, false, if◌then◌else◌, List, ◌++◌, codes}
+use Rattle.std.specs.Prelude.{◌≡◌, ℕ, ◌==◌, Bool, false, ◌&&◌, nat_le, if◌then◌else◌, List, ◌++◌, codes}
 use Rattle.std.specs.Fmt.{digits}
 use Rattle.std.specs.List.{flat_map}
 use Rattle.std.specs.Str.{chars}
@@ -28,3 +28,7 @@ pattern_text rs ss = codes "[" ++ (flat_map range_text rs ++ (flat_map string_te
 abbrev pub IsPatternOf : StringSet → List ℕ → Type 0
 IsPatternOf set text =
     (rs : List CodePointRange) → AreMaximalRanges (contains set.code_points) rs → text ≡ pattern_text rs set.strings
+
+-- a printable character of ASCII: from the space to `~`
+abbrev pub is_printable_ascii : ℕ → Bool
+is_printable_ascii b = nat_le 0x20 b && nat_le b 0x7E

@@ -3,6 +3,7 @@
 
 ghost use Rattle.std.specs.Prelude.{◌≡◌, ℕ, ◌+◌, ◌&&◌, ◌↔◌, false, nat_eq, IsTrue, IfOk, OnOk, List, length, map, None, Some};
 ghost use Rattle.std.specs.Cmp.Lexicographic.{pointwise};
+ghost use Rattle.std.specs.List.{AllPass};
 ghost use Rattle.std.specs.Option.{option_copied};
 ghost use Rattle.std.specs.Str.{IsUtf8, chars};
 ghost use Rattle.std.specs.String.{string_bytes};
@@ -10,9 +11,9 @@ ghost use Rattle.cp_invlist.specs.InversionList.{contains};
 ghost use Rattle.cp_invlist.specs.Ranges.{AreMaximalRanges};
 ghost use Rattle.cp_invlist.specs.Size.{count_members};
 ghost use Rattle.cp_invlist.specs.declared.ranges.CodePointRange.{CodePointRange};
-ghost use Rattle.cp_strset.specs.PatternText.{IsPatternOf};
+ghost use Rattle.cp_strset.specs.PatternText.{IsPatternOf, is_printable_ascii};
 ghost use Rattle.cp_strset.specs.StringList.{AreCanonical, sole_of, holds, fault_at, first_fault};
-ghost use Rattle.cp_strset.specs.StringSet.{contains_text, same_members};
+ghost use Rattle.cp_strset.specs.StringSet.{contains_text, same_members, HaveSameMembers};
 
 pub mod laws;
 mod pattern_text;
@@ -163,13 +164,14 @@ impl CodePointInversionListAndStringList {
 
     /// The set as a pattern of UTS 35 in escapes alone. It is `[`, then each maximal range as `\u{h}` where it has one
     /// member, else as `\u{h}-\u{h}`, then each string as `{`, `\u{h}` for each character and `}`, then `]`, where `h` is
-    /// lower-case hexadecimal with no leading zero.
+    /// lower-case hexadecimal with no leading zero. The text is printable ASCII.
     pub fn to_pattern(&self, alloc: Global) -> Result<String, NoMemory>
-        ensures { IfOk result (λ text. IsPatternOf self.now (string_bytes text)) }
+        ensures pattern { IfOk result (λ text. IsPatternOf self.now (string_bytes text)) }
+        ensures printable { IfOk result (λ text. AllPass is_printable_ascii (string_bytes text)) }
     {
         let mut text = String::new(alloc);
         text.push('[')?;
-        push_ranges(&mut text, &self.code_points)?;
+        push_ranges(&mut text, self.code_points.iter_ranges())?;
         push_strings(&mut text, &self.strings)?;
         text.push(']')?;
         Ok(text)
@@ -190,6 +192,7 @@ impl PartialEq for CodePointInversionListAndStringList {
     fn eq(&self, other: &CodePointInversionListAndStringList) -> bool
         ensures value { result ≡ same_members self.now other.now }
         ensures same { IsTrue result ↔ (self.now ≡ other.now) }
+        ensures members { IsTrue result ↔ HaveSameMembers self.now other.now }
     {
         self.code_points == other.code_points && self.strings == other.strings
     }

@@ -1,21 +1,20 @@
 //! The text of a set as a pattern.
-ghost use Rattle.std.specs.Prelude.{◌≡◌, ℕ, OnOk, List, ◌++◌, map};
+ghost use Rattle.std.specs.Prelude.{◌≡◌, OnOk, ◌++◌, map};
 ghost use Rattle.std.specs.List.{flat_map};
 ghost use Rattle.std.specs.String.{string_bytes};
-ghost use Rattle.cp_invlist.specs.InversionList.{contains};
-ghost use Rattle.cp_invlist.specs.Ranges.{AreMaximalRanges};
-ghost use Rattle.cp_invlist.specs.declared.ranges.CodePointRange.{CodePointRange};
 ghost use Rattle.cp_strset.specs.PatternText.{escaped, range_text, string_text};
 
-use cp_invlist::{CodePointInversionList, CodePointRange, NoMemory};
+use cp_invlist::{CodePointRange, InversionListRanges, NoMemory};
 use std::fmt::Write;
 
-/// Writes each maximal range of the set.
-pub(crate) fn push_ranges(text: &mut String, set: &CodePointInversionList) -> Result<(), NoMemory>
-    ensures { (rs : List CodePointRange) → AreMaximalRanges (contains set.now) rs →
-        OnOk result (string_bytes text.new ≡ string_bytes text.old ++ flat_map range_text rs) }
+/// Writes each of the ranges.
+pub(crate) fn push_ranges(
+    text: &mut String,
+    ranges: InversionListRanges<'_>,
+) -> Result<(), NoMemory>
+    ensures { OnOk result (string_bytes text.new ≡ string_bytes text.old ++ flat_map range_text ranges.entry) }
 {
-    for range in set.iter_ranges() {
+    for range in ranges {
         push_range(text, range)?;
     }
     Ok(())
