@@ -4,7 +4,7 @@ use cp_strset::CodePointInversionListAndStringList;
 use prop_data::PropertyDatabase;
 use std::alloc::Global;
 use std::test::Fail;
-use uset_parse::parse;
+use uset_parse::{ParseError, ParseErrorKind, VariableMap, parse, read_back};
 
 /// The three syntax tables for ASCII.
 const SYNTAX: &str = "set XID_Start\n41-5A\n61-7A\nset XID_Continue\n30-39\n41-5A\n5F\n61-7A\n\
@@ -96,9 +96,22 @@ fn large_set(alloc: Global) -> Result<CodePointInversionListAndStringList, Fail>
 
 #[test]
 fn a_large_set_is_read_back(rt: HostRuntime) -> Result<(), Fail> {
-    let set = large_set(rt.alloc())?;
-    let text = set.to_pattern(rt.alloc())?;
-    assert!(rt; is_read_back(rt.alloc(), &set, &text)?);
+    let alloc = rt.alloc();
+    let set = large_set(alloc)?;
+    let database = PropertyDatabase::from_text(alloc, SYNTAX)?;
+    let (read, length) = read_back(alloc, &set, &VariableMap::new(alloc), &database)?;
+    assert!(rt; read == set);
+    assert_eq!(rt; length, set.to_pattern(alloc)?.len());
     assert_eq!(rt; set.size(), 2_114);
+    Ok(())
+}
+
+#[test]
+fn nothing_is_read_back_without_a_syntax(rt: HostRuntime) -> Result<(), Fail> {
+    let alloc = rt.alloc();
+    let set = set_of(alloc, &[], &[])?;
+    let database = PropertyDatabase::from_text(alloc, "end\n")?;
+    let error = read_back(alloc, &set, &VariableMap::new(alloc), &database).err();
+    assert_eq!(rt; error, Some(ParseError::from(ParseErrorKind::Internal)));
     Ok(())
 }

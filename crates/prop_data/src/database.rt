@@ -50,7 +50,7 @@ impl PropertyDatabase {
     ghost use Rattle.std.specs.Option.{option_copied};
     ghost use Rattle.text_lines.specs.Lines.{lines};
     ghost use Rattle.cp_invlist.specs.InversionList.{contains};
-    ghost use Rattle.prop_data.specs.Forbidden.{IsAllowed};
+    ghost use Rattle.prop_data.specs.Forbidden.{IsAllowed, AreAllowed};
     ghost use Rattle.cp_trie.specs.Map.{value_at};
     ghost use Rattle.prop_names.specs.ValueNames.{text_at};
     ghost use Rattle.prop_names.specs.ValueNameTables.{linear_text, sparse_text, subtag_text};
@@ -216,6 +216,7 @@ impl PropertyDatabase {
     pub fn set(&self, table: SetTable) -> Option<&CodePointInversionList>
         ensures value { option_copied result ≡ set_of self.now table }
         ensures allowed { IfSome result (λ set. IsAllowed table (contains set.now)) }
+        ensures syntax { AreAllowed (tables_of self.now) }
     {
         self.sets.get(&table.number())
     }

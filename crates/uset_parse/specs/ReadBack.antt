@@ -1,5 +1,5 @@
 -- A set with strings that is written as a pattern and read back.
-use Rattle.std.specs.Prelude.{◌≡◌, ◌≢◌, ℕ, ◌≤◌, Bool, true, false, All, List, length, ◌++◌, Option, Some}
+use Rattle.std.specs.Prelude.{◌≡◌, ◌≢◌, ℕ, ◌≤◌, Bool, true, false, All, List, length, ◌++◌, Option, Some, None}
 use Rattle.std.specs.List.{list_any}
 use Rattle.std.specs.Str.{IsUtf8, chars}
 use Rattle.cp_invlist.specs.InversionList.{contains, IsInversionList}
@@ -12,10 +12,13 @@ use Rattle.prop_data.specs.Forbidden.{AreAllowed}
 use Rattle.prop_data.specs.Tables.{Tables}
 use Rattle.uset_grammar.specs.Text.{Text, ◌∈◌}
 use Rattle.uset_grammar.specs.Escape.{is_hex}
+use Rattle.uset_grammar.specs.Outcome.{internal}
 use Rattle.uset_grammar.specs.Tree.{Tree, Member, point, string, has}
 use Rattle.uset_grammar.specs.Language.{Language, Value}
 use Rattle.uset_grammar.specs.Grammar.{Reads}
 use Rattle.uset_gather.specs.Gathered.{in_set}
+use Rattle.uset_fault.specs.declared.error.ParseError.{ParseError}
+use Rattle.uset_fault.specs.Errors.{Tells}
 use Rattle.uset_reader.specs.Syntaxes.{language_of}
 
 -- White space is none of the characters of which a pattern in escapes is made.
@@ -62,3 +65,12 @@ abbrev pub Inverse : Type 0
 Inverse = (tables : Tables) → AreAllowed tables → (variable : Text → Option Value) (l : Language) → language_of variable tables ≡ Some l →
     (set : StringSet) → IsStringSet set → (rs : List CodePointRange) → AreMaximalRanges (contains set.code_points) rs →
     (rest : Text) → IsReadBack l (chars (pattern_text rs set.strings)) (in_set set) rest
+
+-- The answer of a call that reads a set back that was written: the set itself, and how many bytes its pattern has.
+pub record IsWholeSet (set : StringSet) (read : StringSet) (n : ℕ) : Type 0 where
+  pub same : read ≡ set
+  pub whole : (rs : List CodePointRange) → AreMaximalRanges (contains set.code_points) rs → n ≡ length (pattern_text rs set.strings)
+
+-- The error says that a table of the syntax is absent, or that memory was refused.
+abbrev pub LacksSyntax : Option Language → ParseError → Type 0
+LacksSyntax l error = Tells error (λ kind offset. (l ≡ None) × (kind ≡ internal) × (offset ≡ None))

@@ -1,0 +1,50 @@
+//! The example of README.md.
+use prop_data::PropertyDatabase;
+use std::alloc::Global;
+use std::test::Fail;
+use uset_parse::{VariableMap, parse_with_variables};
+
+/// The tables of the pattern syntax, for ASCII.
+const TABLES: &str = "set Pattern_White_Space\n9-D\n20\n\
+    set XID_Start\n41-5A\n61-7A\n\
+    set XID_Continue\n30-39\n41-5A\n5F\n61-7A\n\
+    end\n";
+
+/// What the consonants are, a range a line, and then the strings.
+fn consonants(alloc: Global) -> Result<String, Fail> {
+    let database = PropertyDatabase::from_text(alloc, TABLES)?;
+    let mut variables = VariableMap::new(alloc);
+    if variables
+        .insert_str(String::from_str(alloc, "digraph")?, "ch")
+        .is_err()
+    {
+        return Err("the name is bound".into());
+    }
+
+    let source = "[[a-z $digraph]-[aeiou]] and what follows is free";
+    let (set, length) = parse_with_variables(alloc, source, &variables, &database)?;
+    let mut text = format!(in alloc;
+        "{length} bytes, b: {}, a: {}, ch: {}\n",
+        set.contains('b'),
+        set.contains('a'),
+        set.contains_str("ch")
+    )?;
+    for range in set.code_points().iter_ranges() {
+        write!(text, "{:04X}-{:04X}\n", range.start, range.end)?;
+    }
+    for string in set.strings() {
+        write!(text, "{string}\n")?;
+    }
+    Ok(text)
+}
+
+#[test]
+fn the_example_of_the_guide_has_its_answer(rt: HostRuntime) -> Result<(), Fail> {
+    let text = consonants(rt.alloc())?;
+    assert_eq!(rt;
+        text.as_str(),
+        "24 bytes, b: true, a: false, ch: true\n\
+        0062-0064\n0066-0068\n006A-006E\n0070-0074\n0076-007A\nch\n"
+    );
+    Ok(())
+}
