@@ -7,8 +7,6 @@ use Rattle.std.specs.Str.{chars}
 use Rattle.std.proofs.lemmas.Bool.Decides.{nat_tests}
 use Rattle.std.proofs.lemmas.List.Folds.{list_all-append}
 use Rattle.std.proofs.lemmas.List.Sums.{AllPass-from_list_all}
-use Rattle.cp_invlist.specs.InversionList.{contains}
-use Rattle.cp_invlist.specs.Ranges.{AreMaximalRanges}
 use Rattle.cp_invlist.specs.declared.ranges.CodePointRange.{CodePointRange}
 use Rattle.cp_strset.specs.PatternText.{escaped, range_text, string_text, pattern_text, IsPatternOf, is_printable_ascii}
 use Rattle.cp_strset.specs.StringSet.{StringSet}
@@ -61,7 +59,7 @@ text_printable rs ss =
     (both (flat_map range_text rs) (flat_map string_text ss ++ codes "]") (each range_text range_printable rs)
     (both (flat_map string_text ss) (codes "]") (each string_text string_printable ss) refl))
 
--- the text of a set that has maximal ranges
-pub pattern_printable : (set : StringSet) (text : List ℕ) → IsPatternOf set text → (rs : List CodePointRange) → AreMaximalRanges (contains set.code_points) rs → AllPass is_printable_ascii text
-pattern_printable set text h rs maximal =
-    AllPass-from_list_all is_printable_ascii text (ap (list_all is_printable_ascii) (h rs maximal) ∙ text_printable rs set.strings)
+-- the text of a set
+pub pattern_printable : (set : StringSet) (text : List ℕ) → IsPatternOf set text → AllPass is_printable_ascii text
+pattern_printable set text h =
+    AllPass-from_list_all is_printable_ascii text (ap (list_all is_printable_ascii) h.is ∙ text_printable h.ranges set.strings)

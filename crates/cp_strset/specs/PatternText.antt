@@ -24,10 +24,11 @@ string_text bs = codes "{" ++ (flat_map escaped (chars bs) ++ codes "}")
 abbrev pub pattern_text : List CodePointRange → List (List ℕ) → List ℕ
 pattern_text rs ss = codes "[" ++ (flat_map range_text rs ++ (flat_map string_text ss ++ codes "]"))
 
--- the text is that of the maximal ranges and of the strings of the set
-abbrev pub IsPatternOf : StringSet → List ℕ → Type 0
-IsPatternOf set text =
-    (rs : List CodePointRange) → AreMaximalRanges (contains set.code_points) rs → text ≡ pattern_text rs set.strings
+-- The text is that of the maximal ranges and of the strings of the set.
+pub record IsPatternOf (set : StringSet) (text : List ℕ) : Type 0 where
+  pub ranges : List CodePointRange
+  pub maximal : AreMaximalRanges (contains set.code_points) ranges
+  pub is : text ≡ pattern_text ranges set.strings
 
 -- a printable character of ASCII: from the space to `~`
 abbrev pub is_printable_ascii : ℕ → Bool

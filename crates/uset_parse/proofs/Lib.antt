@@ -3,3 +3,4 @@ pub mod NumberInBraces
 pub mod EscapedItems
 pub mod PatternRead
 pub mod DatabasePatterns
+pub mod ReadBackLemmas

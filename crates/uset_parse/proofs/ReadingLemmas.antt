@@ -28,7 +28,8 @@ reading l syntax source gathered end set n there h made place = record {
   place = place ∙ ap length h.same;
 }
 
-told_more : (told : Option Kind) (offset : Option ℕ) (P Q : Kind → Option ℕ → Type 0) → ((k : Kind) (o : Option ℕ) → P k o → Q k o) → ToldAs told offset P → ToldAs told offset Q
+-- what an error tells, weakened
+pub told_more : (told : Option Kind) (offset : Option ℕ) (P Q : Kind → Option ℕ → Type 0) → ((k : Kind) (o : Option ℕ) → P k o → Q k o) → ToldAs told offset P → ToldAs told offset Q
 told_more None offset P Q more h = tt
 told_more (Some k) offset P Q more h = more k offset h
 

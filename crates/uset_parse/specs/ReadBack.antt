@@ -5,7 +5,7 @@ use Rattle.std.specs.Str.{IsUtf8, chars}
 use Rattle.cp_invlist.specs.InversionList.{contains, IsInversionList}
 use Rattle.cp_invlist.specs.Ranges.{in_range, AreMaximalRanges}
 use Rattle.cp_invlist.specs.declared.ranges.CodePointRange.{CodePointRange}
-use Rattle.cp_strset.specs.PatternText.{pattern_text}
+use Rattle.cp_strset.specs.PatternText.{pattern_text, IsPatternOf}
 use Rattle.cp_strset.specs.StringList.{holds, AreCanonical}
 use Rattle.cp_strset.specs.StringSet.{StringSet}
 use Rattle.prop_data.specs.Forbidden.{AreAllowed}
@@ -67,9 +67,11 @@ Inverse = (tables : Tables) → AreAllowed tables → (variable : Text → Optio
     (rest : Text) → IsReadBack l (chars (pattern_text rs set.strings)) (in_set set) rest
 
 -- The answer of a call that reads a set back that was written: the set itself, and how many bytes its pattern has.
-pub record IsWholeSet (set : StringSet) (read : StringSet) (n : ℕ) : Type 0 where
+pub record IsWholeSet (set read : StringSet) (n : ℕ) : Type 0 where
+  pub pattern : List ℕ
+  pub written : IsPatternOf set pattern
   pub same : read ≡ set
-  pub whole : (rs : List CodePointRange) → AreMaximalRanges (contains set.code_points) rs → n ≡ length (pattern_text rs set.strings)
+  pub whole : n ≡ length pattern
 
 -- The error says that a table of the syntax is absent, or that memory was refused.
 abbrev pub LacksSyntax : Option Language → ParseError → Type 0

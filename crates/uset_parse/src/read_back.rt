@@ -29,7 +29,7 @@ pub fn read_back(
     laws::one_answer();
     same_members();
     one_list();
-    // What the arguments keep: the tables of the syntax leave escapes alone, and the lists of the set are in order.
+    // The tables of the syntax leave escapes alone, and the lists of a set are in order: so these calls say.
     let _ = database.set(SetTable::PATTERN_WHITE_SPACE);
     let _ = (set.code_points().get_inversion_list(), set.strings());
     let pattern = set.to_pattern(alloc)?;

@@ -6,9 +6,11 @@ use Rattle.cp_strset.proofs.Printable.{pattern_printable}
 use Rattle.cp_strset.proofs.CodePointInversionListAndStringList.to_pattern.Goals as goal
 
 pub returns-clause-pattern : goal.returns-clause-pattern
-returns-clause-pattern c = grind (arith, common_steps)
+returns-clause-pattern c = record {
+  ranges = c.iter_ranges.result;
+  maximal = subst (λ s. AreMaximalRanges (contains s.code_points) c.iter_ranges.result) c.self.view_is c.iter_ranges.ensures.maximal;
+  is = grind (arith, common_steps);
+}
 
 pub returns-clause-printable : goal.returns-clause-printable
-returns-clause-printable c =
-    let maximal = subst (λ s. AreMaximalRanges (contains s.code_points) c.iter_ranges.result) c.self.view_is c.iter_ranges.ensures.maximal in
-    pattern_printable c.args.self.now _ (returns-clause-pattern c) c.iter_ranges.result maximal
+returns-clause-printable c = pattern_printable c.args.self.now _ (returns-clause-pattern c)
