@@ -1,5 +1,5 @@
 -- A set that is written and read back.
-use Rattle.std.proofs.Common.{◌≡◌, ℕ, ◌+◌, List, [], ◌++◌, length, map, Option, Some, None, refl, sym, ap, ap₂, ◌∙◌, subst, append-nil, arith, String, Global}
+use Rattle.std.proofs.Common.{◌≡◌, ℕ, ◌+◌, List, [], ◌++◌, length, map, Option, Some, None, refl, sym, ap, ap₂, ◌∙◌, subst, append-nil, arith, get_or, String, Global}
 use Rattle.std.specs.Prelude.{All}
 use Rattle.std.specs.Str.{IsUtf8, chars}
 use Rattle.std.specs.String.{string_bytes}
@@ -28,8 +28,16 @@ use Rattle.uset_parse.specs.ReadBack.{IsReadBack, IsStringSet, IsWholeSet, Inver
 use Rattle.uset_parse.proofs.ReadingLemmas.{told_more}
 
 -- the bytes of strings are texts
-pub texts : (strings : List (String Global)) → All IsUtf8 (map string_bytes strings)
-texts strings = All-map IsUtf8 string_bytes strings (λ k s below. IsUtf8-string_bytes s)
+texts : (strings : List (String Global)) → All IsUtf8 (map string_bytes strings)
+texts strings = All-map IsUtf8 string_bytes strings (λ k d below. IsUtf8-string_bytes (get_or strings k d))
+
+-- what a set keeps, by what its accessors say
+pub kept_by : (set : StringSet) (list : List ℕ) (strings : List (String Global)) → IsInversionList list → list ≡ set.code_points → map string_bytes strings ≡ set.strings → AreCanonical set.strings → IsStringSet set
+kept_by set list strings in_order same bytes canonical = record {
+  code_points = subst IsInversionList same in_order;
+  strings = canonical;
+  texts = subst (All IsUtf8) bytes (texts strings);
+}
 
 -- what is read is read under a syntax that is there
 syntax_of : (l : Option Language) (source : Text) (tree : Tree) (rest : Text) → ReadsUnder source tree rest l → (k : Language) × (l ≡ Some k)

@@ -3,9 +3,9 @@
 
 mod calls;
 pub mod laws;
-mod read_back;
+mod stored;
 
 pub use calls::{parse, parse_unstable, parse_unstable_with_variables, parse_with_variables};
-pub use read_back::read_back;
+pub use stored::read_back;
 pub use uset_fault::{ParseError, ParseErrorKind};
 pub use uset_variables::{InsertError, VariableMap, VariableString, VariableValue};

@@ -31,9 +31,11 @@ pub fn read_back(
     one_list();
     // The tables of the syntax leave escapes alone, and the lists of a set are in order: so these calls say.
     let _ = database.set(SetTable::PATTERN_WHITE_SPACE);
-    let _ = (set.code_points().get_inversion_list(), set.strings());
+    let _ = set.code_points().get_inversion_list();
+    let _ = set.strings();
     let pattern = set.to_pattern(alloc)?;
     let (read, length) = parse_with_variables(alloc, &pattern, variable_map, database)?;
-    let _ = (read.code_points().get_inversion_list(), read.strings());
+    let _ = read.code_points().get_inversion_list();
+    let _ = read.strings();
     Ok((read, length))
 }
