@@ -264,15 +264,16 @@ def peak(program, text):
 
 
 def peak_at_answer(program, text):
-    """The most memory, in bytes, that the program has held as it begins to write an answer that fills a pipe."""
+    """The most memory of its own, in bytes, that the program has held as it begins to write an answer that fills a pipe: the
+    peak of what is resident, without the pages of the program's file, of which some are read only where they are run."""
     with subprocess.Popen([program, "eval"], stdin=subprocess.PIPE, stdout=subprocess.PIPE) as run:
         run.stdin.write(text.encode("utf-8"))
         run.stdin.close()
         run.stdout.read(1)
         status = Path(f"/proc/{run.pid}/status").read_text(encoding="ascii")
         run.stdout.read()
-    kibibytes = next(line.split()[1] for line in status.splitlines() if line.startswith("VmHWM:"))
-    return int(kibibytes) * 1024
+    kibibytes = {line.split()[0]: int(line.split()[1]) for line in status.splitlines() if line.endswith(" kB")}
+    return (kibibytes["VmHWM:"] - kibibytes["RssFile:"]) * 1024
 
 
 def most_steps(make):
@@ -317,24 +318,23 @@ def memory(program):
 
 
 def memory_of_elements(program):
-    """Prints what an element of one bracket takes beside the text itself and the program as it answers short lines."""
-    script = lines(20_000)
-    least = peak_at_answer(program, script) - len(script)
+    """Prints what an element of one bracket takes beside the text itself, and beside what does not grow with them."""
     print()
-    print("| elements of one bracket | count | bytes of memory an element |")
-    print("|---|---|---|")
+    print("| elements of one bracket | count | bytes of memory an element | beyond 16 bytes each, in kB |")
+    print("|---|---|---|---|")
     for name, opening, shuffled in (
         ("ascending", "[", False),
         ("ascending, in a complement", "[^", False),
         ("shuffled", "[", True),
+        ("shuffled, in a complement", "[^", True),
     ):
-        for count in (131_000, 262_000, 523_000):
+        for count in (60_000, 131_000, 262_000, 523_000):
             chosen = [element(index) for index in range(count)]
             if shuffled:
                 random.Random(1).shuffle(chosen)
             text = TABLES + "pat " + opening + "".join(chosen) + "]\n"
-            taken = peak_at_answer(program, text) - len(text.encode("utf-8")) - least
-            print(f"| {name} | {count:,} | {taken / count:.1f} |")
+            taken = peak_at_answer(program, text) - len(text.encode("utf-8"))
+            print(f"| {name} | {count:,} | {taken / count:.1f} | {max(taken - 16 * count, 0) / 1000:.0f} |")
 
 
 def main():
