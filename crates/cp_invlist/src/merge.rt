@@ -91,7 +91,8 @@ pub(crate) fn merge<L: Ledger>(
 {
     let mut left = Cursor::new(first);
     let mut right = Cursor::new(second);
-    let mut merged = Vec::new(alloc);
+    // Room for all of both, so that the list is never moved while it grows.
+    let mut merged = Vec::with_capacity(alloc, first.len().saturating_add(second.len()))?;
     'elements: while let (Some(x), Some(y)) = (left.first(), right.first()) {
         if x < y {
             let stretch = left.take(left.count_below(y), steps);

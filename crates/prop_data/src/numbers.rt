@@ -71,7 +71,13 @@ fn split_at_hyphen(field: &[u8]) -> Option<(&[u8], &[u8])>
 pub(crate) fn range(field: &[u8]) -> Option<CodePointRange>
     ensures { option_map (λ r. (r.start, r.end)) result ≡ range field.now }
 {
-    let (start, end) = split_at_hyphen(field).unwrap_or((field, field));
+    let Some((start, end)) = split_at_hyphen(field) else {
+        let only = hex(field)?;
+        return Some(CodePointRange {
+            start: only,
+            end: only,
+        });
+    };
     Some(CodePointRange {
         start: hex(start)?,
         end: hex(end)?,
