@@ -4,7 +4,8 @@ use Rattle.prop_data.specs.declared.table.DataError.{DataError}
 use Rattle.prop_data.specs.declared.table.DataError.TheVariants.{Absent, NoMemory}
 use Rattle.prop_data.specs.declared.table.TableName.{TableName}
 
--- The call needs the table: where it is absent, the answer is the error that names it, and else it is no error.
+-- The call needs the table: where it is absent, the answer is the error that names it, and else it is no error. So want of memory is
+-- never answered.
 abbrev pub NeedsTable : {V W : Type 0} → TableName → Option V → Result W DataError → Type 0
 NeedsTable name None result = result ≡ Err (Absent name)
 NeedsTable name (Some v) result = IsOk result

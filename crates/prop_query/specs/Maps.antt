@@ -5,10 +5,6 @@ use Rattle.cp_trie.specs.Map.{CodePointMap, value_at}
 use Rattle.prop_values.specs.Groups.{has}
 use Rattle.prop_values.specs.declared.category.GeneralCategory.{GeneralCategory}
 
--- the number is a code point, and its value passes the test
-abbrev pub passes_at : {V : Type 0} → (V → Bool) → CodePointMap V → ℕ → Bool
-passes_at passes m c = is_code_point c && passes (value_at m c)
-
 -- the number is a code point, and its value is not equal to this one by the test
 abbrev pub lacks_value : {V : Type 0} → (V → V → Bool) → CodePointMap V → V → ℕ → Bool
 lacks_value eq m v c = is_code_point c && not (eq (value_at m c) v)

@@ -41,7 +41,8 @@ impl EmojiSetData {
         database: &'a PropertyDatabase,
     ) -> Result<EmojiSetDataBorrowed<'a>, DataError>
         ensures members { IfOk result (λ set. emoji_of database.now P.TABLE ≡ Some (emoji_in set)) }
-        ensures needs { NeedsTable (TableName.Emoji P.TABLE) (emoji_of database.now P.TABLE) result }
+        ensures needs { NeedsTable (TableName.Emoji P.TABLE)
+            (emoji_of database.now P.TABLE) result }
     {
         match database.emoji(P::TABLE) {
             Some(set) => Ok(EmojiSetDataBorrowed { set }),
@@ -51,14 +52,15 @@ impl EmojiSetData {
         }
     }
 
-    /// A copy of the emoji set of a property. `Absent` names it where the database has none, and `NoMemory` says that a
-    /// request for memory was refused.
+    /// A copy of the emoji set of a property. `Absent` names it where the database has none, and `NoMemory` says that
+    /// a request for memory was refused.
     pub fn try_new_unstable<P: EmojiSet>(
         alloc: Global,
         database: &PropertyDatabase,
     ) -> Result<EmojiSetData, DataError>
         ensures members { IfOk result (λ set. emoji_of database.now P.TABLE ≡ Some set) }
-        ensures needs { NeedsTableAndMemory (TableName.Emoji P.TABLE) (emoji_of database.now P.TABLE) result }
+        ensures needs { NeedsTableAndMemory (TableName.Emoji P.TABLE)
+            (emoji_of database.now P.TABLE) result }
     {
         let Some(set) = database.emoji(P::TABLE) else {
             return Err(DataError::Absent {
@@ -113,7 +115,8 @@ impl<'a> EmojiSetDataBorrowed<'a> {
         database: &'a PropertyDatabase,
     ) -> Result<EmojiSetDataBorrowed<'a>, DataError>
         ensures members { IfOk result (λ set. emoji_of database.now P.TABLE ≡ Some (emoji_in set)) }
-        ensures needs { NeedsTable (TableName.Emoji P.TABLE) (emoji_of database.now P.TABLE) result }
+        ensures needs { NeedsTable (TableName.Emoji P.TABLE)
+            (emoji_of database.now P.TABLE) result }
     {
         EmojiSetData::new::<P>(database)
     }

@@ -1,12 +1,11 @@
 //! Single answers of a database: the value of a character, a value by its name, and a name by its value.
-ghost use Rattle.std.specs.Prelude.{◌≡◌, Some, IfOk, option_map, option_and_then};
+ghost use Rattle.std.specs.Prelude.{◌≡◌, Some, IfOk, option_map};
 ghost use Rattle.std.specs.Option.{option_copied};
 ghost use Rattle.cp_invlist.specs.InversionList.{contains};
 ghost use Rattle.cp_strset.specs.StringSet.{contains_text};
 ghost use Rattle.prop_data.specs.Database.{set_of, map_of, names_of, long_of, short_of, emoji_of};
-ghost use Rattle.prop_names.specs.Names.{loose};
 ghost use Rattle.prop_query.specs.Answers.{NeedsTable, answer_of};
-ghost use Rattle.prop_query.specs.Lookups.{subtag_or_unknown, script_or_unknown};
+ghost use Rattle.prop_query.specs.Lookups.{subtag_or_unknown, script_or_unknown, value_loosely};
 ghost use Rattle.prop_query.specs.Maps.{unpacked_at};
 
 use crate::emoji::EmojiSetData;
@@ -62,26 +61,26 @@ pub fn emoji_for_str<P: EmojiSet>(database: &PropertyDatabase, s: &str) -> Resul
     Ok(EmojiSetData::new::<P>(database)?.contains_str(s))
 }
 
-/// The value of the least name that folds as this one (UAX 44, section 5.9), if there is one. `Absent` names the table of
-/// the names where the database has none.
+/// The value of the least name that folds as this one (UAX 44, section 5.9), if there is one. `Absent` names the
+/// table of the names where the database has none.
 pub fn try_from_str<T: NamedEnumeratedProperty>(
     database: &PropertyDatabase,
     s: &str,
 ) -> Result<Option<T>, DataError>
     ensures { result ≡ answer_of (TableName.Names T.NAMES)
-        (option_map (λ names. option_and_then T.unpacked (loose names s.now)) (names_of database.now T.NAMES)) }
+        (option_map (value_loosely T.unpacked s.now) (names_of database.now T.NAMES)) }
 {
     try_from_utf8(database, s.as_bytes())
 }
 
-/// The value of the least name that folds as this one (UAX 44, section 5.9), if there is one. `Absent` names the table of
-/// the names where the database has none.
+/// The value of the least name that folds as this one (UAX 44, section 5.9), if there is one. `Absent` names the
+/// table of the names where the database has none.
 pub fn try_from_utf8<T: NamedEnumeratedProperty>(
     database: &PropertyDatabase,
     s: &[u8],
 ) -> Result<Option<T>, DataError>
     ensures { result ≡ answer_of (TableName.Names T.NAMES)
-        (option_map (λ names. option_and_then T.unpacked (loose names s.now)) (names_of database.now T.NAMES)) }
+        (option_map (value_loosely T.unpacked s.now) (names_of database.now T.NAMES)) }
 {
     Ok(PropertyParser::<T>::new(database)?.get_loose_utf8(s))
 }
@@ -92,7 +91,8 @@ pub fn long_name<'a, T: NamedEnumeratedProperty + 'a>(
     value: T,
 ) -> Result<Option<&'a str>, DataError>
     ensures name { IfOk result (λ name.
-        option_map (λ name_of. name_of (T.packed value)) (long_of database.now T.TABLE) ≡ Some (option_copied name)) }
+        option_map (λ name_of. name_of (T.packed value)) (long_of database.now T.TABLE)
+        ≡ Some (option_copied name)) }
     ensures needs { NeedsTable (TableName.Long T.TABLE) (long_of database.now T.TABLE) result }
 {
     Ok(PropertyNamesLong::<T>::new(database)?.get(value))
@@ -104,7 +104,8 @@ pub fn short_name<'a, T: NamedEnumeratedProperty + 'a>(
     value: T,
 ) -> Result<Option<&'a str>, DataError>
     ensures name { IfOk result (λ name.
-        option_map (λ name_of. name_of (T.packed value)) (short_of database.now T.TABLE) ≡ Some (option_copied name)) }
+        option_map (λ name_of. name_of (T.packed value)) (short_of database.now T.TABLE)
+        ≡ Some (option_copied name)) }
     ensures needs { NeedsTable (TableName.Short T.TABLE) (short_of database.now T.TABLE) result }
 {
     Ok(PropertyNamesShort::<T>::new(database)?.get(value))
@@ -113,8 +114,8 @@ pub fn short_name<'a, T: NamedEnumeratedProperty + 'a>(
 /// The subtag of unknown scripts (ISO 15924).
 const UNKNOWN: &str = "Zzzz";
 
-/// The subtag of a script, which is `Zzzz` for a script without a short name. `Absent` names the table of the short names
-/// of scripts where the database has none.
+/// The subtag of a script, which is `Zzzz` for a script without a short name. `Absent` names the table of the short
+/// names of scripts where the database has none.
 pub fn script_to_subtag(database: &PropertyDatabase, script: Script) -> Result<Subtag, DataError>
     ensures { result ≡ answer_of (TableName.Short 4)
         (option_map (λ name_of. subtag_or_unknown (name_of script)) (short_of database.now 4)) }
@@ -126,8 +127,8 @@ pub fn script_to_subtag(database: &PropertyDatabase, script: Script) -> Result<S
     }
 }
 
-/// The script with this subtag as a name, compared byte for byte, or Unknown where none has it. `Absent` names the table of
-/// the names of scripts where the database has none.
+/// The script with this subtag as a name, compared byte for byte, or Unknown where none has it. `Absent` names the
+/// table of the names of scripts where the database has none.
 pub fn subtag_to_script(database: &PropertyDatabase, subtag: Subtag) -> Result<Script, DataError>
     ensures { result ≡ answer_of (TableName.Names 4)
         (option_map (λ names. script_or_unknown names subtag) (names_of database.now 4)) }

@@ -27,8 +27,8 @@ use std::alloc::Global;
 use std::marker::Model;
 use std::sync::ledger::Ledger;
 
-/// A map from code points to values, with one value for all numbers past 10FFFF. A contract speaks of the value at each
-/// number.
+/// A map from code points to values, with one value for all numbers past 10FFFF. A contract speaks of the value at
+/// each number.
 #[derive(Drop)]
 pub struct CodePointMapData<T: TrieValue> {
     trie: CodePointTrie<T>,
@@ -50,13 +50,15 @@ pub struct CodePointMapDataBorrowed<'a, T: TrieValue> {
 
 impl<T: EnumeratedProperty> CodePointMapData<T> {
     /// The map of an enumerated property (UAX 44, section 5.1): at each code point the value of the number that the
-    /// database has there, and past 10FFFF the type's default. `Absent` names the property's map where the database has
-    /// none, and `NoMemory` says that a request for memory was refused.
+    /// database has there, and past 10FFFF the type's default. `Absent` names the property's map where the database
+    /// has none, and `NoMemory` says that a request for memory was refused.
     pub fn new(alloc: Global, database: &PropertyDatabase) -> Result<CodePointMapData<T>, DataError>
         ensures values { IfOk result (λ map. (c : ℕ) → c ≤ 0x10_FFFF →
             unpacked_at T.unpacked (map_of database.now T.TABLE) c ≡ Some (value_at map c)) }
-        ensures past_end { IfOk result (λ map. (c : ℕ) → 0x10_FFFF < c → T.is_default (value_at map c)) }
-        ensures needs { NeedsTableAndMemory (TableName.Map T.TABLE) (map_of database.now T.TABLE) result }
+        ensures past_end { IfOk result (λ map. (c : ℕ) → 0x10_FFFF < c →
+            T.is_default (value_at map c)) }
+        ensures needs { NeedsTableAndMemory (TableName.Map T.TABLE)
+            (map_of database.now T.TABLE) result }
     {
         let Some(numbers) = database.map(T::TABLE) else {
             return Err(DataError::Absent {
@@ -76,8 +78,10 @@ impl<T: EnumeratedProperty> CodePointMapData<T> {
     ) -> Result<CodePointMapData<T>, DataError>
         ensures values { IfOk result (λ map. (c : ℕ) → c ≤ 0x10_FFFF →
             unpacked_at T.unpacked (map_of database.now T.TABLE) c ≡ Some (value_at map c)) }
-        ensures past_end { IfOk result (λ map. (c : ℕ) → 0x10_FFFF < c → T.is_default (value_at map c)) }
-        ensures needs { NeedsTableAndMemory (TableName.Map T.TABLE) (map_of database.now T.TABLE) result }
+        ensures past_end { IfOk result (λ map. (c : ℕ) → 0x10_FFFF < c →
+            T.is_default (value_at map c)) }
+        ensures needs { NeedsTableAndMemory (TableName.Map T.TABLE)
+            (map_of database.now T.TABLE) result }
     {
         CodePointMapData::new(alloc, database)
     }
@@ -121,15 +125,16 @@ impl<T: TrieValue> CodePointMapData<T> {
         })
     }
 
-    /// The map whose values are those that the numbers of this map's values unpack to, also past 10FFFF. `Value` names
-    /// the first maximal run whose value does not convert, or the number of maximal runs where the value past 10FFFF alone
-    /// does not. `NoMemory` says that a request for memory was refused.
+    /// The map whose values are those that the numbers of this map's values unpack to, also past 10FFFF. `Value`
+    /// names the first maximal run whose value does not convert, or the number of maximal runs where the value past
+    /// 10FFFF alone does not. `NoMemory` says that a request for memory was refused.
     pub fn try_into_converted<P: TrieValue>(
         self,
         alloc: Global,
     ) -> Result<CodePointMapData<P>, ConvertError>
         ensures values { IfOk result (λ map. ConvertsTo (conversion T.packed P.unpacked) self map) }
-        ensures past_end { IfOk result (λ map. conversion T.packed P.unpacked self.error_value ≡ Some map.error_value) }
+        ensures past_end { IfOk result (λ map.
+            conversion T.packed P.unpacked self.error_value ≡ Some map.error_value) }
         ensures refusal { NamesFirstRefused T.eq (conversion T.packed P.unpacked) self result }
     {
         Ok(CodePointMapData {
@@ -166,7 +171,8 @@ impl<'a, T: TrieValue> CodePointMapDataBorrowed<'a, T> {
 
     /// The code points with the value.
     pub fn get_set_for_value(self, alloc: Global, value: T) -> Result<CodePointSetData, NoMemory>
-        ensures { IfOk result (λ set. (c : ℕ) → contains set c ≡ has_value T.eq (map_in self.entry) value c) }
+        ensures { IfOk result (λ set. (c : ℕ) →
+            contains set c ≡ has_value T.eq (map_in self.entry) value c) }
     {
         let set = self.trie.get_set_for_value(alloc, value)?;
         Ok(CodePointSetData::from_code_point_inversion_list(set))
@@ -211,7 +217,8 @@ impl<'a, T: TrieValue> CodePointMapDataBorrowed<'a, T> {
         requires callable { TakesEachValue (F.pre map) (value_at (map_in self)) }
         requires determined { IsFunctionOnValues (F.post map) (value_at (map_in self)) }
         ensures can_next { ⟦<TrieRangesMapped<'static, T, U, F> as Iterator>⟧.can_next result }
-        ensures ends { IsFinite (⟦<TrieRangesMapped<'static, T, U, F> as Iterator>⟧.remaining result) }
+        ensures ends { IsFinite
+            (⟦<TrieRangesMapped<'static, T, U, F> as Iterator>⟧.remaining result) }
         // what a walk gives before it ends are the maximal runs of the mapped values
         ensures maximal { (rs : List (CodePointMapRange U)) →
             Drains ⟦<TrieRangesMapped<'static, T, U, F> as Iterator>⟧.next_gives result rs →
@@ -228,7 +235,8 @@ impl<'a> CodePointMapDataBorrowed<'a, GeneralCategory> {
         alloc: Global,
         value: GeneralCategoryGroup,
     ) -> Result<CodePointSetData, NoMemory>
-        ensures { IfOk result (λ set. (c : ℕ) → contains set c ≡ is_in_group (map_in self.entry) value c) }
+        ensures { IfOk result (λ set. (c : ℕ) →
+            contains set c ≡ is_in_group (map_in self.entry) value c) }
     {
         let mut builder = CodePointInversionListBuilder::new(alloc);
         for range in self.iter_ranges_for_group(value) {

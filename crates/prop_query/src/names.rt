@@ -45,8 +45,10 @@ impl<T: ParseableEnumeratedProperty> PropertyParser<T> {
     pub fn new<'a>(
         database: &'a PropertyDatabase,
     ) -> Result<PropertyParserBorrowed<'a, T>, DataError>
-        ensures names { IfOk result (λ parser. names_of database.now T.NAMES ≡ Some (names_in parser)) }
-        ensures needs { NeedsTable (TableName.Names T.NAMES) (names_of database.now T.NAMES) result }
+        ensures names { IfOk result (λ parser.
+            names_of database.now T.NAMES ≡ Some (names_in parser)) }
+        ensures needs { NeedsTable (TableName.Names T.NAMES)
+            (names_of database.now T.NAMES) result }
     {
         match database.names(T::NAMES) {
             Some(names) => Ok(PropertyParserBorrowed {
@@ -59,14 +61,15 @@ impl<T: ParseableEnumeratedProperty> PropertyParser<T> {
         }
     }
 
-    /// A copy of the names of a property's values. `Absent` names their table where the database has none, and `NoMemory`
-    /// says that a request for memory was refused.
+    /// A copy of the names of a property's values. `Absent` names their table where the database has none, and
+    /// `NoMemory` says that a request for memory was refused.
     pub fn try_new_unstable(
         alloc: Global,
         database: &PropertyDatabase,
     ) -> Result<PropertyParser<T>, DataError>
         ensures names { IfOk result (λ parser. names_of database.now T.NAMES ≡ Some parser) }
-        ensures needs { NeedsTableAndMemory (TableName.Names T.NAMES) (names_of database.now T.NAMES) result }
+        ensures needs { NeedsTableAndMemory (TableName.Names T.NAMES)
+            (names_of database.now T.NAMES) result }
     {
         let Some(names) = database.names(T::NAMES) else {
             return Err(DataError::Absent {
@@ -108,8 +111,10 @@ impl<T> PropertyParser<T> {
 impl<'a, T: ParseableEnumeratedProperty> PropertyParserBorrowed<'a, T> {
     /// As `PropertyParser::new`.
     pub fn new(database: &'a PropertyDatabase) -> Result<PropertyParserBorrowed<'a, T>, DataError>
-        ensures names { IfOk result (λ parser. names_of database.now T.NAMES ≡ Some (names_in parser)) }
-        ensures needs { NeedsTable (TableName.Names T.NAMES) (names_of database.now T.NAMES) result }
+        ensures names { IfOk result (λ parser.
+            names_of database.now T.NAMES ≡ Some (names_in parser)) }
+        ensures needs { NeedsTable (TableName.Names T.NAMES)
+            (names_of database.now T.NAMES) result }
     {
         PropertyParser::new(database)
     }
@@ -133,22 +138,24 @@ impl<T: TrieValue> PropertyParserBorrowed<'_, T> {
         self.names.get_strict_u16(name)
     }
 
-    /// The value with this name, compared byte for byte. It is none too where the number of the name is that of no value.
+    /// The value with this name, compared byte for byte. It is none too where the number of the name is that of no
+    /// value.
     pub fn get_strict(self, name: &str) -> Option<T>
         ensures { result ≡ option_and_then T.unpacked (exact (names_in self.entry) name.now) }
     {
         self.get_strict_utf8(name.as_bytes())
     }
 
-    /// The value with this name, compared byte for byte. It is none too where the number of the name is that of no value.
+    /// The value with this name, compared byte for byte. It is none too where the number of the name is that of no
+    /// value.
     pub fn get_strict_utf8(self, name: &[u8]) -> Option<T>
         ensures { result ≡ option_and_then T.unpacked (exact (names_in self.entry) name.now) }
     {
         value_of_number(self.get_strict_u16_utf8(name)?)
     }
 
-    /// The number of the value of the least name that folds as this one (UAX 44, section 5.9): in lower case and without
-    /// white space, `_` and hyphens, where a name that is kept loses its `_` alone.
+    /// The number of the value of the least name that folds as this one (UAX 44, section 5.9): in lower case and
+    /// without white space, `_` and hyphens, where a name that is kept loses its `_` alone.
     pub fn get_loose_u16(self, name: &str) -> Option<u16>
         ensures { result ≡ loose (names_in self.entry) name.now }
     {
@@ -162,16 +169,16 @@ impl<T: TrieValue> PropertyParserBorrowed<'_, T> {
         self.names.get_loose_u16(name)
     }
 
-    /// The value of the least name that folds as this one, as `get_loose_u16`. It is none too where the number of the name
-    /// is that of no value.
+    /// The value of the least name that folds as this one, as `get_loose_u16`. It is none too where the number of the
+    /// name is that of no value.
     pub fn get_loose(self, name: &str) -> Option<T>
         ensures { result ≡ option_and_then T.unpacked (loose (names_in self.entry) name.now) }
     {
         self.get_loose_utf8(name.as_bytes())
     }
 
-    /// The value of the least name that folds as this one, as `get_loose_u16`. It is none too where the number of the name
-    /// is that of no value.
+    /// The value of the least name that folds as this one, as `get_loose_u16`. It is none too where the number of the
+    /// name is that of no value.
     pub fn get_loose_utf8(self, name: &[u8]) -> Option<T>
         ensures { result ≡ option_and_then T.unpacked (loose (names_in self.entry) name.now) }
     {
@@ -199,13 +206,14 @@ pub struct PropertyNamesLongBorrowed<'a, T: NamedEnumeratedProperty> {
 }
 
 impl<T: NamedEnumeratedProperty> PropertyNamesLong<T> {
-    /// The long names of a property's values, which the database lends. `Absent` names their table where the database has
-    /// none.
+    /// The long names of a property's values, which the database lends. `Absent` names their table where the database
+    /// has none.
     pub fn new<'a>(
         database: &'a PropertyDatabase,
     ) -> Result<PropertyNamesLongBorrowed<'a, T>, DataError>
         ensures names { IfOk result (λ names. (n : ℕ) →
-            name_in (long_of database.now T.TABLE) n ≡ T.DataStructLong.name_of (long_borrowed names) n) }
+            name_in (long_of database.now T.TABLE) n
+            ≡ T.DataStructLong.name_of (long_borrowed names) n) }
         ensures needs { NeedsTable (TableName.Long T.TABLE) (long_of database.now T.TABLE) result }
     {
         match T::long_table(database) {
@@ -223,8 +231,10 @@ impl<T: NamedEnumeratedProperty> PropertyNamesLong<T> {
         database: &PropertyDatabase,
     ) -> Result<PropertyNamesLong<T>, DataError>
         ensures names { IfOk result (λ names. (n : ℕ) →
-            name_in (long_of database.now T.TABLE) n ≡ T.DataStructLong.name_of (long_in names) n) }
-        ensures needs { NeedsTableAndMemory (TableName.Long T.TABLE) (long_of database.now T.TABLE) result }
+            name_in (long_of database.now T.TABLE) n
+            ≡ T.DataStructLong.name_of (long_in names) n) }
+        ensures needs { NeedsTableAndMemory (TableName.Long T.TABLE)
+            (long_of database.now T.TABLE) result }
     {
         let Some(names) = T::long_table(database) else {
             return Err(DataError::Absent {
@@ -251,7 +261,8 @@ impl<'a, T: NamedEnumeratedProperty> PropertyNamesLongBorrowed<'a, T> {
         database: &'a PropertyDatabase,
     ) -> Result<PropertyNamesLongBorrowed<'a, T>, DataError>
         ensures names { IfOk result (λ names. (n : ℕ) →
-            name_in (long_of database.now T.TABLE) n ≡ T.DataStructLong.name_of (long_borrowed names) n) }
+            name_in (long_of database.now T.TABLE) n
+            ≡ T.DataStructLong.name_of (long_borrowed names) n) }
         ensures needs { NeedsTable (TableName.Long T.TABLE) (long_of database.now T.TABLE) result }
     {
         PropertyNamesLong::new(database)
@@ -259,7 +270,8 @@ impl<'a, T: NamedEnumeratedProperty> PropertyNamesLongBorrowed<'a, T> {
 
     /// The long name of the value, if it has one.
     pub fn get(self, property: T) -> Option<&'a str>
-        ensures { option_copied result ≡ T.DataStructLong.name_of (long_borrowed self.entry) (T.packed property) }
+        ensures { option_copied result
+            ≡ T.DataStructLong.name_of (long_borrowed self.entry) (T.packed property) }
     {
         self.names.get(property.to_u32())
     }
@@ -278,14 +290,16 @@ pub struct PropertyNamesShortBorrowed<'a, T: NamedEnumeratedProperty> {
 }
 
 impl<T: NamedEnumeratedProperty> PropertyNamesShort<T> {
-    /// The short names of a property's values, which the database lends. `Absent` names their table where the database has
-    /// none.
+    /// The short names of a property's values, which the database lends. `Absent` names their table where the
+    /// database has none.
     pub fn new<'a>(
         database: &'a PropertyDatabase,
     ) -> Result<PropertyNamesShortBorrowed<'a, T>, DataError>
         ensures names { IfOk result (λ names. (n : ℕ) →
-            name_in (short_of database.now T.TABLE) n ≡ T.DataStructShort.name_of (short_borrowed names) n) }
-        ensures needs { NeedsTable (TableName.Short T.TABLE) (short_of database.now T.TABLE) result }
+            name_in (short_of database.now T.TABLE) n
+            ≡ T.DataStructShort.name_of (short_borrowed names) n) }
+        ensures needs { NeedsTable (TableName.Short T.TABLE)
+            (short_of database.now T.TABLE) result }
     {
         match T::short_table(database) {
             Some(names) => Ok(PropertyNamesShortBorrowed { names }),
@@ -302,8 +316,10 @@ impl<T: NamedEnumeratedProperty> PropertyNamesShort<T> {
         database: &PropertyDatabase,
     ) -> Result<PropertyNamesShort<T>, DataError>
         ensures names { IfOk result (λ names. (n : ℕ) →
-            name_in (short_of database.now T.TABLE) n ≡ T.DataStructShort.name_of (short_in names) n) }
-        ensures needs { NeedsTableAndMemory (TableName.Short T.TABLE) (short_of database.now T.TABLE) result }
+            name_in (short_of database.now T.TABLE) n
+            ≡ T.DataStructShort.name_of (short_in names) n) }
+        ensures needs { NeedsTableAndMemory (TableName.Short T.TABLE)
+            (short_of database.now T.TABLE) result }
     {
         let Some(names) = T::short_table(database) else {
             return Err(DataError::Absent {
@@ -330,15 +346,18 @@ impl<'a, T: NamedEnumeratedProperty> PropertyNamesShortBorrowed<'a, T> {
         database: &'a PropertyDatabase,
     ) -> Result<PropertyNamesShortBorrowed<'a, T>, DataError>
         ensures names { IfOk result (λ names. (n : ℕ) →
-            name_in (short_of database.now T.TABLE) n ≡ T.DataStructShort.name_of (short_borrowed names) n) }
-        ensures needs { NeedsTable (TableName.Short T.TABLE) (short_of database.now T.TABLE) result }
+            name_in (short_of database.now T.TABLE) n
+            ≡ T.DataStructShort.name_of (short_borrowed names) n) }
+        ensures needs { NeedsTable (TableName.Short T.TABLE)
+            (short_of database.now T.TABLE) result }
     {
         PropertyNamesShort::new(database)
     }
 
     /// The short name of the value, if it has one.
     pub fn get(self, property: T) -> Option<&'a str>
-        ensures { option_copied result ≡ T.DataStructShort.name_of (short_borrowed self.entry) (T.packed property) }
+        ensures { option_copied result
+            ≡ T.DataStructShort.name_of (short_borrowed self.entry) (T.packed property) }
     {
         self.names.get(property.to_u32())
     }
@@ -347,7 +366,8 @@ impl<'a, T: NamedEnumeratedProperty> PropertyNamesShortBorrowed<'a, T> {
 impl PropertyNamesShortBorrowed<'_, Script> {
     /// The subtag of the script (RFC 5646, section 2.2.3), if it has a short name.
     pub fn get_locale_script(self, property: Script) -> Option<Subtag>
-        ensures { result ≡ option_and_then subtag_of (subtag_text (short_borrowed self.entry) property) }
+        ensures { result
+            ≡ option_and_then subtag_of (subtag_text (short_borrowed self.entry) property) }
     {
         self.names.get_script(property.to_u32())
     }

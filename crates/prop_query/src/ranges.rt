@@ -125,8 +125,8 @@ impl<T: TrieValue> Iterator for RangesForValue<'_, T> {
     }
 }
 
-/// The maximal ranges of code points with other values than one, in order. A contract sees it as the list of those still
-/// to come.
+/// The maximal ranges of code points with other values than one, in order. A contract sees it as the list of those
+/// still to come.
 #[derive(Drop)]
 pub struct RangesForOthers<'a, T: TrieValue> {
     runs: TrieRanges<'a, T>,

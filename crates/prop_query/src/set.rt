@@ -90,13 +90,15 @@ impl CodePointSetData {
         database: &PropertyDatabase,
     ) -> Result<CodePointSetData, DataError>
         ensures members { IfOk result (λ set. set_of database.now P.TABLE ≡ Some set) }
-        ensures needs { NeedsTableAndMemory (TableName.Set P.TABLE) (set_of database.now P.TABLE) result }
+        ensures needs { NeedsTableAndMemory (TableName.Set P.TABLE)
+            (set_of database.now P.TABLE) result }
     {
         copied(alloc, database, P::TABLE)
     }
 
-    /// The set of the property with this name in ECMA-262, which the database lends. It is none exactly where no property
-    /// has that name there, compared byte for byte. `Absent` names the property's set where the database has none.
+    /// The set of the property with this name in ECMA-262, which the database lends. It is none exactly where no
+    /// property has that name there, compared byte for byte. `Absent` names the property's set where the database has
+    /// none.
     pub fn new_for_ecma262<'a>(
         database: &'a PropertyDatabase,
         name: &[u8],
@@ -111,9 +113,9 @@ impl CodePointSetData {
         Some(lent(database, table))
     }
 
-    /// A copy of the set of the property with this name in ECMA-262. It is none exactly where no property has that name
-    /// there, compared byte for byte. `Absent` names the property's set where the database has none, and `NoMemory` says
-    /// that a request for memory was refused.
+    /// A copy of the set of the property with this name in ECMA-262. It is none exactly where no property has that
+    /// name there, compared byte for byte. `Absent` names the property's set where the database has none, and
+    /// `NoMemory` says that a request for memory was refused.
     pub fn try_new_for_ecma262_unstable(
         alloc: Global,
         database: &PropertyDatabase,

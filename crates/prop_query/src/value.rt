@@ -27,8 +27,10 @@ pub(crate) fn values_of<T: EnumeratedProperty>(
     numbers: &CodePointTrie<u32>,
 ) -> Result<CodePointTrie<T>, NoMemory>
     requires { AreAccepted T.TABLE (value_at numbers.now) }
-    ensures values { IfOk result (λ map. (c : ℕ) → c ≤ 0x10_FFFF → T.unpacked (value_at numbers.now c) ≡ Some (value_at map c)) }
-    ensures past_end { IfOk result (λ map. (c : ℕ) → 0x10_FFFF < c → T.is_default (value_at map c)) }
+    ensures values { IfOk result (λ map. (c : ℕ) → c ≤ 0x10_FFFF →
+        T.unpacked (value_at numbers.now c) ≡ Some (value_at map c)) }
+    ensures past_end { IfOk result (λ map. (c : ℕ) → 0x10_FFFF < c →
+        T.is_default (value_at map c)) }
 {
     let runs = unpacked(alloc, numbers.iter_ranges())?;
     match CodePointTrie::try_from_runs(alloc, runs, T::default()) {
