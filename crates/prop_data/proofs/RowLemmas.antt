@@ -1,6 +1,7 @@
 -- Rows without a fault.
 use Rattle.std.proofs.Common.{◌≡◌, ℕ, ◌≤◌, Bool, true, false, ◌&&◌, ◌||◌, nat_le, nat_lt, List, [], ◌∷◌, Option, Some, None, unwrap_or, cond, inl, inr, refl, sym, ap, ◌∙◌, arith}
 use mathlib.Core.Logic.{◌⊎◌}
+use Rattle.std.specs.Prelude.{Result, Ok, Err, OnOk, OnErr}
 use Rattle.std.proofs.lemmas.Bool.{both_ways, or_from, cases_Bool}
 use Rattle.std.proofs.lemmas.Bool.Decides.{nat_tests}
 use Rattle.std.specs.List.{list_any}
@@ -8,6 +9,7 @@ use Rattle.cp_invlist.specs.Ranges.{in_range, in_code_points}
 use Rattle.prop_data.specs.declared.error.TableErrorKind.TheVariants.{ValueOutOfType, SyntaxAscii, ExtensionOrder}
 use Rattle.prop_data.specs.Rows.{or_else, holds}
 use Rattle.prop_data.specs.MapBuilder.{next_of}
+use Rattle.prop_data.specs.Accepted.{AreAccepted}
 use Rattle.prop_data.specs.Forbidden.{is_forbidden, IsAllowed}
 use Rattle.prop_data.specs.LineFault.{overlaps, forbidden, is_behind, order_fault, range_fault, syntax_fault, value_fault, accepts_value, set_row_fault, map_row_fault}
 
@@ -49,6 +51,31 @@ accepted-some t n v h = by_test (accepts_value t n) h
     by_test : (b : Bool) → Some v ≡ cond b (Some n) None → (v ≡ n) × (cond b None (Some ValueOutOfType) ≡ None)
     by_test true h = (cc, refl)
     by_test false h = cc
+
+-- an accepted number is one that the table takes
+pub accepted-takes : (t n v : ℕ) → Some v ≡ cond (accepts_value t n) (Some n) None → accepts_value t v ≡ true
+accepted-takes t n v h = by_test (accepts_value t n) refl h
+  where
+    by_test : (b : Bool) → accepts_value t n ≡ b → Some v ≡ cond b (Some n) None → accepts_value t v ≡ true
+    by_test true takes h = let same : v ≡ n = cc in ap (accepts_value t) same ∙ takes
+    by_test false takes h = cc
+
+-- what follows from both outcomes holds
+pub either_way : {V E A B P : Type 0} (result : Result V E) → (A → P) → (B → P) → OnOk result A → OnErr result B → P
+either_way (Ok v) first second ok err = first ok
+either_way (Err e) first second ok err = second err
+
+-- a table that takes a value and the values of a map takes those of the map with the value given to a range
+pub AreAccepted-grown : (t value : ℕ) (inside : ℕ → Bool) (old new : ℕ → ℕ) → accepts_value t value ≡ true → AreAccepted t old → ((c : ℕ) → new c ≡ cond (inside c) value (old c)) → AreAccepted t new
+AreAccepted-grown t value inside old new takes others grown c = by_test (inside c) (grown c)
+  where
+    by_test : (b : Bool) → new c ≡ cond b value (old c) → accepts_value t (new c) ≡ true
+    by_test true h = ap (accepts_value t) h ∙ takes
+    by_test false h = ap (accepts_value t) h ∙ others c
+
+-- a table that takes the values of a map takes those of a map with the same values
+pub AreAccepted-same : (t : ℕ) (old new : ℕ → ℕ) → AreAccepted t old → ((c : ℕ) → new c ≡ old c) → AreAccepted t new
+AreAccepted-same t old new others same c = ap (accepts_value t) (same c) ∙ others c
 
 -- a value is given to the numbers of a range up to the last code point
 pub values-grown : (r : ℕ × ℕ) (spelled : Option (ℕ × ℕ)) (v n : ℕ) (number : Option ℕ) (past new old c : ℕ) → Some r ≡ spelled → Some n ≡ number → v ≡ n → r.1 ≤ 0x10_FFFF →

@@ -9,6 +9,7 @@ pub mod LinesAbove
 pub mod TableErrorKind
 pub mod LineFault
 pub mod Forbidden
+pub mod Accepted
 pub mod Tests
 pub mod TableText
 pub mod Laws

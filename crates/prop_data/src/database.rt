@@ -3,6 +3,8 @@ ghost use Rattle.std.specs.Prelude.{◌≡◌, ℕ, List, Some};
 ghost use Rattle.std.specs.BTreeMap.{get};
 ghost use Rattle.std.specs.Ordering.{nat_cmp};
 ghost use Rattle.cp_invlist.specs.InversionList.{contains};
+ghost use Rattle.cp_trie.specs.Map.{CodePointMap, value_at};
+ghost use Rattle.prop_data.specs.Accepted.{AreAccepted};
 ghost use Rattle.prop_data.specs.Forbidden.{IsAllowed};
 
 use crate::count::table_count;
@@ -43,6 +45,7 @@ pub struct PropertyDatabase {
     /// The extension lists, as long as there are no scripts with extensions, which have them then.
     pub(crate) lists: BTreeMap<u64, ListedScripts>,
     ghost allowed: { (table : ℕ) (set : List ℕ) → get nat_cmp sets table ≡ Some set → IsAllowed table (contains set) },
+    ghost accepted: { (table : ℕ) (map : CodePointMap ℕ) → get nat_cmp maps table ≡ Some map → AreAccepted table (value_at map) },
 }
 
 impl PropertyDatabase {
@@ -50,6 +53,7 @@ impl PropertyDatabase {
     ghost use Rattle.std.specs.Option.{option_copied};
     ghost use Rattle.text_lines.specs.Lines.{lines};
     ghost use Rattle.cp_invlist.specs.InversionList.{contains};
+    ghost use Rattle.prop_data.specs.Accepted.{AreAccepted};
     ghost use Rattle.prop_data.specs.Forbidden.{IsAllowed, AreAllowed};
     ghost use Rattle.cp_trie.specs.Map.{value_at};
     ghost use Rattle.prop_names.specs.ValueNames.{text_at};
@@ -117,6 +121,7 @@ impl PropertyDatabase {
         table: MapTable,
         map: CodePointTrie<u32>,
     ) -> Result<(), NoMemory>
+        requires { AreAccepted table (value_at map) }
         ensures { OnOk result (tables_of self.new ≡ with_map table (value_at map) (tables_of self.old)) }
     {
         self.maps.insert(table.number(), map)?;
@@ -221,9 +226,11 @@ impl PropertyDatabase {
         self.sets.get(&table.number())
     }
 
-    /// The map of a property's table, with the numbers of the values, `None` where the text has no such table.
+    /// The map of a property's table, with the numbers of the values, `None` where the text has no such table. The table
+    /// accepts each of these numbers, also that past 10FFFF.
     pub fn map(&self, table: MapTable) -> Option<&CodePointTrie<u32>>
-        ensures { option_copied result ≡ map_of self.now table }
+        ensures value { option_copied result ≡ map_of self.now table }
+        ensures accepted { IfSome result (λ map. AreAccepted table (value_at map.now)) }
     {
         self.maps.get(&table.number())
     }

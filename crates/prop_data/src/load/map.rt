@@ -1,6 +1,7 @@
 //! The table of a map whose rows are being read.
-ghost use Rattle.std.specs.Prelude.{◌≡◌, [], None, OnOk};
-ghost use Rattle.prop_data.specs.Loading.{TakesRow, TakesFinished, row_seen};
+ghost use Rattle.std.specs.Prelude.{◌≡◌};
+ghost use Rattle.cp_trie.specs.Runs.{value_in};
+ghost use Rattle.prop_data.specs.Accepted.{AreAccepted};
 
 use crate::database::PropertyDatabase;
 use crate::error::{LoadError, TableErrorKind, fault};
@@ -18,10 +19,16 @@ use std::alloc::Global;
 pub(crate) struct OpenMap {
     table: MapTable,
     builder: MapBuilder<u32>,
+    ghost accepted: { AreAccepted table (value_in builder.runs.items builder.default) },
 }
 
 impl OpenMap {
+    ghost use Rattle.std.specs.Prelude.{◌≡◌, [], true, None, OnOk};
+    ghost use Rattle.prop_data.specs.LineFault.{accepts_value};
+    ghost use Rattle.prop_data.specs.Loading.{TakesRow, TakesFinished, row_seen};
+
     pub(crate) fn new(alloc: Global, table: MapTable, default: u32) -> OpenMap
+        requires { accepts_value table default ≡ true }
         ensures table { result.table ≡ table }
         ensures runs { result.builder.runs.items ≡ [] }
         ensures default { result.builder.default ≡ default }

@@ -1,5 +1,5 @@
 //! A map whose values are still being read.
-ghost use Rattle.std.specs.Prelude.{◌≡◌, ◌≤◌, ℕ, [], None, Some, IfOk, OnOk, nat_lt, if◌then◌else◌};
+ghost use Rattle.std.specs.Prelude.{◌≡◌, ◌≤◌, ℕ, [], None, Some, IfOk, OnOk, OnErr, nat_lt, if◌then◌else◌};
 ghost use Rattle.cp_invlist.specs.Ranges.{in_range};
 ghost use Rattle.cp_trie.specs.Map.{value_at};
 ghost use Rattle.cp_trie.specs.Runs.{value_in};
@@ -58,6 +58,7 @@ impl<T: TrieValue> MapBuilder<T> {
         ensures default { OnOk result (self.new.default ≡ self.old.default) }
         ensures values { OnOk result ((c : ℕ) → value_in self.new.runs.items self.new.default c ≡
             (if in_range (record { start = next_of self.old.last; end = end }) c then value else value_in self.old.runs.items self.old.default c)) }
+        ensures kept { OnErr result ((c : ℕ) → value_in self.new.runs.items self.new.default c ≡ value_in self.old.runs.items self.old.default c) }
     {
         let range = CodePointRange {
             start: self.next(),
@@ -75,6 +76,7 @@ impl<T: TrieValue> MapBuilder<T> {
         ensures last { OnOk result (next_of self.new.last ≡ start) }
         ensures default { OnOk result (self.new.default ≡ self.old.default) }
         ensures values { OnOk result ((c : ℕ) → value_in self.new.runs.items self.new.default c ≡ value_in self.old.runs.items self.old.default c) }
+        ensures kept { OnErr result ((c : ℕ) → value_in self.new.runs.items self.new.default c ≡ value_in self.old.runs.items self.old.default c) }
     {
         if self.next() < start {
             self.push(start - 1, self.default)?;
@@ -91,6 +93,7 @@ impl<T: TrieValue> MapBuilder<T> {
         ensures default { OnOk result (self.new.default ≡ self.old.default) }
         ensures values { OnOk result ((c : ℕ) → value_in self.new.runs.items self.new.default c ≡
             (if in_range range c then value else value_in self.old.runs.items self.old.default c)) }
+        ensures kept { OnErr result ((c : ℕ) → value_in self.new.runs.items self.new.default c ≡ value_in self.old.runs.items self.old.default c) }
     {
         self.fill_to(range.start)?;
         self.push(range.end, value)

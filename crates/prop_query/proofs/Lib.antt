@@ -1,0 +1,3 @@
+mod AnswersLemmas
+mod PassingLemmas
+mod UnpackedLemmas

@@ -1,0 +1,6 @@
+pub mod Answers
+pub mod Borrowed
+pub mod Lookups
+pub mod Maps
+pub mod Passing
+pub mod Unpacked
