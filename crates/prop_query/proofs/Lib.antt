@@ -1,0 +1,2 @@
+pub mod ScriptRangeLemmas
+pub mod ScriptLemmas
