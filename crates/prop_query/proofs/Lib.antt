@@ -1,3 +1,5 @@
 mod AnswersLemmas
 mod PassingLemmas
+mod ScriptLemmas
+mod ScriptRangeLemmas
 mod UnpackedLemmas

@@ -3,4 +3,7 @@ pub mod Borrowed
 pub mod Lookups
 pub mod Maps
 pub mod Passing
+pub mod Scripts
+pub mod ScriptRanges
+pub mod ScriptTypes
 pub mod Unpacked

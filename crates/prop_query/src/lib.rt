@@ -1,4 +1,4 @@
-//! Queries over a property database: sets, maps, emoji sets and names of values.
+//! Queries over a property database: sets, maps, emoji sets, names of values, and scripts with their extensions.
 #![tactic(auto)]
 
 mod emoji;
@@ -6,6 +6,7 @@ mod lookup;
 mod map;
 mod names;
 mod ranges;
+mod script;
 mod set;
 mod value;
 
@@ -20,4 +21,8 @@ pub use names::{
     PropertyParser, PropertyParserBorrowed,
 };
 pub use ranges::{RangesForGroup, RangesForOthers, RangesForValue};
+pub use script::{
+    ScriptExtensionsIter, ScriptExtensionsRanges, ScriptExtensionsSet, ScriptWithExtensions,
+    ScriptWithExtensionsBorrowed,
+};
 pub use set::{CodePointSetData, CodePointSetDataBorrowed};

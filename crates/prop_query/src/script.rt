@@ -1,0 +1,223 @@
+//! The script and the script extensions of a code point.
+ghost use Rattle.std.specs.Prelude.{◌≡◌, ◌↔◌, ℕ, ◌%◌, List, Some, None, IsErr, IsErrOf, IfOk, IfErr, IsSomeAnd, IsTrue, Contains};
+ghost use Rattle.cp_invlist.specs.InversionList.{contains};
+ghost use Rattle.cp_invlist.specs.Ranges.{AreMaximalRanges};
+ghost use Rattle.cp_invlist.specs.declared.ranges.CodePointRange.{CodePointRange};
+ghost use Rattle.prop_data.specs.Database.{scripts_of};
+ghost use Rattle.prop_data.specs.Extensions.{list_of};
+ghost use Rattle.prop_query.specs.Scripts.{script_of, extensions_of, has_script, number_has, extensions_of_number, scripts_listed, others, is_covered, AnswersAs};
+
+mod extensions;
+mod ranges;
+
+use cp_invlist::laws::one_list_of_ranges;
+use cp_invlist::{
+    CodePointInversionList, CodePointInversionListBuilder, LAST_CODE_POINT, NoMemory,
+};
+pub use extensions::{ScriptExtensionsIter, ScriptExtensionsSet};
+use prop_data::{DataError, PropertyDatabase, ScriptWithExtensionsProperty, TableName};
+use prop_values::{Script, ScriptWithExt};
+pub use ranges::ScriptExtensionsRanges;
+use std::alloc::Global;
+
+/// The numbers from here on count the kind of a number of scripts with extensions.
+const KIND_UNIT: u16 = 1024;
+
+/// What a call answers where a database has no scripts with extensions.
+const ABSENT: DataError = DataError::Absent {
+    table: TableName::Scripts,
+};
+
+/// The scripts with extensions of a database (UAX 24, section 2.8), as a copy of its own.
+#[derive(Drop)]
+pub struct ScriptWithExtensions {
+    property: ScriptWithExtensionsProperty,
+}
+
+/// The scripts with extensions of a database (UAX 24, section 2.8), borrowed.
+#[derive(Clone, Copy)]
+pub struct ScriptWithExtensionsBorrowed<'a> {
+    property: &'a ScriptWithExtensionsProperty,
+}
+
+impl ScriptWithExtensions {
+    ghost use Rattle.prop_query.specs.ScriptTypes.{table_of, table_owned};
+
+    /// The scripts of the database, borrowed. `Absent` names the scripts, exactly where the database has none.
+    pub fn new<'a>(
+        database: &'a PropertyDatabase,
+    ) -> Result<ScriptWithExtensionsBorrowed<'a>, DataError>
+        ensures table { IfOk result (λ scripts. scripts_of database.now ≡ Some (table_of scripts)) }
+        ensures absent { IsErr result ↔ (scripts_of database.now ≡ None) }
+        ensures error { IfErr result (λ e. e ≡ DataError.Absent TableName.Scripts) }
+    {
+        ScriptWithExtensionsBorrowed::new(database)
+    }
+
+    /// A copy of the scripts of the database. `Absent` names the scripts, exactly where the database has none.
+    pub fn try_new_unstable(
+        alloc: Global,
+        database: &PropertyDatabase,
+    ) -> Result<ScriptWithExtensions, DataError>
+        ensures table { IfOk result (λ scripts.
+            IsSomeAnd (scripts_of database.now) (AnswersAs (table_owned scripts))) }
+        ensures absent { IsErrOf result (DataError.Absent TableName.Scripts) ↔ (scripts_of database.now ≡ None) }
+        ensures error { (table : TableName) →
+            IsErrOf result (DataError.Absent table) → table ≡ TableName.Scripts }
+    {
+        let property = database.scripts().ok_or(ABSENT)?;
+        let property = property.copy(alloc).map_err(|_| DataError::NoMemory)?;
+        Ok(ScriptWithExtensions { property })
+    }
+
+    /// These scripts, borrowed.
+    pub fn as_borrowed(&self) -> ScriptWithExtensionsBorrowed<'_>
+        ensures { table_of result ≡ table_owned self.now }
+    {
+        ScriptWithExtensionsBorrowed {
+            property: &self.property,
+        }
+    }
+}
+
+impl<'a> ScriptWithExtensionsBorrowed<'a> {
+    ghost use Rattle.prop_query.specs.ScriptTypes.{table_of, scripts_in};
+
+    /// The scripts of the database. `Absent` names the scripts, exactly where the database has none.
+    pub fn new(
+        database: &'a PropertyDatabase,
+    ) -> Result<ScriptWithExtensionsBorrowed<'a>, DataError>
+        ensures table { IfOk result (λ scripts. scripts_of database.now ≡ Some (table_of scripts)) }
+        ensures absent { IsErr result ↔ (scripts_of database.now ≡ None) }
+        ensures error { IfErr result (λ e. e ≡ DataError.Absent TableName.Scripts) }
+    {
+        let property = database.scripts().ok_or(ABSENT)?;
+        Ok(ScriptWithExtensionsBorrowed { property })
+    }
+
+    /// The script of a character.
+    pub fn get_script_val(self, ch: char) -> Script
+        ensures { result ≡ script_of (table_of self.entry) ch }
+    {
+        self.get_script_val32(u32::from(ch))
+    }
+
+    /// The script of a code point: Unknown past 10FFFF.
+    pub fn get_script_val32(self, code_point: u32) -> Script
+        ensures { result ≡ script_of (table_of self.entry) code_point }
+    {
+        if LAST_CODE_POINT < code_point {
+            return Script::Unknown;
+        }
+        let number = self.property.script_trie().get32(code_point);
+        if number.is_common() {
+            Script::Common
+        } else if number.is_inherited() {
+            Script::Inherited
+        } else if number.is_other() {
+            let scripts = self.list(number);
+            scripts.first().copied().unwrap_or(Script::Unknown)
+        } else {
+            Script::from(number)
+        }
+    }
+
+    /// The script extensions of a character.
+    pub fn get_script_extensions_val(self, ch: char) -> ScriptExtensionsSet<'a>
+        ensures { scripts_in result ≡ extensions_of (table_of self.entry) ch }
+    {
+        self.get_script_extensions_val32(u32::from(ch))
+    }
+
+    /// The script extensions of a code point: none past 10FFFF.
+    pub fn get_script_extensions_val32(self, code_point: u32) -> ScriptExtensionsSet<'a>
+        ensures { scripts_in result ≡ extensions_of (table_of self.entry) code_point }
+    {
+        if LAST_CODE_POINT < code_point {
+            return ScriptExtensionsSet::listed(&[]);
+        }
+        self.extensions(self.property.script_trie().get32(code_point))
+    }
+
+    /// Whether the script is among the script extensions of a character.
+    pub fn has_script(self, ch: char, script: Script) -> bool
+        ensures value { result ≡ has_script (table_of self.entry) script ch }
+        ensures member { IsTrue result ↔ Contains (extensions_of (table_of self.entry) ch) script }
+    {
+        self.has_script32(u32::from(ch), script)
+    }
+
+    /// Whether the script is among the script extensions of a code point, as those of `get_script_extensions_val32`.
+    pub fn has_script32(self, code_point: u32, script: Script) -> bool
+        ensures value { result ≡ has_script (table_of self.entry) script code_point }
+        ensures member { IsTrue result ↔ Contains (extensions_of (table_of self.entry) code_point) script }
+    {
+        self.get_script_extensions_val32(code_point)
+            .contains(&script)
+    }
+
+    /// The maximal ranges of the code points that have the script among their script extensions, in order.
+    pub fn get_script_extensions_ranges(self, script: Script) -> ScriptExtensionsRanges<'a>
+        ensures maximal { AreMaximalRanges (has_script (table_of self.entry) script) result }
+        ensures only { (rs : List CodePointRange) →
+            AreMaximalRanges (has_script (table_of self.entry) script) rs → rs ≡ result }
+        ensures covered { (c : ℕ) → is_covered result c ≡ has_script (table_of self.entry) script c }
+    {
+        one_list_of_ranges();
+        ScriptExtensionsRanges::new(self, script)
+    }
+
+    /// The code points that have the script among their script extensions.
+    pub fn get_script_extensions_set(
+        self,
+        alloc: Global,
+        script: Script,
+    ) -> Result<CodePointInversionList, NoMemory>
+        ensures { IfOk result (λ set. (c : ℕ) → contains set c ≡ has_script (table_of self.entry) script c) }
+    {
+        let mut builder = CodePointInversionListBuilder::new(alloc);
+        for range in self.get_script_extensions_ranges(script) {
+            builder.add_range32(range)?;
+        }
+        Ok(builder.build())
+    }
+
+    /// The scripts of the list at the index in the low ten bits of the number.
+    fn list(self, number: ScriptWithExt) -> &'a [Script]
+        ensures { result.now ≡ scripts_listed (list_of (table_of self.entry) (number % 1024)) }
+    {
+        let index = number.0 % KIND_UNIT;
+        self.property.extensions(index).unwrap_or(&[])
+    }
+
+    /// The script extensions that a number stands for.
+    fn extensions(self, number: ScriptWithExt) -> ScriptExtensionsSet<'a>
+        ensures { scripts_in result ≡ extensions_of_number (list_of (table_of self.entry)) number }
+    {
+        if number.is_common() || number.is_inherited() {
+            return ScriptExtensionsSet::listed(self.list(number));
+        }
+        if number.is_other() {
+            // The first of the list is the script of the code point.
+            return ScriptExtensionsSet::listed(behind_first(self.list(number)));
+        }
+        ScriptExtensionsSet::single(Script::from(number))
+    }
+
+    /// Whether the script is among the script extensions that a number stands for.
+    fn number_has(self, number: ScriptWithExt, script: Script) -> bool
+        ensures { result ≡ number_has (table_of self.entry) script number }
+    {
+        self.extensions(number).contains(&script)
+    }
+}
+
+/// The scripts behind the first.
+fn behind_first(scripts: &[Script]) -> &[Script]
+    ensures { result.now ≡ others scripts.now }
+{
+    match scripts {
+        [_, others @ ..] => others,
+        [] => scripts,
+    }
+}
