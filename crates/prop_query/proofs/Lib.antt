@@ -1,5 +1,5 @@
 mod AnswersLemmas
+mod CoveredLemmas
 mod PassingLemmas
 mod ScriptLemmas
-mod ScriptRangeLemmas
 mod UnpackedLemmas

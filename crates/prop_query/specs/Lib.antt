@@ -4,6 +4,5 @@ pub mod Lookups
 pub mod Maps
 pub mod Passing
 pub mod Scripts
-pub mod ScriptRanges
 pub mod ScriptTypes
 pub mod Unpacked

@@ -10,7 +10,7 @@ use prop_values::{GeneralCategory, GeneralCategoryGroup};
 use std::marker::Model;
 
 /// A test of values.
-trait ValueTest<T> {
+pub(crate) trait ValueTest<T> {
     /// Whether a value passes the test.
     ghost passes: { Self → T → Bool };
 
@@ -68,7 +68,7 @@ fn grown(begun: Option<CodePointRange>, range: CodePointRange) -> CodePointRange
 }
 
 /// Takes the runs up to the end of the first range of those that pass the test, and gives that range.
-fn next_range<T: TrieValue, P: ValueTest<T>>(
+pub(crate) fn next_range<T: TrieValue, P: ValueTest<T>>(
     runs: &mut TrieRanges<'_, T>,
     test: &P,
 ) -> Option<CodePointRange>

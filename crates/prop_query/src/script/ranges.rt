@@ -1,35 +1,51 @@
 //! The walk over the ranges of code points that have a script among their script extensions.
-ghost use Rattle.std.specs.Prelude.{◌≡◌};
 ghost use Rattle.std.specs.Iterator.{YieldsFirst, item_count};
 ghost use Rattle.cp_invlist.specs.Ranges.{AreMaximalRanges};
 ghost use Rattle.prop_query.specs.Scripts.{has_script};
-ghost use Rattle.prop_query.specs.ScriptRanges.{up_to_end};
 
+use crate::ranges::{ValueTest, next_range};
 use crate::script::ScriptWithExtensionsBorrowed;
 use cp_invlist::CodePointRange;
 use cp_trie::TrieRanges;
 use prop_values::{Script, ScriptWithExt};
 use std::marker::Model;
 
+/// Passed by the numbers that stand for script extensions with a script among them.
+#[derive(Clone, Copy)]
+struct HasScript<'a> {
+    scripts: ScriptWithExtensionsBorrowed<'a>,
+    script: Script,
+}
+
+impl ValueTest<ScriptWithExt> for HasScript<'_> {
+    ghost use Rattle.prop_query.specs.Scripts.{number_has};
+    ghost use Rattle.prop_query.specs.ScriptTypes.{table_of};
+
+    ghost passes = { λ test number. number_has (table_of test.scripts) test.script number };
+
+    fn passes(&self, number: ScriptWithExt) -> bool {
+        self.scripts.number_has(number, self.script)
+    }
+}
+
 /// The maximal ranges of code points that have a script among their script extensions, in order. They are found as the
 /// walk goes along the map's runs. A contract sees it as the list of those still to come.
 #[derive(Drop)]
 pub struct ScriptExtensionsRanges<'a> {
     runs: TrieRanges<'a, ScriptWithExt>,
-    scripts: ScriptWithExtensionsBorrowed<'a>,
-    script: Script,
+    test: HasScript<'a>,
 }
 
 impl<'a> Model for ScriptExtensionsRanges<'a> {
-    ghost use Rattle.std.specs.Prelude.{List, None};
+    ghost use Rattle.std.specs.Prelude.{List};
     ghost use Rattle.cp_invlist.specs.declared.ranges.CodePointRange.{CodePointRange};
+    ghost use Rattle.prop_query.specs.Passing.{passing};
     ghost use Rattle.prop_query.specs.Scripts.{number_has};
-    ghost use Rattle.prop_query.specs.ScriptRanges.{ranges_passing};
     ghost use Rattle.prop_query.specs.ScriptTypes.{table_of};
 
     ghost Value = { List CodePointRange };
 
-    ghost view = { λ s. ranges_passing (number_has (table_of s.scripts) s.script) None s.runs };
+    ghost view = { λ s. passing (number_has (table_of s.test.scripts) s.test.script) s.runs };
 }
 
 impl<'a> ScriptExtensionsRanges<'a> {
@@ -43,8 +59,7 @@ impl<'a> ScriptExtensionsRanges<'a> {
     {
         ScriptExtensionsRanges {
             runs: scripts.property.script_trie().iter_ranges(),
-            scripts,
-            script,
+            test: HasScript { scripts, script },
         }
     }
 }
@@ -57,27 +72,6 @@ impl Iterator for ScriptExtensionsRanges<'_> {
     ghost remaining = { item_count (λ ranges. ranges) };
 
     fn next(&mut self) -> Option<CodePointRange> {
-        let mut begun = None;
-        while let Some(run) = self.runs.next() {
-            if self.scripts.number_has(run.value, self.script) {
-                begun = Some(up_to_end(begun, run.range));
-            } else if begun.is_some() {
-                return begun;
-            }
-        }
-        begun
-    }
-}
-
-/// The range that is begun up to the end of the next, which touches it, or the next alone.
-fn up_to_end(begun: Option<CodePointRange>, next: CodePointRange) -> CodePointRange
-    ensures { result ≡ up_to_end begun next }
-{
-    match begun {
-        Some(range) => CodePointRange {
-            start: range.start,
-            end: next.end,
-        },
-        None => next,
+        next_range(&mut self.runs, &self.test)
     }
 }

@@ -1,7 +1,7 @@
 use Rattle.std.proofs.Common.{arith}
 use Rattle.prop_query.specs.Scripts.{has_script}
 use Rattle.prop_query.specs.ScriptTypes.{table_of}
-use Rattle.prop_query.proofs.ScriptRangeLemmas.{is_covered-members}
+use Rattle.prop_query.proofs.CoveredLemmas.{is_covered-members}
 use Rattle.prop_query.proofs.script.ScriptWithExtensionsBorrowed.get_script_extensions_ranges.Goals as goal
 
 pub returns-clause-covered : goal.returns-clause-covered
