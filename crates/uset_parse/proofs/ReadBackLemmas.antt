@@ -1,13 +1,13 @@
 -- A set that is written and read back.
-use Rattle.std.proofs.Common.{◌≡◌, ℕ, ◌+◌, List, [], ◌++◌, length, map, Option, Some, None, refl, sym, ap, ap₂, ◌∙◌, subst, append-nil, arith, get_or, String, Global}
+use Rattle.std.proofs.Common.{◌≡◌, ℕ, ◌+◌, List, [], length, map, Option, Some, None, refl, sym, ap, ap₂, ◌∙◌, subst, append-nil, arith, get_or, String, Global}
 use Rattle.std.specs.Prelude.{All}
 use Rattle.std.specs.Str.{IsUtf8, chars}
 use Rattle.std.specs.String.{string_bytes}
 use Rattle.std.proofs.lemmas.List.Elements.{All-map}
 use Rattle.std.proofs.lemmas.Str.{IsUtf8-string_bytes}
-use Rattle.cp_invlist.specs.InversionList.{contains, IsInversionList, HaveSameMembers}
-use Rattle.cp_strset.specs.PatternText.{pattern_text, IsPatternOf}
-use Rattle.cp_strset.specs.StringList.{holds, AreCanonical, HoldSame}
+use Rattle.cp_invlist.specs.InversionList.{IsInversionList, HaveSameMembers}
+use Rattle.cp_strset.specs.PatternText.{IsPatternOf}
+use Rattle.cp_strset.specs.StringList.{AreCanonical, HoldSame}
 use Rattle.cp_strset.specs.StringSet.{StringSet}
 use Rattle.prop_data.specs.Forbidden.{AreAllowed}
 use Rattle.prop_data.specs.Tables.{Tables}
@@ -17,12 +17,12 @@ use Rattle.uset_grammar.specs.Tree.{Tree, Member, point, string, has}
 use Rattle.uset_grammar.specs.Language.{Language, Value}
 use Rattle.uset_grammar.specs.Grammar.{Reads}
 use Rattle.uset_grammar.specs.Place.{size, offset_of}
-use Rattle.uset_grammar.specs.Answers.{Answer, read, refused, ReadsUnder, under, FaultUnder, absent, under_fault, IsFault, IsAnswer}
+use Rattle.uset_grammar.specs.Answers.{read, refused, ReadsUnder, under, FaultUnder, absent, IsFault}
 use Rattle.uset_gather.specs.Gathered.{in_set}
 use Rattle.uset_reader.specs.Laws.{OneAnswer}
 use Rattle.uset_reader.specs.Syntaxes.{language_of}
 use Rattle.uset_fault.specs.declared.error.ParseError.{ParseError}
-use Rattle.uset_fault.specs.Errors.{kind_of, offset_in, kind_told, ToldAs}
+use Rattle.uset_fault.specs.Errors.{kind_of, offset_in, kind_told}
 use Rattle.uset_parse.specs.Reading.{IsRead, IsRefused}
 use Rattle.uset_parse.specs.ReadBack.{IsReadBack, IsStringSet, IsWholeSet, Inverse, LacksSyntax}
 use Rattle.uset_parse.proofs.ReadingLemmas.{told_more}
