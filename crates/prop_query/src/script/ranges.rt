@@ -17,7 +17,8 @@ use std::marker::Model;
 pub struct ScriptExtensionsRanges<'a> {
     runs: TrieRanges<'a, ScriptWithExt>,
     scripts: ScriptWithExtensionsBorrowed<'a>,
-    script: Script,
+    /// The number of the script.
+    script: u16,
 }
 
 impl<'a> Model for ScriptExtensionsRanges<'a> {
@@ -44,7 +45,7 @@ impl<'a> ScriptExtensionsRanges<'a> {
         ScriptExtensionsRanges {
             runs: scripts.property.script_trie().iter_ranges(),
             scripts,
-            script,
+            script: script.to_icu4c_value(),
         }
     }
 }

@@ -11,6 +11,6 @@ pub returns : goal.returns
 returns c =
     let table = table_of c.args.scripts in
     let script = c.args.script in
-    ranges_passing-maximal nat_eq eqb-true (value_at (scripts_map table)) (number_has table script) (has_script table script)
+    rw c.to_icu4c_value.ensures (ranges_passing-maximal nat_eq eqb-true (value_at (scripts_map table)) (number_has table script) (has_script table script)
     (has_script-inside table script) (has_script-past table script)
-    0 0 None c.iter_ranges.result (rw c.script_trie.ensures at c.iter_ranges.ensures.maximal) (omega arith, λ _ _ lt. absurd (omega arith))
+    0 0 None c.iter_ranges.result (rw c.script_trie.ensures at c.iter_ranges.ensures.maximal) (omega arith, λ _ _ lt. absurd (omega arith)))
