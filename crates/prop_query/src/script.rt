@@ -204,10 +204,11 @@ impl<'a> ScriptWithExtensionsBorrowed<'a> {
         ScriptExtensionsSet::single(Script::from(number))
     }
 
-    /// Whether the script is among the script extensions that a number stands for.
-    fn number_has(self, number: ScriptWithExt, script: Script) -> bool
+    /// Whether the script of a number is among the script extensions that another number stands for.
+    fn number_has(self, number: ScriptWithExt, script: u16) -> bool
         ensures { result ≡ number_has (table_of self.entry) script number }
     {
+        let script = Script::from_icu4c_value(script);
         self.extensions(number).contains(&script)
     }
 }

@@ -1,7 +1,8 @@
 //! The scripts among the script extensions of a code point.
-ghost use Rattle.std.specs.Prelude.{◌≡◌, ◌↔◌, ◌∷◌, [], IsSome, IsTrue, Contains, length};
+ghost use Rattle.std.specs.Prelude.{◌≡◌, ◌↔◌, ◌∷◌, [], ◌++◌, IsSome, IsTrue, Contains, length};
 ghost use Rattle.std.specs.Iterator.{YieldsFirst, YieldsLast, item_count};
 ghost use Rattle.std.specs.List.{slice_get};
+ghost use Rattle.std.specs.Option.{option_to_list};
 ghost use Rattle.prop_query.specs.Scripts.{is_among};
 
 use prop_values::Script;
@@ -12,8 +13,8 @@ use std::slice;
 /// their scripts are the same in the same order, also where one holds a single script and the other a list.
 #[derive(Clone, Copy, Debug)]
 pub struct ScriptExtensionsSet<'a> {
-    /// The script that stands alone.
-    single: Option<Script>,
+    /// The number of the script that stands alone.
+    single: Option<u16>,
     /// The scripts of a list: none beside a single one.
     list: &'a [Script],
     ghost single_or_list: { IsSome single → list.now ≡ [] },
@@ -26,7 +27,7 @@ impl<'a> ScriptExtensionsSet<'a> {
         ensures { scripts_in result ≡ script ∷ [] }
     {
         ScriptExtensionsSet {
-            single: Some(script),
+            single: Some(script.to_icu4c_value()),
             list: &[],
         }
     }
@@ -40,14 +41,11 @@ impl<'a> ScriptExtensionsSet<'a> {
         }
     }
 
-    /// The scripts in order.
-    fn as_slice(&self) -> &[Script]
-        ensures { result.now ≡ scripts_in self.now }
+    /// The script that stands alone.
+    fn single_script(&self) -> Option<Script>
+        ensures { result ≡ self.now.single }
     {
-        match &self.single {
-            Some(script) => slice::from_ref(script),
-            None => self.list,
-        }
+        self.single.map(Script::from_icu4c_value)
     }
 
     /// Whether the script is one of them.
@@ -55,7 +53,8 @@ impl<'a> ScriptExtensionsSet<'a> {
         ensures value { result ≡ is_among (scripts_in self.now) x.now }
         ensures member { IsTrue result ↔ Contains (scripts_in self.now) x.now }
     {
-        self.as_slice().contains(x)
+        let single = self.single_script();
+        slice_of(&single, self.list).contains(x)
     }
 
     /// The scripts in order, from both ends.
@@ -72,14 +71,27 @@ impl<'a> ScriptExtensionsSet<'a> {
     pub fn array_len(&self) -> usize
         ensures { result ≡ length (scripts_in self.now) }
     {
-        self.as_slice().len()
+        let single = self.single_script();
+        slice_of(&single, self.list).len()
     }
 
     /// The script at the index, `None` behind the last.
     pub fn array_get(&self, index: usize) -> Option<Script>
         ensures { result ≡ slice_get (scripts_in self.now) index }
     {
-        self.as_slice().get(index).copied()
+        let single = self.single_script();
+        slice_of(&single, self.list).get(index).copied()
+    }
+}
+
+/// The scripts in order, of which one stands alone or all in a list.
+fn slice_of<'a>(single: &'a Option<Script>, list: &'a [Script]) -> &'a [Script]
+    requires { IsSome single.now → list.now ≡ [] }
+    ensures { result.now ≡ option_to_list single.now ++ list.now }
+{
+    match single {
+        Some(script) => slice::from_ref(script),
+        None => list,
     }
 }
 
@@ -98,7 +110,9 @@ impl<'a> PartialEq for ScriptExtensionsSet<'a> {
         ensures value { result ≡ pointwise nat_eq (scripts_in self.now) (scripts_in other.now) }
         ensures items { IsTrue result ↔ (scripts_in self.now ≡ scripts_in other.now) }
     {
-        self.as_slice() == other.as_slice()
+        let single = self.single_script();
+        let other_single = other.single_script();
+        slice_of(&single, self.list) == slice_of(&other_single, other.list)
     }
 }
 
@@ -112,8 +126,8 @@ impl Eq for ScriptExtensionsSet<'_> {
 /// The script extensions of a code point, from both ends. A contract sees it as the list of those still to come.
 #[derive(Drop)]
 pub struct ScriptExtensionsIter<'a> {
-    /// The script that comes before those of the list.
-    single: Option<Script>,
+    /// The number of the script that comes before those of the list.
+    single: Option<u16>,
     list: &'a [Script],
 }
 
@@ -134,8 +148,8 @@ impl Iterator for ScriptExtensionsIter<'_> {
     ghost remaining = { item_count (λ scripts. scripts) };
 
     fn next(&mut self) -> Option<Script> {
-        if let Some(script) = self.single.take() {
-            return Some(script);
+        if let Some(number) = self.single.take() {
+            return Some(Script::from_icu4c_value(number));
         }
         let (first, rest) = self.list.split_first()?;
         self.list = rest;
@@ -148,7 +162,7 @@ impl DoubleEndedIterator for ScriptExtensionsIter<'_> {
 
     fn next_back(&mut self) -> Option<Script> {
         let Some((last, rest)) = self.list.split_last() else {
-            return self.single.take();
+            return self.single.take().map(Script::from_icu4c_value);
         };
         self.list = rest;
         Some(*last)

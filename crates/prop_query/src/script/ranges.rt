@@ -14,7 +14,8 @@ use std::marker::Model;
 #[derive(Clone, Copy)]
 struct HasScript<'a> {
     scripts: ScriptWithExtensionsBorrowed<'a>,
-    script: Script,
+    /// The number of the script.
+    script: u16,
 }
 
 impl ValueTest<ScriptWithExt> for HasScript<'_> {
@@ -59,7 +60,10 @@ impl<'a> ScriptExtensionsRanges<'a> {
     {
         ScriptExtensionsRanges {
             runs: scripts.property.script_trie().iter_ranges(),
-            test: HasScript { scripts, script },
+            test: HasScript {
+                scripts,
+                script: script.to_icu4c_value(),
+            },
         }
     }
 }
