@@ -27,44 +27,16 @@ fn has_all(set: ScriptExtensionsSet<'_>, numbers: &[u16]) -> bool {
     set.array_len() == numbers.len()
 }
 
-/// A code point, the number of its script and those of its script extensions.
-type Extended = (u32, u16, &'static [u16]);
-
-/// Asserts which script and which script extensions code points have.
-fn assert_extensions(
-    rt: &impl Abort,
-    alloc: Global,
-    text: &str,
-    rows: &[Extended],
-) -> Result<(), Fail> {
-    let database = PropertyDatabase::from_text(alloc, text)?;
-    let scripts = ScriptWithExtensions::new(&database)?;
-    for (code_point, number, extensions) in rows {
-        let found = scripts.get_script_val32(*code_point);
-        assert_eq!(rt; found, script(*number), "at {code_point}");
-        let set = scripts.get_script_extensions_val32(*code_point);
-        assert!(rt; has_all(set, extensions), "at {code_point}");
-    }
-    Ok(())
+/// The numbers of the scripts that come from the back, the front, the back and the front.
+fn from_both_ends(set: ScriptExtensionsSet<'_>) -> [Option<u16>; 4] {
+    let mut scripts = set.iter();
+    [
+        scripts.next_back().map(Script::to_icu4c_value),
+        scripts.next().map(Script::to_icu4c_value),
+        scripts.next_back().map(Script::to_icu4c_value),
+        scripts.next().map(Script::to_icu4c_value),
+    ]
 }
-
-/// A code point, the number of a script, and whether the script is among its script extensions.
-type Member = (u32, u16, bool);
-
-/// Asserts which scripts code points have, as a copy of the scripts tells them.
-fn assert_members(rt: &impl Abort, alloc: Global, text: &str, rows: &[Member]) -> Result<(), Fail> {
-    let database = PropertyDatabase::from_text(alloc, text)?;
-    let copy = ScriptWithExtensions::try_new_unstable(alloc, &database)?;
-    let scripts = copy.as_borrowed();
-    for (code_point, number, expected) in rows {
-        let found = scripts.has_script32(*code_point, script(*number));
-        assert_eq!(rt; found, *expected, "{number} at {code_point}");
-    }
-    Ok(())
-}
-
-/// The number of a script, and the inversion list of the code points that have it.
-type Listed = (u16, &'static [u32]);
 
 /// The ends of the maximal ranges of a script: each first code point, and each number past the last.
 fn ends_of(
@@ -80,139 +52,79 @@ fn ends_of(
     Ok(ends)
 }
 
-/// Asserts the ranges and the set of each script.
-fn assert_ranges(rt: &impl Abort, alloc: Global, text: &str, rows: &[Listed]) -> Result<(), Fail> {
-    let database = PropertyDatabase::from_text(alloc, text)?;
-    let scripts = ScriptWithExtensions::new(&database)?;
-    for (number, list) in rows {
+/// What is expected of the scripts of a table text, by the numbers of scripts.
+#[derive(Clone, Copy)]
+struct Expected<'a> {
+    /// Code points with their script and their script extensions.
+    extended: &'a [(u32, u16, &'a [u16])],
+    /// Code points and scripts, and whether the script is among the script extensions.
+    members: &'a [(u32, u16, bool)],
+    /// Scripts, and the inversion lists of the code points that have them.
+    listed: &'a [(u16, &'a [u32])],
+    /// Code points, and what comes of their script extensions from the back, the front, the back and the front.
+    from_ends: &'a [(u32, [Option<u16>; 4])],
+    /// Two code points, and whether their script extensions are equal.
+    equal: &'a [(u32, u32, bool)],
+}
+
+fn assert_extended(
+    rt: &impl Abort,
+    scripts: ScriptWithExtensionsBorrowed<'_>,
+    expected: &Expected<'_>,
+) {
+    for (code_point, number, extensions) in expected.extended {
+        let found = scripts.get_script_val32(*code_point);
+        assert_eq!(rt; found, script(*number), "at {code_point}");
+        let set = scripts.get_script_extensions_val32(*code_point);
+        assert!(rt; has_all(set, extensions), "at {code_point}");
+    }
+}
+
+fn assert_members(
+    rt: &impl Abort,
+    scripts: ScriptWithExtensionsBorrowed<'_>,
+    expected: &Expected<'_>,
+) {
+    for (code_point, number, is_member) in expected.members {
+        let found = scripts.has_script32(*code_point, script(*number));
+        assert_eq!(rt; found, *is_member, "{number} at {code_point}");
+    }
+}
+
+fn assert_from_ends(
+    rt: &impl Abort,
+    scripts: ScriptWithExtensionsBorrowed<'_>,
+    expected: &Expected<'_>,
+) {
+    for (code_point, numbers) in expected.from_ends {
+        let found = from_both_ends(scripts.get_script_extensions_val32(*code_point));
+        assert_eq!(rt; found, *numbers, "at {code_point}");
+    }
+}
+
+fn assert_equal(
+    rt: &impl Abort,
+    scripts: ScriptWithExtensionsBorrowed<'_>,
+    expected: &Expected<'_>,
+) {
+    for (first, second, are_equal) in expected.equal {
+        let first_set = scripts.get_script_extensions_val32(*first);
+        let second_set = scripts.get_script_extensions_val32(*second);
+        assert_eq!(rt; first_set == second_set, *are_equal, "{first} and {second}");
+    }
+}
+
+fn assert_listed(
+    rt: &impl Abort,
+    alloc: Global,
+    scripts: ScriptWithExtensionsBorrowed<'_>,
+    expected: &Expected<'_>,
+) -> Result<(), Fail> {
+    for (number, list) in expected.listed {
         let ends = ends_of(alloc, scripts, script(*number))?;
         assert_eq!(rt; ends.as_slice(), *list, "ranges of {number}");
         let set = scripts.get_script_extensions_set(alloc, script(*number))?;
         assert_eq!(rt; set.get_inversion_list(), *list, "set of {number}");
-    }
-    Ok(())
-}
-
-#[test]
-fn a_number_of_each_kind_tells_a_script_and_its_extensions(rt: HostRuntime) -> Result<(), Fail> {
-    let rows: [Extended; 11] = [
-        (0x40, 103, &[103]),
-        (0x42, 25, &[25]),
-        (0x43, 0, &[20, 22]),
-        (0x44, 0, &[25]),
-        (0x45, 1, &[]),
-        (0x46, 17, &[4, 17, 25]),
-        (0x47, 8, &[]),
-        (0x48, 59392, &[59392]),
-        (0x49, 0, &[]),
-        (0x10_FFFF, 103, &[103]),
-        (0x11_0000, 103, &[]),
-    ];
-    assert_extensions(&rt, rt.alloc(), KINDS, &rows)
-}
-
-#[test]
-fn a_text_of_every_kind_tells_scripts_and_extensions(rt: HostRuntime) -> Result<(), Fail> {
-    let rows: [Extended; 3] = [
-        (0x30FC, 0, &[20, 22]),
-        (0x3042, 20, &[20]),
-        (0x11_0000, 103, &[]),
-    ];
-    assert_extensions(&rt, rt.alloc(), EVERY_KIND, &rows)
-}
-
-#[test]
-fn a_copy_tells_which_scripts_code_points_have(rt: HostRuntime) -> Result<(), Fail> {
-    let rows = [
-        (0x30FC, 20, true),
-        (0x30FC, 22, true),
-        (0x30FC, 0, false),
-        (0x30FC, 0xAFFE, false),
-        (0x3042, 22, false),
-        (0x11_0000, 103, false),
-        (0x11_0000, 20, false),
-    ];
-    assert_members(&rt, rt.alloc(), EVERY_KIND, &rows)
-}
-
-#[test]
-fn a_number_of_a_high_kind_is_a_script_alone(rt: HostRuntime) -> Result<(), Fail> {
-    let rows = [
-        (0x41, 59392, true),
-        (0x41, 0, false),
-        (0x41, 58, false),
-        (0x41, 103, false),
-        (0x41, 59391, false),
-        (0x41, 59393, false),
-        (0x41, 65535, false),
-        (0x10_FFFF, 59392, true),
-        (0x11_0000, 59392, false),
-    ];
-    assert_members(&rt, rt.alloc(), "scx 59392\nend", &rows)
-}
-
-#[test]
-fn the_ranges_of_a_script_are_those_of_its_set(rt: HostRuntime) -> Result<(), Fail> {
-    let rows: [Listed; 2] = [(20, &[0x3041, 0x3097, 0x30FC, 0x30FD]), (0, &[])];
-    assert_ranges(&rt, rt.alloc(), EVERY_KIND, &rows)
-}
-
-#[test]
-fn runs_that_touch_are_one_range(rt: HostRuntime) -> Result<(), Fail> {
-    let rows: [Listed; 3] = [
-        (25, &[0x41, 0x43, 0x44, 0x45, 0x46, 0x47]),
-        (103, &[0, 0x41, 0x4A, 0x11_0000]),
-        (20, &[0x43, 0x44]),
-    ];
-    assert_ranges(&rt, rt.alloc(), KINDS, &rows)
-}
-
-/// The numbers of the scripts that come from the back, the front, the back and the front.
-fn from_both_ends(set: ScriptExtensionsSet<'_>) -> [Option<u16>; 4] {
-    let mut scripts = set.iter();
-    [
-        scripts.next_back().map(Script::to_icu4c_value),
-        scripts.next().map(Script::to_icu4c_value),
-        scripts.next_back().map(Script::to_icu4c_value),
-        scripts.next().map(Script::to_icu4c_value),
-    ]
-}
-
-#[test]
-fn scripts_come_from_both_ends(rt: HostRuntime) -> Result<(), Fail> {
-    let database = PropertyDatabase::from_text(rt.alloc(), KINDS)?;
-    let scripts = ScriptWithExtensions::new(&database)?;
-    let rows = [
-        (0x46, [Some(25), Some(4), Some(17), None]),
-        (0x43, [Some(22), Some(20), None, None]),
-        (0x41, [Some(25), None, None, None]),
-        (0x45, [None, None, None, None]),
-    ];
-    for (code_point, expected) in rows {
-        let found = from_both_ends(scripts.get_script_extensions_val32(code_point));
-        assert_eq!(rt; found, expected, "at {code_point}");
-    }
-    Ok(())
-}
-
-#[test]
-fn extensions_are_equal_by_their_scripts(rt: HostRuntime) -> Result<(), Fail> {
-    let database = PropertyDatabase::from_text(rt.alloc(), KINDS)?;
-    let scripts = ScriptWithExtensions::new(&database)?;
-    let rows = [
-        (0x41, 0x44, true),
-        (0x44, 0x44, true),
-        (0x45, 0x11_0000, true),
-        (0x45, 0x47, true),
-        (0x41, 0x48, false),
-        (0x41, 0x43, false),
-        (0x43, 0x46, false),
-        (0x41, 0x45, false),
-    ];
-    for (first, second, expected) in rows {
-        let first_set = scripts.get_script_extensions_val32(first);
-        let second_set = scripts.get_script_extensions_val32(second);
-        assert_eq!(rt; first_set == second_set, expected, "{first} and {second}");
     }
     Ok(())
 }
@@ -222,6 +134,112 @@ fn agrees(scripts: ScriptWithExtensionsBorrowed<'_>, ch: char, extensions: &[u16
     scripts.get_script_val(ch) == Script::Common
         && has_all(scripts.get_script_extensions_val(ch), extensions)
         && !scripts.has_script(ch, Script::Common)
+}
+
+/// Asserts what the scripts of the text tell, and that a copy of them tells which scripts code points have.
+fn assert_scripts(
+    rt: &impl Abort,
+    alloc: Global,
+    text: &str,
+    expected: &Expected<'_>,
+) -> Result<(), Fail> {
+    let database = PropertyDatabase::from_text(alloc, text)?;
+    let scripts = ScriptWithExtensions::new(&database)?;
+    assert_extended(rt, scripts, expected);
+    assert_from_ends(rt, scripts, expected);
+    assert_equal(rt, scripts, expected);
+    assert_listed(rt, alloc, scripts, expected)?;
+    let copy = ScriptWithExtensions::try_new_unstable(alloc, &database)?;
+    assert_members(rt, copy.as_borrowed(), expected);
+    Ok(())
+}
+
+#[test]
+fn a_number_of_each_kind_tells_a_script_and_its_extensions(rt: HostRuntime) -> Result<(), Fail> {
+    let expected = Expected {
+        extended: &[
+            (0x40, 103, &[103]),
+            (0x42, 25, &[25]),
+            (0x43, 0, &[20, 22]),
+            (0x44, 0, &[25]),
+            (0x45, 1, &[]),
+            (0x46, 17, &[4, 17, 25]),
+            (0x47, 8, &[]),
+            (0x48, 59392, &[59392]),
+            (0x49, 0, &[]),
+            (0x10_FFFF, 103, &[103]),
+            (0x11_0000, 103, &[]),
+        ],
+        members: &[(0x46, 17, true), (0x47, 8, false), (0x45, 1, false)],
+        listed: &[
+            (25, &[0x41, 0x43, 0x44, 0x45, 0x46, 0x47]),
+            (103, &[0, 0x41, 0x4A, 0x11_0000]),
+            (20, &[0x43, 0x44]),
+        ],
+        from_ends: &[
+            (0x46, [Some(25), Some(4), Some(17), None]),
+            (0x43, [Some(22), Some(20), None, None]),
+            (0x41, [Some(25), None, None, None]),
+            (0x45, [None, None, None, None]),
+        ],
+        equal: &[
+            (0x41, 0x44, true),
+            (0x44, 0x44, true),
+            (0x45, 0x11_0000, true),
+            (0x45, 0x47, true),
+            (0x41, 0x48, false),
+            (0x41, 0x43, false),
+            (0x43, 0x46, false),
+            (0x41, 0x45, false),
+        ],
+    };
+    assert_scripts(&rt, rt.alloc(), KINDS, &expected)
+}
+
+#[test]
+fn a_text_of_every_kind_tells_scripts_and_extensions(rt: HostRuntime) -> Result<(), Fail> {
+    let expected = Expected {
+        extended: &[
+            (0x30FC, 0, &[20, 22]),
+            (0x3042, 20, &[20]),
+            (0x11_0000, 103, &[]),
+        ],
+        members: &[
+            (0x30FC, 20, true),
+            (0x30FC, 22, true),
+            (0x30FC, 0, false),
+            (0x30FC, 0xAFFE, false),
+            (0x3042, 22, false),
+            (0x11_0000, 103, false),
+            (0x11_0000, 20, false),
+        ],
+        listed: &[(20, &[0x3041, 0x3097, 0x30FC, 0x30FD]), (0, &[])],
+        from_ends: &[(0x30FC, [Some(22), Some(20), None, None])],
+        equal: &[(0x30FC, 0x30FC, true), (0x30FC, 0x3042, false)],
+    };
+    assert_scripts(&rt, rt.alloc(), EVERY_KIND, &expected)
+}
+
+#[test]
+fn a_number_of_a_high_kind_is_a_script_alone(rt: HostRuntime) -> Result<(), Fail> {
+    let expected = Expected {
+        extended: &[(0x41, 59392, &[59392])],
+        members: &[
+            (0x41, 59392, true),
+            (0x41, 0, false),
+            (0x41, 58, false),
+            (0x41, 103, false),
+            (0x41, 59391, false),
+            (0x41, 59393, false),
+            (0x41, 65535, false),
+            (0x10_FFFF, 59392, true),
+            (0x11_0000, 59392, false),
+        ],
+        listed: &[(59392, &[0, 0x11_0000]), (58, &[])],
+        from_ends: &[],
+        equal: &[],
+    };
+    assert_scripts(&rt, rt.alloc(), "scx 59392\nend", &expected)
 }
 
 #[test]
