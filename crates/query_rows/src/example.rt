@@ -1,0 +1,26 @@
+//! The example of README.md.
+use prop_data::PropertyDatabase;
+use prop_query::{ScriptWithExtensions, for_char, try_from_str};
+use prop_values::{GeneralCategory, Script};
+use std::test::Fail;
+
+/// A few rows of three tables: general categories, the names of scripts, and scripts with extensions.
+const TABLES: &str = "map General_Category 0\n41-5A 1\n61-7A 2\n\
+    names Script\n25 Latn\n25 Latin\n\
+    scx 103\n61-7A 25\n30FC 1024\next 0\n20\n22\n\
+    end\n";
+
+#[test]
+fn the_example_of_the_guide_has_its_answers(rt: HostRuntime) -> Result<(), Fail> {
+    let alloc = rt.alloc();
+    let database = PropertyDatabase::from_text(alloc, TABLES)?;
+    let category = for_char::<GeneralCategory>(&database, 'a')?;
+    let script = try_from_str::<Script>(&database, "latin")?;
+    let extensions = ScriptWithExtensions::new(&database)?.get_script_extensions_val('\u{30fc}');
+    assert_eq!(rt; category, GeneralCategory::LowercaseLetter);
+    assert_eq!(rt; script, Some(Script::Latin));
+    assert_eq!(rt; extensions.array_len(), 2);
+    assert_eq!(rt; extensions.array_get(0), Some(Script::from_icu4c_value(20)));
+    assert_eq!(rt; extensions.array_get(1), Some(Script::from_icu4c_value(22)));
+    Ok(())
+}
