@@ -17,7 +17,10 @@ use std::marker::Model;
 use std::sync::ledger::Ledger;
 
 /// How many runs a row with a boundary has in the maps of Unicode's properties, about: an expectation, no limit.
-const RUNS_A_ROW: usize = 8;
+const RUNS_A_ROW: usize = 7;
+
+/// How many places the outer table has.
+const OUTER: usize = 272;
 
 /// What the values of a map are read from.
 #[derive(Drop)]
@@ -157,7 +160,7 @@ fn outer_of(alloc: Global, blocks: &[Repeated]) -> Result<Vec<u16>, AllocError>
     requires { length (spelled blocks.now) ≤ 0x11_0000 }
     ensures { IfOk result (λ outer. outer.items ≡ spelled blocks.now) }
 {
-    let mut outer = Vec::new(alloc);
+    let mut outer = Vec::with_capacity(alloc, OUTER)?;
     for block in blocks {
         outer.resize(outer.len() + block.count, block.number)?;
     }

@@ -1,10 +1,9 @@
 //! Lists of values cut into rows of 64, where equal rows are kept once.
-ghost use Rattle.std.specs.Prelude.{◌≡◌, ◌+◌, ◌*◌, ◌-◌, ◌%◌, ◌<◌, ◌≤◌, [], ◌++◌, length, replicate, IfOk, OnOk};
+ghost use Rattle.std.specs.Prelude.{IsTrue, ◌≡◌, ◌+◌, ◌*◌, ◌-◌, ◌%◌, ◌<◌, ◌≤◌, [], ◌++◌, length, replicate, IfOk, IfSome, OnOk};
 ghost use Rattle.cp_trie.specs.Rows.{row_of, spelled, laid, repeat, Extends, taken, IsCut};
 
 use crate::value::TrieValue;
 use std::alloc::{AllocError, Global};
-use std::collections::HashMap;
 
 /// How many values a row has.
 pub(crate) const ROW: usize = 64;
@@ -16,12 +15,71 @@ pub(crate) struct Repeated {
     pub(crate) count: usize,
 }
 
+/// How many chains the rows stand in, a power of two.
+const CHAINS: usize = 1024;
+
+/// How far a fingerprint is shifted so that the number of its chain is left.
+const TO_CHAIN: u32 = 54;
+
+/// The number of no row, since a list of values has at most 17,408 of them.
+const NO_ROW: u16 = u16::MAX;
+
+/// How many rows all code points have.
+const MOST_ROWS: usize = 17_408;
+
+/// A row in its chain.
+#[derive(Clone, Copy)]
+struct Link {
+    fingerprint: u64,
+    /// The number of the row before it in the chain.
+    before: u16,
+}
+
+/// Chains of rows whose fingerprints begin alike. They only say which rows may be equal to one, so nothing is promised
+/// of them.
+#[derive(Drop)]
+struct Chains {
+    /// For each chain the number of its last row.
+    last: Vec<u16>,
+    /// For each row its link.
+    links: Vec<Link>,
+}
+
+impl Chains {
+    fn new(alloc: Global, expected: usize) -> Result<Chains, AllocError> {
+        let mut last = Vec::with_capacity(alloc, CHAINS)?;
+        last.resize(CHAINS, NO_ROW)?;
+        Ok(Chains {
+            last,
+            links: Vec::with_capacity(alloc, expected)?,
+        })
+    }
+
+    /// The number of the last row in the chain of the fingerprint.
+    fn last_of(&self, fingerprint: u64) -> u16 {
+        let chain = (fingerprint >> TO_CHAIN) as usize;
+        self.last.get(chain).copied().unwrap_or(NO_ROW)
+    }
+
+    /// Puts the row behind all others, and at the end of its chain.
+    fn add(&mut self, fingerprint: u64, number: u16) -> Result<(), AllocError> {
+        let before = self.last_of(fingerprint);
+        self.links.push(Link {
+            fingerprint,
+            before,
+        })?;
+        if let Some(last) = self.last.get_mut((fingerprint >> TO_CHAIN) as usize) {
+            *last = number;
+        }
+        Ok(())
+    }
+}
+
 /// Rows one behind another, each kept once. The number of a row says how many stand in front of it.
 #[derive(Drop)]
 pub(crate) struct Shelf<V> {
     pub(crate) values: Vec<V>,
-    /// For each fingerprint that a row has, the number of such a row.
-    by_fingerprint: HashMap<u64, u16>,
+    chains: Chains,
 }
 
 impl<V: TrieValue> Shelf<V> {
@@ -29,14 +87,45 @@ impl<V: TrieValue> Shelf<V> {
     fn new(alloc: Global, expected: usize) -> Result<Shelf<V>, AllocError>
         ensures { IfOk result (λ shelf. shelf.values.items ≡ []) }
     {
+        let expected = expected.min(MOST_ROWS);
         Ok(Shelf {
-            values: Vec::new(alloc),
-            by_fingerprint: HashMap::with_capacity(alloc, expected)?,
+            values: Vec::with_capacity(alloc, expected * ROW)?,
+            chains: Chains::new(alloc, expected)?,
         })
     }
 
-    /// The number of the row with these values. Where the row that has their fingerprint is not equal to them by `==`
-    /// in all 64 places, they are kept as a row of their own.
+    /// Whether the row of the number has these values by `==` in all 64 places.
+    fn is_row(&self, number: u16, row: &[V]) -> bool
+        requires { length row.now ≡ 64 }
+        ensures row { IsTrue result → row_of self.now.values.items number ≡ row.now }
+        ensures within { IsTrue result → number * 64 + 64 ≤ length self.now.values.items }
+    {
+        let start = usize::from(number) * ROW;
+        match self.values.get(start..start + ROW) {
+            Some(kept) => are_equal(kept, row),
+            None => false,
+        }
+    }
+
+    /// The number of a row that has these values, if there is one with their fingerprint.
+    fn find(&self, row: &[V], fingerprint: u64) -> Option<u16>
+        requires { length row.now ≡ 64 }
+        ensures row { IfSome result (λ n. row_of self.now.values.items n ≡ row.now) }
+        ensures within { IfSome result (λ n. n * 64 + 64 ≤ length self.now.values.items) }
+    {
+        let mut number = self.chains.last_of(fingerprint);
+        for _ in 0..self.chains.links.len() {
+            let link = *self.chains.links.get(usize::from(number))?;
+            if link.fingerprint == fingerprint && self.is_row(number, row) {
+                return Some(number);
+            }
+            number = link.before;
+        }
+        None
+    }
+
+    /// The number of the row with these values. Where no row is found by their fingerprint, they are kept as a row of
+    /// their own.
     fn number_of(&mut self, row: &[V], fingerprint: u64) -> Result<u16, AllocError>
         requires full { length row.now ≡ 64 }
         requires whole { length self.old.values.items % 64 ≡ 0 }
@@ -45,18 +134,31 @@ impl<V: TrieValue> Shelf<V> {
         ensures within { IfOk result (λ n. n * 64 + 64 ≤ length self.new.values.items) }
         ensures kept { OnOk result (Extends self.old.values.items self.new.values.items) }
     {
-        let next = (self.values.len() / ROW) as u16;
-        let known = *self.by_fingerprint.entry(fingerprint)?.or_insert(next);
-        let start = usize::from(known) * ROW;
-        if let Some(kept) = self.values.get(start..start + ROW)
-            && kept == row
-        {
-            return Ok(known);
+        if let Some(number) = self.find(row, fingerprint) {
+            return Ok(number);
         }
+        let number = (self.values.len() / ROW) as u16;
         self.values.extend_from_slice(row)?;
-        Ok(next)
+        self.chains.add(fingerprint, number)?;
+        Ok(number)
     }
 }
+
+/// Whether two rows are equal by `==` in all places. Each place is looked at, since a loop that may end early does not
+/// become vector code.
+fn are_equal<V: TrieValue>(row: &[V], other: &[V]) -> bool
+    requires { length row.now ≡ length other.now }
+    ensures { IsTrue result → row.now ≡ other.now }
+{
+    let mut equal = true;
+    for index in 0..row.len() {
+        equal &= row[index] == other[index];
+    }
+    equal
+}
+
+/// How many values a piece has that is filled as a short one.
+const SHORT: usize = 16;
 
 /// An odd factor that spreads a number over 64 bits.
 const SPREAD: u64 = 0x9E37_79B9_7F4A_7C15;
@@ -70,13 +172,14 @@ pub(crate) struct Begun<V> {
 }
 
 impl<V: TrieValue> Begun<V> {
-    fn new(alloc: Global) -> Begun<V>
-        ensures { result.values.items ≡ [] }
+    fn new(alloc: Global) -> Result<Begun<V>, AllocError>
+        ensures { IfOk result (λ begun. begun.values.items ≡ []) }
     {
-        Begun {
-            values: Vec::new(alloc),
+        // a piece is filled past the end of the row
+        Ok(Begun {
+            values: Vec::with_capacity(alloc, 2 * ROW)?,
             fingerprint: 0,
-        }
+        })
     }
 
     /// Puts the value so many times behind the others.
@@ -85,11 +188,26 @@ impl<V: TrieValue> Begun<V> {
         requires { length self.old.values.items + count ≤ 64 }
         ensures { OnOk result (self.new.values.items ≡ self.old.values.items ++ replicate count value) }
     {
+        if count <= SHORT {
+            self.fill(value, count, SHORT)
+        } else {
+            self.fill(value, count, ROW)
+        }
+    }
+
+    /// The same, by a fill of so many values that is cut behind the count. A fill of a length that the compiler knows
+    /// is faster than one that is as long as the piece.
+    #[inline(always)]
+    fn fill(&mut self, value: V, count: usize, filled: usize) -> Result<(), AllocError>
+        requires room { length self.old.values.items + count ≤ 64 }
+        requires within { count ≤ filled }
+        requires most { filled ≤ 64 }
+        ensures { OnOk result (self.new.values.items ≡ self.old.values.items ++ replicate count value) }
+    {
         let begun = self.values.len();
         let spread = ((begun as u64) << 32 | u64::from(value.to_u32())).wrapping_mul(SPREAD);
         self.fingerprint = self.fingerprint.wrapping_add(spread ^ (spread >> 32));
-        // a fill of one length that is known is faster than one that is as long as the piece
-        self.values.resize(begun + ROW, value)?;
+        self.values.resize(begun + filled, value)?;
         self.values.truncate(begun + count);
         Ok(())
     }
@@ -120,7 +238,7 @@ impl<V: TrieValue> Rows<V> {
         Ok(Rows {
             shelf: Shelf::new(alloc, expected)?,
             numbers: Vec::with_capacity(alloc, expected)?,
-            begun: Begun::new(alloc),
+            begun: Begun::new(alloc)?,
         })
     }
 
@@ -156,7 +274,7 @@ impl<V: TrieValue> Rows<V> {
         if rest % ROW == 0 {
             return Ok(());
         }
-        self.begun.push(value, rest % ROW)
+        self.begun.fill(value, rest % ROW, ROW)
     }
 
     /// Takes the value up to the end of the row that is begun, if one is, and says how often it is still to come.
@@ -175,7 +293,7 @@ impl<V: TrieValue> Rows<V> {
             return Ok(count);
         }
         let missing = ROW - begun;
-        self.begun.push(value, missing)?;
+        self.begun.fill(value, missing, ROW)?;
         self.close(1)?;
         Ok(count - missing)
     }
@@ -192,7 +310,7 @@ impl<V: TrieValue> Rows<V> {
         if times == 0 {
             return Ok(());
         }
-        self.begun.push(value, ROW)?;
+        self.begun.fill(value, ROW, ROW)?;
         self.close(times)
     }
 

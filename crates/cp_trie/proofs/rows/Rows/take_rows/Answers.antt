@@ -10,5 +10,5 @@ pub returns-clause-taken : goal.returns-clause-taken
 returns-clause-taken g c =
     let s = c.args.self.now in
     on_ok_both c.close.result (
-    λ closed empty. taken-rows (laid s) s.begun.values.items (laid c.close.new.self) c.close.new.self.begun.values.items c.push.new.self.values.items c.args.times 64 c.args.value c.requires.empty c.in_ok-push.ensures closed empty
+    λ closed empty. taken-rows (laid s) s.begun.values.items (laid c.close.new.self) c.close.new.self.begun.values.items c.fill.new.self.values.items c.args.times 64 c.args.value c.requires.empty c.in_ok-fill.ensures closed empty
     ) c.close.ensures.laid c.close.ensures.empty
