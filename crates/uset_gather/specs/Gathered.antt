@@ -8,6 +8,8 @@ use Rattle.cp_strset.specs.StringSet.{StringSet}
 use Rattle.uset_gather.specs.declared.gathered.Gathered.{Gathered}
 use Rattle.uset_gather.specs.declared.operand.Operand.{Operand}
 use Rattle.uset_gather.specs.declared.operand.Operand.TheVariants.{Gathered as Other, Set, CodePoints, Complement}
+use Rattle.uset_gather.specs.declared.operand.Source.{Source}
+use Rattle.uset_gather.specs.declared.operand.Source.TheVariants.{Lent, Owned}
 use Rattle.uset_gather.specs.Painting.{in_painting}
 use Rattle.uset_grammar.specs.Tree.{Member, point, string, is_text, in_source, negation}
 
@@ -29,9 +31,14 @@ abbrev pub in_set : StringSet → Member → Bool
 in_set set (point c) = contains set.code_points c
 in_set set (string bytes) = holds set.strings bytes
 
+-- the inversion list of a source
+abbrev pub list_in : Source → List ℕ
+list_in (Lent list) = list.now
+list_in (Owned list) = list
+
 -- the operand has the member
 abbrev pub operand_in : Operand → Member → Bool
 operand_in (Other g) m = gathered_in g m
 operand_in (Set set) m = in_set set.now m
-operand_in (CodePoints set) m = in_source (contains set.now) m
-operand_in (Complement set) m = negation m (in_source (contains set.now) m)
+operand_in (CodePoints source) m = in_source (contains (list_in source)) m
+operand_in (Complement source) m = negation m (in_source (contains (list_in source)) m)

@@ -62,8 +62,8 @@ impl Gathered {
                 self.code_points.add_set(set.code_points())?;
                 self.strings.insert_copies(alloc, set)
             }
-            Operand::CodePoints(set) => self.code_points.add_set(set),
-            Operand::Complement(set) => self.code_points.add_outside(set),
+            Operand::CodePoints(source) => self.code_points.add_set(source.list()),
+            Operand::Complement(source) => self.code_points.add_outside(source.list()),
         }
     }
 
@@ -80,8 +80,8 @@ impl Gathered {
                 self.strings.remove_listed(set);
                 self.code_points.remove_set(set.code_points())
             }
-            Operand::CodePoints(set) => self.code_points.remove_set(set),
-            Operand::Complement(set) => self.code_points.retain_set(set),
+            Operand::CodePoints(source) => self.code_points.remove_set(source.list()),
+            Operand::Complement(source) => self.code_points.retain_set(source.list()),
         }
     }
 
@@ -98,13 +98,13 @@ impl Gathered {
                 self.strings.keep_listed(set);
                 self.code_points.retain_set(set.code_points())
             }
-            Operand::CodePoints(set) => {
+            Operand::CodePoints(source) => {
                 self.strings = Strings::new(alloc);
-                self.code_points.retain_set(set)
+                self.code_points.retain_set(source.list())
             }
-            Operand::Complement(set) => {
+            Operand::Complement(source) => {
                 self.strings = Strings::new(alloc);
-                self.code_points.remove_set(set)
+                self.code_points.remove_set(source.list())
             }
         }
     }

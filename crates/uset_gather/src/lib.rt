@@ -9,4 +9,4 @@ mod run;
 mod strings;
 
 pub use gathered::Gathered;
-pub use operand::Operand;
+pub use operand::{Operand, Source};

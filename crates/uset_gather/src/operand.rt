@@ -11,7 +11,31 @@ pub enum Operand<'a> {
     /// A set with strings.
     Set(&'a CodePointInversionListAndStringList),
     /// These code points, and no strings.
-    CodePoints(&'a CodePointInversionList),
+    CodePoints(Source<'a>),
     /// The other code points, and no strings.
-    Complement(&'a CodePointInversionList),
+    Complement(Source<'a>),
+}
+
+/// The code points of a property.
+#[derive(Drop)]
+pub enum Source<'a> {
+    /// Those of a set that stands elsewhere.
+    Lent(&'a CodePointInversionList),
+    /// Those of a set that was made for the property.
+    Owned(CodePointInversionList),
+}
+
+impl Source<'_> {
+    ghost use Rattle.std.specs.Prelude.{◌≡◌};
+    ghost use Rattle.uset_gather.specs.Gathered.{list_in};
+
+    /// The list of the code points.
+    pub fn list(&self) -> &CodePointInversionList
+        ensures { result.now ≡ list_in self.now }
+    {
+        match self {
+            Source::Lent(list) => list,
+            Source::Owned(list) => list,
+        }
+    }
 }

@@ -7,7 +7,7 @@ use Rattle.uset_grammar.specs.Text.{Text, ◌>>=◌}
 use Rattle.uset_grammar.specs.Language.{Value, Language}
 use Rattle.uset_reader.specs.declared.syntax.Syntax.{Syntax}
 use Rattle.uset_variables.specs.Variables.{variables_of}
-use Rattle.uset_reader.specs.Resolution.{resolve, lacking}
+use Rattle.uset_resolve.specs.Resolution.{resolve, lacking}
 
 -- The language of three sets, white space of patterns and the characters that begin and continue a name (UAX 31), with
 -- variables and tables.
@@ -18,7 +18,7 @@ language_by white_space start continue variable tables = record {
   continue = continue;
   variable = variable;
   resolve = resolve tables;
-  lacking = lacking;
+  lacking = lacking tables;
 }
 
 -- The language of a database with variables, where the three tables of the syntax are there: Pattern_White_Space (51),
@@ -36,5 +36,5 @@ language_seen s = record {
   continue = contains s.continuing.now;
   variable = variables_of s.variables.now;
   resolve = resolve (tables_of s.database.now);
-  lacking = lacking;
+  lacking = lacking (tables_of s.database.now);
 }

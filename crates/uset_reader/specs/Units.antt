@@ -1,14 +1,13 @@
 -- What is read where a unit begins, as an item of the code.
-use Rattle.std.specs.Prelude.{◌≡◌, ◌≤◌, ℕ, Bool, true, false, All, List, [], ◌∷◌, Option}
+use Rattle.std.specs.Prelude.{◌≡◌, ◌≤◌, ℕ, Bool, true, false, All, List, [], ◌∷◌}
 use Prim.Native.Char.{code}
 use Rattle.std.specs.Str.{chars}
-use Rattle.prop_data.specs.Tables.{Tables}
 use Rattle.uset_grammar.specs.Text.{Text}
 use Rattle.uset_grammar.specs.Outcome.{got}
 use Rattle.uset_grammar.specs.Property.{Query, PropertyBegins, PropertyOutcome}
 use Rattle.uset_grammar.specs.Unit.{Meaning, begins_property, UnitBegins, UnitOutcome}
 use Rattle.uset_grammar.specs.Item.{Item, chars as item_chars}
-use Rattle.uset_grammar.specs.Language.{Resolved, Language, resolves, lacks, property_tree, stands_for}
+use Rattle.uset_grammar.specs.Language.{Language, resolves, lacks, property_tree, stands_for}
 use Rattle.uset_gather.specs.declared.operand.Operand.{Operand}
 use Rattle.uset_read.specs.declared.stop.Stop.{Stop}
 use Rattle.uset_read.specs.declared.escape.Spelled.{Spelled}
@@ -18,15 +17,8 @@ use Rattle.uset_read.specs.UnitRead.{StopsAt}
 use Rattle.uset_reader.specs.declared.item.Item.{Item as CodeItem}
 use Rattle.uset_reader.specs.declared.unit.UnitKind.{UnitKind}
 use Rattle.uset_reader.specs.declared.unit.UnitKind.TheVariants.{String as AString, Escape as AnEscape, Property as AProperty}
-use Rattle.uset_reader.specs.Resolution.{resolve, lacking}
 use Rattle.uset_reader.specs.Items.{IsOperand}
 use Rattle.uset_reader.specs.Brackets.{IsItem}
-
-abbrev pub resolved_by : Tables → Query → Option Resolved
-resolved_by tables q = resolve tables q.key q.value
-
-abbrev pub lacked_by : Query → Bool
-lacked_by q = lacking q.key q.value
 
 -- the property at the front of the bytes has this set
 pub record IsRead (l : Language) (text : List ℕ) (operand : Operand) (rest : List ℕ) : Type 0 where

@@ -1,10 +1,14 @@
 //! The examples of docs/PATTERNS.md, as one script.
-use crate::fixtures::{TABLES, eval};
+use crate::fixtures::eval;
 use crate::run_in_memory;
 use std::test::Fail;
 
+/// The tables of the document, as a text: those of examples/tables.txt.
+const TABLES: &str =
+    "set XID_Start\n41-5A\n61-7A\nset XID_Continue\n30-39\n41-5A\n5F\n61-7A\nset Pattern_White_Space\n9-D\n20\n85\n200E-200F\n2028-2029\nset ASCII_Hex_Digit\n30-39\n41-46\n61-66\nmap General_Category 0\n30-39 9\n41-5A 1\n61-7A 2\nD800-DFFF 18\nnames General_Category_Mask\n1 Lu\n1 Uppercase_Letter\n2 Ll\n2 Lowercase_Letter\n9 Nd\n9 Decimal_Number\n65534 L\n65534 Letter\nmap Script 103\n41-5A 25\n61-7A 25\n3041-3096 20\n30A1-30FA 22\n30FC 0\nnames Script\n25 Latn\n25 Latin\n20 Hira\n20 Hiragana\n22 Kana\n22 Katakana\n0 Zyyy\n0 Common\nscx 103\n41-5A 25\n61-7A 25\n3041-3096 20\n30A1-30FA 22\n30FC 1024\next 0\n20\n22\nmap Canonical_Combining_Class 0\n300-314 230\nnames Canonical_Combining_Class\n230 A\n230 Above\nmap Block 0\n0-7F 1\nnames Block\n1 ASCII\n1 Basic_Latin\nmap East_Asian_Width 0\n3041-3096 5\nnames East_Asian_Width\n5 W\n5 Wide\nmap Line_Break 0\n20 26\nnames Line_Break\n26 SP\n26 Space\nmap Grapheme_Cluster_Break 0\nD 2\nnames Grapheme_Cluster_Break\n2 CR\nmap Word_Break 0\n30-39 6\nnames Word_Break\n6 NU\n6 Numeric\nmap Sentence_Break 0\n61-7A 4\nnames Sentence_Break\n4 LO\n4 Lower\nmap Indic_Conjunct_Break 0\n94D 3\nnames Indic_Conjunct_Break\n3 Linker\nend\n";
+
 /// Each line of the script and its answer, in the order of the document.
-const EXAMPLES: [(&str, &str); 53] = [
+const EXAMPLES: [(&str, &str); 72] = [
     // Brackets
     ("pat []", "ok 2"),
     ("pat [a-z0]", "ok 6 0030 0061-007A"),
@@ -35,6 +39,12 @@ const EXAMPLES: [(&str, &str); 53] = [
     ("pat [a-z[b]&[a-d]-[c]]", "ok 18 0061-0062 0064"),
     ("pat [[a{ch}]-[{ch}]]", "ok 16 0061"),
     // Properties
+    ("pat [:Lu:]", "ok 6 0041-005A"),
+    ("pat [:uppercase letter:]", "ok 20 0041-005A"),
+    ("pat [:L:]", "ok 5 0041-005A 0061-007A"),
+    ("pat \\p{letter}", "ok 10 0041-005A 0061-007A"),
+    ("pat [:Hira:]", "ok 8 3041-3096"),
+    ("pat \\p{hiragana}", "ok 12 3041-3096"),
     ("pat [:AHex:]", "ok 8 0030-0039 0041-0046 0061-0066"),
     ("pat \\p{AHex}", "ok 8 0030-0039 0041-0046 0061-0066"),
     (
@@ -45,6 +55,11 @@ const EXAMPLES: [(&str, &str); 53] = [
         "pat \\P{AHex}",
         "ok 8 0000-002F 003A-0040 0047-0060 0067-10FFFF",
     ),
+    ("pat [[:L:]-[:Lu:]&[a-f]]", "ok 20 0061-0066"),
+    (
+        "pat [: A Hex = Yes :]",
+        "ok 17 0030-0039 0041-0046 0061-0066",
+    ),
     (
         "pat \\p{AHex=no}",
         "ok 11 0000-002F 003A-0040 0047-0060 0067-10FFFF",
@@ -53,11 +68,19 @@ const EXAMPLES: [(&str, &str); 53] = [
         "pat \\p{AHex≠yes}",
         "ok 14 0000-002F 003A-0040 0047-0060 0067-10FFFF",
     ),
-    ("pat [[a-z]&[:ASCII_Hex_Digit:]]", "ok 27 0061-0066"),
-    (
-        "pat [: A Hex = Yes :]",
-        "ok 17 0030-0039 0041-0046 0061-0066",
-    ),
+    ("pat [:gc=Lu:]", "ok 9 0041-005A"),
+    ("pat [:sc=Hira:]", "ok 11 3041-3096"),
+    ("pat [:scx=Hira:]", "ok 12 3041-3096 30FC"),
+    ("pat [:ccc=Above:]", "ok 13 0300-0314"),
+    ("pat [:ccc=230:]", "ok 11 0300-0314"),
+    ("pat [:blk=Basic Latin:]", "ok 19 0000-007F"),
+    ("pat [:blk=+1:]", "ok 10 0000-007F"),
+    ("pat [:ea=Wide:]", "ok 11 3041-3096"),
+    ("pat [:lb=SP:]", "ok 9 0020"),
+    ("pat [:GCB=CR:]", "ok 10 000D"),
+    ("pat [:WB=Numeric:]", "ok 14 0030-0039"),
+    ("pat [:SB=Lower:]", "ok 12 0061-007A"),
+    ("pat [:InCB=Linker:]", "ok 15 094D"),
     // Variables
     ("let a char 61", "bound a"),
     ("let ch str 63 68", "bound ch"),
@@ -83,8 +106,8 @@ const EXAMPLES: [(&str, &str); 53] = [
     ("pat [$zz]", "err [$zz← error: unknown variable"),
     ("pat [:zz:]", "err [:zz← error: unknown property"),
     (
-        "pat [:blk=ASCII:]",
-        "err [:blk=ASCII← error: internal error",
+        "pat [:gc=Klingon:]",
+        "err [:gc=Klingon← error: unknown property",
     ),
     // What stands behind a pattern
     ("pat [a]b", "ok 3 0061"),

@@ -1,5 +1,6 @@
 //! Properties.
-use crate::fixtures::{assert_faults, assert_read, assert_unexpected};
+use crate::fixtures::{SYNTAX, assert_faults, assert_read, assert_unexpected, eval};
+use crate::run_in_memory;
 use std::test::Fail;
 
 /// Binary properties, in words and under a caret, a `P` and an unequal sign.
@@ -56,6 +57,57 @@ const READ: [(&str, &str); 29] = [
     ),
 ];
 
+/// Groups of general categories, by their names written loosely, alone and behind their key.
+const GROUPS: [(&str, &str); 16] = [
+    ("[:lower case letter:]", "21 0061-007A"),
+    ("[:gc=lower-case-letter:]", "24 0061-007A"),
+    ("[:Lu:]", "6 0041-005A"),
+    ("\\p{Nd}", "6 0030-0039"),
+    ("[:General_Category=Decimal_Number:]", "35 0030-0039"),
+    ("[:g_C = N d:]", "13 0030-0039"),
+    ("[:letter:]", "10 0041-005A 0061-007A"),
+    ("\\P{L}", "5 0000-0040 005B-0060 007B-10FFFF"),
+    ("[:gc≠L:]", "10 0000-0040 005B-0060 007B-10FFFF"),
+    ("[:^gc≠L:]", "11 0041-005A 0061-007A"),
+    ("[^[:L:]]", "8 0000-0040 005B-0060 007B-10FFFF"),
+    (
+        "[[:L:]-[aeiou]]",
+        "15 0041-005A 0062-0064 0066-0068 006A-006E 0070-0074 0076-007A",
+    ),
+    ("[[a-z0{ab}]&\\p{Nd}]", "19 0030"),
+    ("[[a-z0]-\\P{Nd}]", "15 0030"),
+    ("[[0-5]\\p{Nd}]", "13 0030-0039"),
+    ("[[:L:]&[:Latn:]-[:Lu:]]", "23 0061-007A"),
+];
+
+/// Scripts, alone and behind their key, and scripts among the script extensions.
+const SCRIPTS: [(&str, &str); 12] = [
+    ("[:Latn:]", "8 0041-005A 0061-007A"),
+    ("[:script=LATIN:]", "16 0041-005A 0061-007A"),
+    ("[:sc=Zyyy:]", "11 30FC"),
+    ("[:Kana:]", "8 30A1-30FA"),
+    ("[[:sc=Hira:]&[\\u30FC]]", "22"),
+    ("[[:scx=Hira:]&[\\u30FC]]", "23 30FC"),
+    ("[:scx=Kana:]", "12 30A1-30FA 30FC"),
+    ("[:Script_Extensions=hiragana:]", "30 3041-3096 30FC"),
+    ("[:scx=Zyyy:]", "12"),
+    ("[:scx=Latn:]", "12 0041-005A 0061-007A"),
+    ("\\P{scx=Common}", "14 0000-10FFFF"),
+    ("[^[:^scx=Hira:]]", "16 3041-3096 30FC"),
+];
+
+/// Combining classes, by their names and by decimal numbers.
+const CLASSES: [(&str, &str); 8] = [
+    ("[:ccc=+230:]", "12 0300-0314"),
+    ("[:ccc=above:]", "13 0300-0314"),
+    ("[:ccc=A:]", "9 0300-0314"),
+    ("[:ccc=00000000230:]", "19 0300-0314"),
+    ("[:Canonical_Combining_Class = 2 3 0 :]", "38 0300-0314"),
+    ("[:ccc=0:]", "9 0000-02FF 0315-10FFFF"),
+    ("[:ccc=255:]", "11"),
+    ("[:ccc≠230:]", "13 0000-02FF 0315-10FFFF"),
+];
+
 /// Properties that end where more is due.
 const ENDS: [(&str, &str); 17] = [
     ("[:AHex", "[:AHex"),
@@ -78,7 +130,16 @@ const ENDS: [(&str, &str); 17] = [
 ];
 
 /// Properties that resolve to nothing.
-const UNKNOWN: [(&str, &str); 27] = [
+const UNKNOWN: [(&str, &str); 36] = [
+    ("[:ccc=++230:]", "[:ccc=++230"),
+    ("[:ccc=-230:]", "[:ccc=-230"),
+    ("[:ccc=+:]", "[:ccc=+"),
+    ("[:ccc=486:]", "[:ccc=486"),
+    ("[:lb=AL:]", "[:lb=AL"),
+    ("[:lb=1:]", "[:lb=1"),
+    ("[:Latn=yes:]", "[:Latn=yes"),
+    ("[:sc=25:]", "[:sc=25"),
+    ("[:scx=L:]", "[:scx=L"),
     ("[:ahex:]", "[:ahex"),
     ("[:general_category:]", "[:general_category"),
     ("[:ll=true:]", "[:ll=true"),
@@ -158,9 +219,78 @@ const UNFIT: [(&str, &str); 3] = [
 fn properties_are_answered_with_their_ranges_or_faults(rt: HostRuntime) -> Result<(), Fail> {
     let alloc = rt.alloc();
     assert_read(&rt, alloc, READ.as_slice())?;
+    assert_read(&rt, alloc, GROUPS.as_slice())?;
+    assert_read(&rt, alloc, SCRIPTS.as_slice())?;
+    assert_read(&rt, alloc, CLASSES.as_slice())?;
     assert_faults(&rt, alloc, ENDS.as_slice(), "unexpected end of input")?;
     assert_faults(&rt, alloc, UNKNOWN.as_slice(), "unknown property")?;
     assert_faults(&rt, alloc, LACKING.as_slice(), "internal error")?;
     assert_unexpected(&rt, alloc, UNEXPECTED.as_slice())?;
     assert_faults(&rt, alloc, UNFIT.as_slice(), "unexpected character '\\\\'")
+}
+
+/// Tables in which some of what a property may ask is there, with a pattern and its answer.
+const PARTIAL: [(&str, &str, &str); 9] = [
+    // A group without categories hides the script of its name.
+    (
+        "map General_Category 0\nnames General_Category_Mask\n100 Latn\nmap Script 103\n61 25\nnames Script\n25 Latn\n",
+        "[:Latn:]",
+        "ok 8",
+    ),
+    // Where the categories are absent the script is found, and where the scripts are, the binary property.
+    (
+        "names General_Category_Mask\n2 Latn\nmap Script 103\n61 25\nnames Script\n25 Latn\n",
+        "[:Latn:]",
+        "ok 8 0061",
+    ),
+    (
+        "names General_Category_Mask\n2 Dash\nnames Script\n25 Dash\nset Dash\n2D\n",
+        "[:Dash:]",
+        "ok 8 002D",
+    ),
+    (
+        "names Script\n25 Latn\n",
+        "[:scx=Latn:]",
+        "err [:scx=Latn← error: unknown property",
+    ),
+    // A stored name of low lines alone is found by a query that folds to nothing.
+    (
+        "map Script 103\n61 25\nnames Script\n25 _\n",
+        "[:sc=-:]",
+        "ok 8 0061",
+    ),
+    // Blocks by their names and their numbers.
+    (
+        "map Block 0\n0-7F 1\n80-FF 300\nnames Block\n1 Basic_Latin\n",
+        "[:blk=basic latin:]",
+        "ok 19 0000-007F",
+    ),
+    (
+        "map Block 0\n0-7F 1\n80-FF 300\nnames Block\n1 Basic_Latin\n",
+        "[:Block=+300:]",
+        "ok 14 0080-00FF",
+    ),
+    (
+        "names Block\n1 ASCII\n",
+        "[:blk=65535:]",
+        "err [:blk=65535← error: internal error",
+    ),
+    (
+        "names Block\n1 ASCII\n",
+        "[:blk=65536:]",
+        "err [:blk=65536← error: unknown property",
+    ),
+];
+
+#[test]
+fn properties_are_resolved_by_the_tables_that_are_there(rt: HostRuntime) -> Result<(), Fail> {
+    let alloc = rt.alloc();
+    let words = eval(alloc)?;
+    for (tables, pattern, answer) in PARTIAL {
+        let input = format!(in alloc; "{SYNTAX}{tables}end\npat {pattern}\n")?;
+        let (_, sink) = run_in_memory(alloc, &words, input.into_bytes());
+        let expected = format!(in alloc; "{answer}\n")?;
+        assert!(rt; sink.written() == expected.as_bytes(), "at {pattern}");
+    }
+    Ok(())
 }

@@ -13,7 +13,6 @@ use Rattle.cp_invlist.specs.Ranges.{AreMaximalRanges}
 use Rattle.cp_strset.specs.StringList.{AreCanonical, holds}
 use Rattle.text_lines.specs.Lines.{lines}
 use Rattle.prop_data.specs.declared.error.TableError.{TableError}
-use Rattle.prop_binary.specs.Ecma262.{ecma262_number}
 use Rattle.prop_data.specs.Forbidden.{AreAllowed}
 use Rattle.prop_data.specs.Tables.{Tables}
 use Rattle.prop_data.specs.TableText.{table_fault, tables_in}
@@ -23,7 +22,7 @@ use Rattle.uset_grammar.specs.Place.{size}
 use Rattle.uset_grammar.specs.Finite.{IsBounded, IsString, IsFinite, IsFiniteValue, IsFiniteLanguage}
 use Rattle.uset_grammar.specs.Language.{Value, character, string as string_value, set as set_value, Resolved, Language}
 use Rattle.uset_grammar.specs.Answers.{Answer, read as reading, refused, ReadsUnder, under, IsAnswer}
-use Rattle.uset_reader.specs.Resolution.{resolve, resolve_bytes, binary, with_word, is_one_of, block_names, property_names, folded, falsy}
+use Rattle.uset_resolve.specs.Laws.{SourcesAreBounded}
 use Rattle.uset_reader.specs.Syntaxes.{language_by, language_of}
 use Rattle.uset_tool.specs.Script.{stripped, at_space, onto_front, as_character, hex_onto, character_of, onto_field, spaced, both, characters_of, string_of, Definition, character as character_definition, string as string_definition, set as set_definition, definition_by, definition_of, ScriptLine, silent, pattern, binding, bad, binding_or_bad, named, let_or_bad, pattern_or, is_silent, script_line}
 use Rattle.uset_tool.specs.Answer.{Variables, with_binding, string_or_character, AreStrings, PatternAnswer, read, fault, read_text, fault_text, bound_text, is_bound_text, text_after_text, bad_line_text, DefinitionAnswer, a_character, a_string, a_set, text_after, no_set, BindingAnswer, bound_before, free, LineAnswer, ScriptAnswer, ends, answers}
@@ -47,27 +46,9 @@ abbrev AreBounded : Tables → Type 0
 AreBounded tables = (t : ℕ) (members : ℕ → Bool) → tables.sets t ≡ Some members → (bound : ℕ) × ((c : ℕ) → bound ≤ c → members c ≡ false)
 
 -- the language of tables is finite
-module _ (tables : Tables) (bounded : AreBounded tables) where
-  with_word_ends : (f : Bool) (n : Option ℕ) (r : Resolved) → with_word f (n >>= tables.sets) ≡ Some r → IsBounded r.source
-  with_word_ends f None r h = absurd (let g = h in cc)
-  with_word_ends f (Some n) r h = by (tables.sets n) refl h
-    where
-      by : (o : Option (ℕ → Bool)) → tables.sets n ≡ o → with_word f o ≡ Some r → IsBounded r.source
-      by None e g = absurd (let k = g in cc)
-      by (Some m) e g =
-          let end = bounded n m e in
-          let is : ◌≡◌ {A = Resolved} (record { falsy = f; source = m }) r = (let k = g in cc) in
-          subst (λ q. IsBounded q.source) is (record { bound = end.0; beyond = end.1 })
-
-  resolved_ends : (key : List ℕ) (value : Option (List ℕ)) (r : Resolved) → resolve_bytes tables key value ≡ Some r → IsBounded r.source
-  resolved_ends key None r h = with_word_ends false (ecma262_number key) r h
-  resolved_ends key (Some value) r h = by (is_one_of block_names (folded key)) (is_one_of property_names (folded key)) (falsy value) h
-    where
-      by : (x y : Bool) (o : Option Bool) → cond x None (cond y None (o >>= λ f. with_word f (binary tables key))) ≡ Some r → IsBounded r.source
-      by true y o g = absurd (let k = g in cc)
-      by false true o g = absurd (let k = g in cc)
-      by false false None g = absurd (let k = g in cc)
-      by false false (Some f) g = with_word_ends f (ecma262_number key) r g
+module _ (sources : SourcesAreBounded) (tables : Tables) (bounded : AreBounded tables) where
+  sets_end : (t : ℕ) (members : ℕ → Bool) → tables.sets t ≡ Some members → IsBounded members
+  sets_end t members h = let end = bounded t members h in record { bound = end.0; beyond = end.1 }
 
   language_finite : (variables : Variables) → AreFinite variables → (l : Language) → language_of variables tables ≡ Some l → IsFiniteLanguage l
   language_finite variables fine l h = by (tables.sets 51) (tables.sets 68) (tables.sets 67) h
@@ -78,7 +59,7 @@ module _ (tables : Tables) (bounded : AreBounded tables) where
       by (Some w) (Some s) None g = absurd (let k = g in cc)
       by (Some w) (Some s) (Some c) g =
           let is : ◌≡◌ {A = Language} (language_by w s c variables tables) l = (let k = g in cc) in
-          subst IsFiniteLanguage is (record { variables = fine; properties = λ key value r e. resolved_ends (encode_utf8_all key) (option_map encode_utf8_all value) r e })
+          subst IsFiniteLanguage is (record { variables = fine; properties = sources tables sets_end })
 
 bound_finite : (name : List ℕ) (v : Value) → IsFiniteValue v → {variables : Variables} → AreFinite variables → AreFinite (with_binding name v variables)
 bound_finite name v h {variables} fine = λ n w e. by n w (bytes_eq name (encode_utf8_all n)) e
@@ -105,7 +86,7 @@ module _ (laws : RunLaws) (tables : Tables) (allowed : AreAllowed tables) (bound
   Here = language_of variables tables
 
   read_here : (tree : Tree) (rest : Text) → ReadsUnder (chars source) tree rest Here → IsFinite (has tree) × ((front : Text) × (chars source ≡ front ++ rest))
-  read_here tree rest h = finite_under laws Here (language_finite tables bounded variables fine) (scalars-chars source u) h
+  read_here tree rest h = finite_under laws Here (language_finite laws.bounded_sources tables bounded variables fine) (scalars-chars source u) h
 
   pattern_by : (a : Answer) → IsAnswer Here (chars source) a → (text : List ℕ) × (err : Bool) × PatternAnswer Here source text err
   pattern_by (reading tree rest) is =

@@ -15,6 +15,7 @@ use Rattle.uset_grammar.specs.Language.{Language, set as set_value}
 use Rattle.uset_grammar.specs.Place.{size}
 use Rattle.uset_grammar.specs.Answers.{Answer, read as reading, refused, ReadsUnder, IsFault, IsAnswer}
 use Rattle.uset_grammar.specs.Laws.{FiniteSets, RestsAreLast}
+use Rattle.uset_resolve.specs.Laws.{SourcesAreBounded}
 use Rattle.uset_reader.specs.Laws.{OneAnswer}
 use Rattle.uset_reader.specs.Syntaxes.{language_of}
 use Rattle.uset_tool.specs.declared.sink.WriteError.{WriteError}
@@ -35,6 +36,7 @@ pub record RunLaws : Type 0 where
   pub one_answer : OneAnswer
   pub allowed_sets : SetsAreAllowed
   pub bounded_sets : SetsAreBounded
+  pub bounded_sources : SourcesAreBounded
   pub finite_sets : FiniteSets
   pub rests_are_last : RestsAreLast
   pub one_list_of_ranges : (m : ℕ → Bool) (rs qs : List CodePointRange) → AreMaximalRanges m rs → AreMaximalRanges m qs → rs ≡ qs

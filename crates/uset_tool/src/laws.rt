@@ -6,6 +6,7 @@ use cp_strset::laws::one_list;
 use prop_data::laws::{allowed_sets, bounded_sets};
 use uset_grammar::laws::finite_sets;
 use uset_parse::laws::one_answer as one_answer_of_a_source;
+use uset_resolve::laws::bounded_sources;
 
 /// Any words and any input have exactly one answer: one text to print, with one status.
 pub fn one_answer()
@@ -13,6 +14,7 @@ pub fn one_answer()
 {
     allowed_sets();
     bounded_sets();
+    bounded_sources();
     finite_sets();
     one_answer_of_a_source();
     one_list_of_ranges();

@@ -6,6 +6,7 @@ returns c = one_answer_law (record {
   one_answer = c.one_answer.ensures;
   allowed_sets = c.allowed_sets.ensures;
   bounded_sets = c.bounded_sets.ensures;
+  bounded_sources = c.bounded_sources.ensures;
   finite_sets = c.finite_sets.ensures.members;
   rests_are_last = c.finite_sets.ensures.front;
   one_list_of_ranges = c.one_list_of_ranges.ensures;

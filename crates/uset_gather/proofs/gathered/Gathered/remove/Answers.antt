@@ -9,7 +9,7 @@ use Rattle.uset_gather.proofs.gathered.Gathered.remove.Goals as goal
 pub returns-in-Complement : goal.returns-in-Complement
 returns-in-Complement c =
     let old = c.args.self.now in
-    let set = c.in-Complement.set.now in
-    rw c.in-Complement.is (on_ok c.retain_set.result (λ h.
+    let set = c.list-in-Complement.result.now in
+    rw (c.in-Complement.is, sym c.list-in-Complement.ensures) (on_ok c.retain_set.result (λ h.
     each_member _ (λ d. h d ∙ sym (not_outside old.code_points d (contains set d)))
     (λ bytes. sym (and_true (contains_text old.strings bytes)))) c.retain_set.ensures)

@@ -1,0 +1,9 @@
+use Rattle.std.proofs.Common.{false, true}
+use Rattle.uset_reader.proofs.PropertyLemmas.{has-found, is-found, differ-alike, differ-unlike}
+use Rattle.uset_reader.proofs.property.operand_of.Goals as goal
+
+pub returns-in-Found : goal.returns-in-Found
+returns-in-Found c =
+    λ resolved lacks is.
+    let resolves = rw c.in-Found.is at is in
+    (is-found resolves, has-found c.args.negated false resolves (differ-alike c.in-Found.falsy c.args.negated c.if-falsy-negated.true))

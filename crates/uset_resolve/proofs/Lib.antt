@@ -1,0 +1,5 @@
+pub mod DecimalLemmas
+pub mod KeyLemmas
+pub mod GroupLemmas
+pub mod BoundedSources
+mod Examples

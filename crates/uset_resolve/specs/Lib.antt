@@ -1,0 +1,5 @@
+pub mod Keys
+pub mod Decimal
+pub mod Resolution
+pub mod Sources
+pub mod Laws

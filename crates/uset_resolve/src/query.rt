@@ -1,0 +1,100 @@
+//! What a key and a value resolve to.
+ghost use Rattle.std.specs.Prelude.{◌≡◌, false, IfOk, Some};
+ghost use Rattle.prop_data.specs.Database.{tables_of};
+ghost use Rattle.std.specs.Option.{option_copied};
+ghost use Rattle.uset_resolve.specs.Keys.{Asked};
+ghost use Rattle.uset_resolve.specs.Resolution.{of_word, lacks_block, lacks_for};
+ghost use Rattle.uset_resolve.specs.Sources.{IsKey, IsResolution, ResolvesTo};
+
+use crate::key::{Key, falsy, key_of};
+use crate::source::{number_of_value, of_binary, of_key, of_value};
+use cp_invlist::NoMemory;
+use prop_data::{MapTable, NamesTable, PropertyDatabase};
+use std::alloc::Global;
+use uset_gather::Source;
+
+/// What a key and a value resolve to.
+#[derive(Drop)]
+pub enum Resolution<'a> {
+    /// Code points, and whether the value is a word for falsehood, which negates.
+    Found(Source<'a>, bool),
+    /// Nothing.
+    Unknown,
+    /// A table is absent that the key and the value ask.
+    Lacking,
+}
+
+/// What a key resolves to with a word for truth or falsehood.
+fn resolve_word<'a>(
+    alloc: Global,
+    database: &'a PropertyDatabase,
+    key: &str,
+    value: &str,
+) -> Result<Resolution<'a>, NoMemory>
+    ensures { IfOk result (λ r. IsResolution r (of_word (tables_of database.now) key.now value.now) false) }
+{
+    let Some(falsy) = falsy(alloc, value.as_bytes())? else {
+        return Ok(Resolution::Unknown);
+    };
+    match of_binary(database, key.as_bytes()) {
+        Some(set) => Ok(Resolution::Found(Source::Lent(set), falsy)),
+        None => Ok(Resolution::Unknown),
+    }
+}
+
+/// Whether the names of blocks are absent, or the value is a block and the map of blocks is absent.
+fn lacks_block(database: &PropertyDatabase, value: &str) -> bool
+    ensures { result ≡ lacks_block (tables_of database.now) value.now }
+{
+    database.names(NamesTable::BLOCK).is_none()
+        || (number_of_value(database, NamesTable::BLOCK, value).is_some()
+            && database.map(MapTable::BLOCK).is_none())
+}
+
+/// Whether a table is absent that the key and the value ask.
+fn lacks_table(database: &PropertyDatabase, key: &Key, value: &str) -> bool
+    ensures { (k : Asked) → IsKey key.now k → result ≡ lacks_for (tables_of database.now) value.now (Some k) }
+{
+    match key {
+        Key::Values(table, _) => *table == MapTable::BLOCK && lacks_block(database, value),
+        Key::Categories | Key::Extensions => false,
+    }
+}
+
+/// What a key resolves to with a value.
+fn resolve_value<'a>(
+    alloc: Global,
+    database: &'a PropertyDatabase,
+    key: &str,
+    value: &str,
+) -> Result<Resolution<'a>, NoMemory>
+    ensures { IfOk result (ResolvesTo (tables_of database.now) key.now (Some value.now)) }
+{
+    let Some(asked) = key_of(alloc, key.as_bytes())? else {
+        return resolve_word(alloc, database, key, value);
+    };
+    match of_value(alloc, database, &asked, value)? {
+        Some(list) => Ok(Resolution::Found(Source::Owned(list), false)),
+        None if lacks_table(database, &asked, value) => Ok(Resolution::Lacking),
+        None => Ok(Resolution::Unknown),
+    }
+}
+
+/// What a key resolves to with a value or without: over tables that stand in the database, where an absent one gives
+/// nothing. The code points are lent where the database has them as a set, and gathered from its maps elsewhere.
+pub fn resolve<'a>(
+    alloc: Global,
+    database: &'a PropertyDatabase,
+    key: &str,
+    value: Option<&str>,
+) -> Result<Resolution<'a>, NoMemory>
+    ensures { IfOk result (ResolvesTo (tables_of database.now) key.now (option_copied value.entry)) }
+{
+    let Some(value) = value else {
+        return match of_key(alloc, database, key.as_bytes())? {
+            Some(source) => Ok(Resolution::Found(source, false)),
+            None => Ok(Resolution::Unknown),
+        };
+    };
+    resolve_value(alloc, database, key, value)
+}
