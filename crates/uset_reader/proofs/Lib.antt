@@ -1,3 +1,4 @@
+pub mod FrontLemmas
 pub mod BracketLemmas
 pub mod PropertyLemmas
 pub mod UnitLemmas
