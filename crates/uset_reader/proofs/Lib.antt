@@ -1,3 +1,4 @@
+pub mod FirstByte
 pub mod FrontLemmas
 pub mod BracketLemmas
 pub mod PropertyLemmas

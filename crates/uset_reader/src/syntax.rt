@@ -6,7 +6,7 @@ ghost use Rattle.uset_grammar.specs.Escape.{Apart};
 
 use cp_invlist::CodePointInversionList;
 use prop_data::{PropertyDatabase, SetTable};
-use uset_read::{skip_white_space, split_first};
+use uset_read::skip_white_space;
 use uset_variables::VariableMap;
 
 /// What patterns are read by: the three tables of the syntax (UAX 31), white space of patterns and the characters that
@@ -48,13 +48,14 @@ impl<'a> Syntax<'a> {
         })
     }
 
-    /// The text without the white space in front. A visible ASCII character, which most texts begin with, is none.
+    /// The text without the white space in front. A visible ASCII character, which most texts begin with, is none: its byte
+    /// tells, and nothing is decoded.
     pub(crate) fn skip_white_space<'t>(&self, text: &'t str) -> &'t str
         ensures skipped { chars result.now ≡ skip (contains self.now.white_space.now) (chars text.now) }
         ensures within { length result.now ≤ length text.now }
     {
-        match split_first(text) {
-            Some((first, _)) if first.is_ascii_graphic() => text,
+        match text.as_bytes().first() {
+            Some(first) if first.is_ascii_graphic() => text,
             _ => skip_white_space(self.white_space, text),
         }
     }
