@@ -101,7 +101,8 @@ impl Run {
         Ok(())
     }
 
-    /// The set of the ranges. A few that went to the builder go with the others, so that no list is merged.
+    /// The set of the ranges. A few that went to the builder go with the others, so that no list is merged: behind them,
+    /// and the others the other way round, so that ranges which came in descending order are sorted already.
     pub(crate) fn into_builder(mut self) -> Result<CodePointInversionListBuilder, NoMemory>
         ensures { IfOk result (λ set. (c : ℕ) → contains set c ≡ in_run self c) }
     {
@@ -110,6 +111,7 @@ impl Run {
         }
         let front = self.builder.build();
         if front.get_inversion_list().len() <= self.aside.len() / 8 {
+            self.aside.reverse();
             put_aside(&mut self.aside, &front)?;
             return sorted_union(self.alloc, self.aside);
         }

@@ -9,6 +9,7 @@ pub mod PiecesRead
 pub mod StringReading
 pub mod StringRead
 pub mod FirstCharacter
+pub mod WhiteSpaceBounds
 pub mod NameParts
 pub mod PropertyReading
 pub mod PropertyRead

@@ -61,6 +61,16 @@ pub(crate) fn push_char(string: &mut String, c: char) -> Result<(), NoMemory>
     Ok(())
 }
 
+/// Whether the character is white space. Most characters stand behind all that is, where no search is needed.
+fn is_white_space(white_space: &CodePointInversionList, c: char) -> bool
+    ensures { result ≡ contains white_space.now c }
+{
+    let Some(end) = white_space.get_inversion_list().last() else {
+        return false;
+    };
+    (c as u32) < *end && white_space.contains32(c as u32)
+}
+
 /// The text without the white space in front.
 pub fn skip_white_space<'a>(white_space: &CodePointInversionList, text: &'a str) -> &'a str
     ensures skipped { chars result.now ≡ skip (contains white_space.now) (chars text.now) }
@@ -69,7 +79,7 @@ pub fn skip_white_space<'a>(white_space: &CodePointInversionList, text: &'a str)
 {
     let mut rest = text;
     while let Some((c, behind)) = split_first(rest) {
-        if !white_space.contains32(c as u32) {
+        if !is_white_space(white_space, c) {
             break;
         }
         rest = behind;

@@ -1,3 +1,5 @@
+pub mod FirstByte
+pub mod FrontLemmas
 pub mod BracketLemmas
 pub mod PropertyLemmas
 pub mod UnitLemmas

@@ -1,6 +1,7 @@
 -- White space that the tables of a database may hold.
 use Rattle.std.proofs.Common.{◌≡◌, ℕ, Bool, true, false, Option, Some, None, refl, sym, subst, ◌∙◌, arith}
 use Rattle.std.proofs.lemmas.Bool.Decides.{nat_tests}
+use Rattle.std.specs.Char.{is_ascii_graphic}
 use Rattle.prop_data.specs.Forbidden.{is_forbidden, IsAllowed, AreAllowed}
 use Rattle.prop_data.specs.Tables.{Tables}
 use Rattle.uset_grammar.specs.Escape.{is_hex, Apart}
@@ -13,6 +14,10 @@ use Rattle.uset_reader.specs.Syntaxes.{language_by, language_of}
 digit_forbidden : (c : ℕ) → is_hex c ≡ true → is_forbidden 51 c ≡ true
 unfolding is_hex
 digit_forbidden c h = grind (arith, nat_tests)
+
+-- so is each visible ASCII character
+pub visible_forbidden : (c : ℕ) → is_ascii_graphic c ≡ true → is_forbidden 51 c ≡ true
+visible_forbidden c h = grind (arith, nat_tests)
 
 neither : (b : Bool) → (b ≡ true → b ≡ false) → b ≡ false
 neither true h = h refl

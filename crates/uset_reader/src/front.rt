@@ -11,7 +11,7 @@ use crate::bracket::Opening;
 use crate::code_point::CodePoint;
 use crate::item::Item;
 use crate::syntax::Syntax;
-use uset_read::{read_name, skip_white_space, split_first};
+use uset_read::{read_name, split_first};
 
 /// What stands in front of a text in a bracket.
 #[derive(Drop)]
@@ -53,7 +53,7 @@ pub(crate) fn is_short(text: &str) -> bool
     ensures { result ≡ is_short (chars text.now) }
 {
     match split_first(text) {
-        Some((first, rest)) => first != ']' && split_first(rest).is_none(),
+        Some((first, rest)) => first != ']' && rest.is_empty(),
         None => true,
     }
 }
@@ -118,7 +118,7 @@ fn read_opening<'a>(syntax: &Syntax<'_>, text: &'a str) -> Option<(Opening, &'a 
         return None;
     }
     let (negated, inner) = strip_optional(text, '^');
-    let (leading, inner) = strip_optional(skip_white_space(syntax.white_space, inner), '-');
+    let (leading, inner) = strip_optional(syntax.skip_white_space(inner), '-');
     Some((Opening { negated, leading }, inner))
 }
 

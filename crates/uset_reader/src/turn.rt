@@ -25,7 +25,7 @@ use std::mem::replace;
 use uset_fault::{ParseError, ParseErrorKind};
 use uset_gather::{Gathered, Operand};
 use uset_grammar::laws;
-use uset_read::{Cursor, skip_white_space, split_first};
+use uset_read::{Cursor, split_first};
 use uset_variables::VariableValue;
 
 /// What a turn made of the open brackets.
@@ -223,7 +223,7 @@ pub(crate) fn turn<'a>(
     ensures shorter { IfOk result (λ p. IsShorter p (left_of cursor.entry)) }
 {
     laws::turns();
-    let text = skip_white_space(syntax.white_space, cursor.rest());
+    let text = syntax.skip_white_space(cursor.rest());
     if is_short(text) {
         return Err(ParseErrorKind::Eof.into());
     }

@@ -1,6 +1,8 @@
-use Rattle.std.proofs.Common.{◌≡◌, ◌||◌, length, rules, ap, ◌∙◌}
+use Rattle.std.proofs.Common.{◌≡◌, ◌||◌, length, rules, sym, ap, ◌∙◌}
 use Rattle.std.proofs.lemmas.List.{nil_from_length}
+use Rattle.std.proofs.lemmas.List.Sorted.{list_any-IsPermutation}
 use Rattle.cp_invlist.specs.InversionList.{contains}
+use Rattle.cp_invlist.specs.Ranges.{in_code_points}
 use Rattle.uset_gather.proofs.GatheredLemmas.{if_ok}
 use Rattle.uset_gather.proofs.RangesLemmas.{gathered_in_run, none_aside}
 use Rattle.uset_gather.proofs.run.Run.into_builder.Goals as goal
@@ -12,7 +14,11 @@ returns-then-is_empty c =
 
 pub returns-then-get_inversion_list-len : goal.returns-then-get_inversion_list-len
 returns-then-get_inversion_list-len c =
-    if_ok c.sorted_union.result (λ set h d. gathered_in_run c.args.self c.build-front.result set d c.build-front.ensures (h d ∙ c.in_ok-put_aside.ensures d))
+    if_ok c.sorted_union.result (λ set h d.
+    gathered_in_run c.args.self c.build-front.result set d c.build-front.ensures
+    (h d ∙ c.in_ok-put_aside.ensures d
+    ∙ ap (λ b. b || contains c.build-front.result d)
+    (sym (list_any-IsPermutation (λ r. in_code_points r d) c.args.self.aside.items c.reverse.new.self.items c.reverse.ensures.permutation))))
     c.sorted_union.ensures
 
 pub returns : goal.returns
