@@ -3,6 +3,7 @@ use cp_invlist::CodePointInversionList;
 use cp_strset::CodePointInversionListAndStringList;
 use prop_data::PropertyDatabase;
 use std::alloc::{AllocError, Global};
+use std::process::Abort;
 use std::test::Fail;
 use uset_parse::{
     ParseError, ParseErrorKind, VariableMap, parse, parse_unstable, parse_unstable_with_variables,
@@ -79,25 +80,49 @@ fn is_read(answer: &Answer, expected: &CodePointInversionListAndStringList, leng
     }
 }
 
-#[test]
-fn each_call_reads_a_pattern(rt: HostRuntime) -> Result<(), Fail> {
-    let alloc = rt.alloc();
-    let database = PropertyDatabase::from_text(alloc, SYNTAX)?;
-    let expected = letters(alloc)?;
-    let map = variables(alloc)?;
+/// Each call reads its source as the expected set.
+fn assert_each_reads(
+    rt: &impl Abort,
+    alloc: Global,
+    expected: &CodePointInversionListAndStringList,
+    variables: &VariableMap,
+    database: &PropertyDatabase,
+) {
     for (call, source, length) in [
         (Call::Plain, "[a-c{}{ab}-]]", 12),
         (Call::Unstable, "[a-c{}{ab}-]]", 12),
         (Call::WithVariables, "[$a-c{}$v-]]", 11),
         (Call::UnstableWithVariables, "[$a-c{}$v-]]", 11),
     ] {
-        let answer = ask(alloc, call, source, &map, &database);
-        assert!(rt; is_read(&answer, &expected, length), "at {source}");
+        let answer = ask(alloc, call, source, variables, database);
+        assert!(rt; is_read(&answer, expected, length), "at {source}");
     }
+}
+
+#[test]
+fn each_call_reads_a_pattern(rt: HostRuntime) -> Result<(), Fail> {
+    let alloc = rt.alloc();
+    let database = PropertyDatabase::from_text(alloc, SYNTAX)?;
+    let expected = letters(alloc)?;
+    let map = variables(alloc)?;
+    assert_each_reads(&rt, alloc, &expected, &map, &database);
     Ok(())
 }
 
 /// How many bytes the reader below the calls reads, and whether it reads the expected set.
+fn read_by(
+    alloc: Global,
+    syntax: &Syntax<'_>,
+    source: &str,
+    expected: &CodePointInversionListAndStringList,
+) -> Result<(usize, bool), Fail> {
+    let (gathered, place) = read_set(alloc, syntax, source)?;
+    let length = place.offset();
+    let set = gathered.into_set(alloc)?;
+    Ok((length, set == *expected))
+}
+
+/// The same under the tables and the variables.
 fn read_below(
     alloc: Global,
     source: &str,
@@ -106,10 +131,7 @@ fn read_below(
     let database = PropertyDatabase::from_text(alloc, SYNTAX)?;
     let map = variables(alloc)?;
     let syntax = Syntax::of(&map, &database).ok_or("no syntax")?;
-    let (gathered, place) = read_set(alloc, &syntax, source)?;
-    let length = place.offset();
-    let set = gathered.into_set(alloc)?;
-    Ok((length, set == *expected))
+    read_by(alloc, &syntax, source, expected)
 }
 
 #[test]

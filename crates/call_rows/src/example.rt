@@ -1,4 +1,5 @@
 //! The example of README.md.
+use cp_strset::CodePointInversionListAndStringList;
 use prop_data::PropertyDatabase;
 use std::alloc::Global;
 use std::test::Fail;
@@ -10,19 +11,12 @@ const TABLES: &str = "set Pattern_White_Space\n9-D\n20\n\
     set XID_Continue\n30-39\n41-5A\n5F\n61-7A\n\
     end\n";
 
-/// What the consonants are, a range a line, and then the strings.
-fn consonants(alloc: Global) -> Result<String, Fail> {
-    let database = PropertyDatabase::from_text(alloc, TABLES)?;
-    let mut variables = VariableMap::new(alloc);
-    if variables
-        .insert_str(String::from_str(alloc, "digraph")?, "ch")
-        .is_err()
-    {
-        return Err("the name is bound".into());
-    }
-
-    let source = "[[a-z $digraph]-[aeiou]] and what follows is free";
-    let (set, length) = parse_with_variables(alloc, source, &variables, &database)?;
+/// What a set is asked, its ranges, one a line, and then its strings.
+fn shown(
+    alloc: Global,
+    set: &CodePointInversionListAndStringList,
+    length: usize,
+) -> Result<String, Fail> {
     let mut text = format!(in alloc;
         "{length} bytes, b: {}, a: {}, ch: {}\n",
         set.contains('b'),
@@ -36,6 +30,22 @@ fn consonants(alloc: Global) -> Result<String, Fail> {
         write!(text, "{string}\n")?;
     }
     Ok(text)
+}
+
+/// What the consonants are.
+fn consonants(alloc: Global) -> Result<String, Fail> {
+    let database = PropertyDatabase::from_text(alloc, TABLES)?;
+    let mut variables = VariableMap::new(alloc);
+    if variables
+        .insert_str(String::from_str(alloc, "digraph")?, "ch")
+        .is_err()
+    {
+        return Err("the name is bound".into());
+    }
+
+    let source = "[[a-z $digraph]-[aeiou]] and what follows is free";
+    let (set, length) = parse_with_variables(alloc, source, &variables, &database)?;
+    shown(alloc, &set, length)
 }
 
 #[test]
