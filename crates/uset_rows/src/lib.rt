@@ -15,6 +15,8 @@ mod devices;
 #[cfg(test)]
 mod errors;
 #[cfg(test)]
+mod failing;
+#[cfg(test)]
 mod faults;
 #[cfg(test)]
 mod fixtures;

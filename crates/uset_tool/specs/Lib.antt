@@ -1,4 +1,5 @@
 pub mod Device
+pub mod Memory
 pub mod Script
 pub mod Lines
 pub mod Answer

@@ -7,6 +7,7 @@ mod counts;
 mod input;
 pub mod laws;
 mod line;
+mod memory;
 mod program;
 mod script;
 mod sink;
@@ -15,6 +16,7 @@ mod status;
 mod table_fault;
 mod words;
 
+pub use memory::{MemorySink, MemorySource};
 pub use program::run;
 pub use sink::{Sink, StdSink, SureSink, WriteError};
 pub use source::{Failed, Source, StdSource, SureSource};
