@@ -1,14 +1,14 @@
 -- The sources that properties resolve to end.
-use Rattle.std.proofs.Common.{◌≡◌, ℕ, ◌≤◌, Bool, true, false, cond, ◌&&◌, ◌==◌, List, encode_utf8_all, Option, Some, None, option_map, refl, sym, ap, ◌∙◌, subst, arith}
+use Rattle.std.proofs.Common.{◌≡◌, ℕ, Bool, false, ◌&&◌, ◌==◌, List, Option, Some, None, refl, ap, subst, arith}
 use Rattle.std.proofs.lemmas.Bool.Decides.{nat_tests}
 use Rattle.cp_invlist.specs.InversionList.{is_code_point}
 use Rattle.prop_binary.specs.Ecma262.{ecma262_number}
 use Rattle.prop_data.specs.Tables.{Tables}
-use Rattle.uset_grammar.specs.Text.{Text, ◌>>=◌}
+use Rattle.uset_grammar.specs.Text.{◌>>=◌}
 use Rattle.uset_grammar.specs.Finite.{IsBounded}
 use Rattle.uset_grammar.specs.Language.{Resolved}
 use Rattle.uset_resolve.specs.Keys.{Asked, categories, extensions, values, key_of, falsy}
-use Rattle.uset_resolve.specs.Resolution.{Source, with_number, in_group, with_extension, is_in, group_bits, or_else, loosely, of_number, of_group, of_script, of_extension, of_binary, number_of_value, of_key, of_value, resolved, of_word, with_value, resolve_bytes}
+use Rattle.uset_resolve.specs.Resolution.{Source, in_group, with_extension, or_else, loosely, of_number, of_group, of_script, of_extension, of_binary, number_of_value, of_key, of_value, resolved, with_value, resolve_bytes}
 
 -- code points that pass a test are code points
 points_end : (test : ℕ → Bool) → IsBounded (λ c. is_code_point c && test c)

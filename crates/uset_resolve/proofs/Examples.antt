@@ -3,7 +3,7 @@ use Rattle.std.proofs.Common.{◌≡◌, ℕ, Bool, true, false, ◌&&◌, ◌||
 use Rattle.cp_invlist.specs.InversionList.{differ}
 use Rattle.prop_binary.specs.Tables.{properties}
 use Rattle.prop_names.specs.Names.{Names}
-use Rattle.prop_data.specs.Tables.{Tables, EmojiMembers, ExtensionList, ScriptNumbers}
+use Rattle.prop_data.specs.Tables.{Tables}
 use Rattle.uset_grammar.specs.Language.{Resolved}
 use Rattle.uset_resolve.specs.Decimal.{decimal}
 use Rattle.uset_resolve.specs.Resolution.{group_bits, resolve_bytes, lacking_bytes}

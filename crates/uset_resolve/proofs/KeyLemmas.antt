@@ -1,11 +1,11 @@
 -- What stands at the first place that passes a test, and what a key asks by it.
-use Rattle.std.proofs.Common.{◌≡◌, ℕ, ◌<◌, ◌≤◌, ◌⊎◌, Bool, true, false, cond, List, Option, Some, None, IfSome, option_map, nat_lt, length, find, get_or, refl, sym, ap, ◌∙◌, subst, inl, inr, arith}
+use Rattle.std.proofs.Common.{◌≡◌, ℕ, ◌<◌, ◌≤◌, Bool, true, false, cond, List, Some, None, IfSome, option_map, nat_lt, length, find, refl, ap, ◌∙◌, subst, inl, inr, arith}
 use Rattle.std.proofs.lemmas.Bool.Decides.{nat_tests}
 use Rattle.std.proofs.lemmas.List.Folds.{find_at}
 use Rattle.std.proofs.lemmas.Option.{slice_get_past, slice_get_cases}
 use Rattle.std.specs.Prelude.{slice_get}
 use Rattle.std.specs.List.{position, position_or_len}
-use Rattle.uset_resolve.specs.Keys.{Asked, named_keys, has_name, asked_by}
+use Rattle.uset_resolve.specs.Keys.{named_keys, has_name, asked_by}
 use Rattle.uset_resolve.specs.Sources.{IsKey, AreKeys}
 use Rattle.uset_resolve.specs.declared.key.Key.{Key}
 

@@ -1,6 +1,6 @@
 -- What the key and the value of a property resolve to, step by step (UTS 18, 1.2; UAX 44, 5.9; ECMA-262, binary Unicode
 -- properties). A table that is absent gives nothing. Keys, values and names are told by their bytes.
-use Rattle.std.specs.Prelude.{◌≡◌, ℕ, Bool, true, false, ◌&&◌, ◌||◌, ◌==◌, List, encode_utf8_all, Option, Some, None, is_some, is_none, option_map, if◌then◌else◌}
+use Rattle.std.specs.Prelude.{ℕ, Bool, false, ◌&&◌, ◌||◌, ◌==◌, List, encode_utf8_all, Option, Some, None, is_some, is_none, option_map, if◌then◌else◌}
 use Rattle.cp_invlist.specs.InversionList.{is_code_point}
 use Rattle.prop_binary.specs.Ecma262.{ecma262_number}
 use Rattle.prop_names.specs.Names.{loose}

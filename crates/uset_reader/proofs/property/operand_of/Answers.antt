@@ -1,5 +1,5 @@
-use Rattle.std.proofs.Common.{false, true}
-use Rattle.uset_reader.proofs.PropertyLemmas.{has-found, is-found, differ-alike, differ-unlike}
+use Rattle.std.proofs.Common.{false}
+use Rattle.uset_reader.proofs.PropertyLemmas.{has-found, is-found, differ-alike}
 use Rattle.uset_reader.proofs.property.operand_of.Goals as goal
 
 pub returns-in-Found : goal.returns-in-Found
