@@ -3,7 +3,13 @@ use crate::layers::{flattened, members_in_front};
 use cp_invlist::laws::members_are_code_points;
 use cp_invlist::{CodePointInversionList, CodePointRange, NoMemory};
 use std::alloc::Global;
-use std::mem::swap;
+use std::mem::{replace, swap};
+
+/// Sets of at most so many ranges are painted without a limit: a pattern that joins one is as long as its ranges.
+const FEW: usize = 8;
+
+/// How many ranges of larger sets are painted at first before all that was painted becomes one set.
+const ALLOWANCE: usize = 4096;
 
 /// A range of code points that was painted: as members, or as no members.
 #[derive(Clone, Copy)]
@@ -14,12 +20,15 @@ pub(crate) struct PaintedRange {
 
 /// A set of code points in the making: the ranges in the order in which they were painted. The last that
 /// covers a code point says whether it is a member, and one that none covers is no member. Where the
-/// painting is complemented, it is the other way round. Nothing is merged before the set is needed.
+/// painting is complemented, it is the other way round. Nothing is merged before the set is needed, or many more ranges
+/// of large sets were painted than all of them make.
 #[derive(Drop)]
 pub(crate) struct Painting {
     alloc: Global,
     ranges: Vec<PaintedRange>,
     complemented: bool,
+    /// How many ranges of large sets may still be painted before all that was painted becomes one set.
+    allowance: usize,
 }
 
 impl Painting {
@@ -38,7 +47,34 @@ impl Painting {
             alloc,
             ranges: Vec::new(alloc),
             complemented: false,
+            allowance: ALLOWANCE,
         }
+    }
+
+    /// Makes way for so many ranges of a set: all that was painted becomes one set where they would be too many. So a large set
+    /// that is joined again and again isn't kept as often.
+    fn make_way(&mut self, count: usize) -> Result<(), NoMemory>
+        ensures { OnOk result ((c : ℕ) → in_painting self.new c ≡ in_painting self.old c) }
+    {
+        if count <= FEW {
+            return Ok(());
+        }
+        if self.allowance < count {
+            return self.settle();
+        }
+        self.allowance -= count;
+        Ok(())
+    }
+
+    /// Makes one set of all that was painted. As many ranges as it has may be painted twice before it is made anew.
+    fn settle(&mut self) -> Result<(), NoMemory>
+        ensures { OnOk result ((c : ℕ) → in_painting self.new c ≡ in_painting self.old c) }
+    {
+        let empty = Painting::new(self.alloc);
+        let set = replace(self, empty).into_set()?;
+        self.paint_set(&set)?;
+        self.allowance = ALLOWANCE.max(set.get_inversion_list().len());
+        Ok(())
     }
 
     /// Adds the code points of the range.
@@ -56,6 +92,14 @@ impl Painting {
     pub(crate) fn add_set(&mut self, set: &CodePointInversionList) -> Result<(), NoMemory>
         ensures { OnOk result ((c : ℕ) → in_painting self.new c ≡ (in_painting self.old c || contains set.now c)) }
     {
+        self.make_way(set.get_inversion_list().len() / 2)?;
+        self.paint_set(set)
+    }
+
+    /// Paints the members of the set.
+    fn paint_set(&mut self, set: &CodePointInversionList) -> Result<(), NoMemory>
+        ensures { OnOk result ((c : ℕ) → in_painting self.new c ≡ (in_painting self.old c || contains set.now c)) }
+    {
         members_are_code_points();
         self.ranges.reserve(set.get_inversion_list().len() / 2)?;
         for range in set.iter_ranges() {
@@ -66,6 +110,14 @@ impl Painting {
 
     /// Adds the code points that aren't in the set.
     pub(crate) fn add_outside(&mut self, set: &CodePointInversionList) -> Result<(), NoMemory>
+        ensures { OnOk result ((c : ℕ) → in_painting self.new c ≡ (in_painting self.old c || is_outside set.now c)) }
+    {
+        self.make_way(set.get_inversion_list().len() / 2)?;
+        self.paint_outside(set)
+    }
+
+    /// Paints the code points that aren't in the set.
+    fn paint_outside(&mut self, set: &CodePointInversionList) -> Result<(), NoMemory>
         ensures { OnOk result ((c : ℕ) → in_painting self.new c ≡ (in_painting self.old c || is_outside set.now c)) }
     {
         for range in set.iter_ranges_complemented() {
@@ -116,6 +168,14 @@ impl Painting {
 
     /// Adds the code points of all the ranges.
     fn add_ranges(&mut self, ranges: &[PaintedRange]) -> Result<(), NoMemory>
+        ensures { OnOk result ((c : ℕ) → in_painting self.new c ≡ (in_painting self.old c || covered ranges.now c)) }
+    {
+        self.make_way(ranges.len())?;
+        self.paint_ranges(ranges)
+    }
+
+    /// Paints the code points of all the ranges.
+    fn paint_ranges(&mut self, ranges: &[PaintedRange]) -> Result<(), NoMemory>
         ensures { OnOk result ((c : ℕ) → in_painting self.new c ≡ (in_painting self.old c || covered ranges.now c)) }
     {
         self.ranges.reserve(ranges.len())?;

@@ -141,3 +141,21 @@ fn names_are_bound_once_by_lines_of_their_form(rt: HostRuntime) -> Result<(), Fa
     }
     Ok(())
 }
+
+#[test]
+fn a_set_that_is_joined_or_taken_away_a_thousand_times_counts_once(
+    rt: HostRuntime,
+) -> Result<(), Fail> {
+    let alloc = rt.alloc();
+    let joined = "$s".repeat(alloc, 1_000)?;
+    let removed = "-$s".repeat(alloc, 1_000)?;
+    let lines = format!(in alloc;
+        "let s set [acegikmoqsuwy]\npat [{joined}]\npat [[^$s]{joined}]\npat [[a-z]{removed}]"
+    )?;
+    let letters = "0061 0063 0065 0067 0069 006B 006D 006F 0071 0073 0075 0077 0079";
+    let others = "0062 0064 0066 0068 006A 006C 006E 0070 0072 0074 0076 0078 007A";
+    let answers = format!(in alloc;
+        "bound s\nok 2002 {letters}\nok 2007 0000-10FFFF\nok 3007 {others}\n"
+    )?;
+    assert_answer(&rt, alloc, &lines, &answers, 0)
+}

@@ -5,7 +5,7 @@ use Rattle.cp_invlist.specs.Ranges.{AreMaximalRanges}
 use Rattle.uset_gather.specs.Painting.{in_painting}
 use Rattle.uset_gather.proofs.PaintingLemmas.{painting_same}
 use Rattle.uset_gather.proofs.RangesLemmas.{or_none, set_spelled, joined_more}
-use Rattle.uset_gather.proofs.painting.Painting.add_set.Goals as goal
+use Rattle.uset_gather.proofs.painting.Painting.paint_set.Goals as goal
 
 pub loop-range-init : goal.loop-range-init
 loop-range-init c = (

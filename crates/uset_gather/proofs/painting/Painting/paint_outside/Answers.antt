@@ -3,7 +3,7 @@ use Rattle.std.proofs.lemmas.List.{append-nil}
 use Rattle.cp_invlist.specs.Ranges.{AreMaximalRanges, is_outside}
 use Rattle.uset_gather.specs.Painting.{in_painting}
 use Rattle.uset_gather.proofs.RangesLemmas.{or_none, outside_spelled, joined_more}
-use Rattle.uset_gather.proofs.painting.Painting.add_outside.Goals as goal
+use Rattle.uset_gather.proofs.painting.Painting.paint_outside.Goals as goal
 
 pub loop-range-init : goal.loop-range-init
 loop-range-init c = (
