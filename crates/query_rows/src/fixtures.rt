@@ -1,4 +1,8 @@
-//! A table text with tables of every kind.
+//! Table texts, and what tests of several subjects share.
+use cp_invlist::CodePointRange;
+use prop_data::{DataError, PropertyDatabase, TableName};
+use std::alloc::Global;
+use std::test::Fail;
 
 /// Tables of every kind.
 pub(crate) const EVERY_KIND: &str = "set XID_Start\n41-5A\n61-7A\n\
@@ -17,3 +21,28 @@ pub(crate) const EVERY_KIND: &str = "set XID_Start\n41-5A\n61-7A\n\
     names Canonical_Combining_Class\n230 A\n230 Above\n\
     emoji Basic_Emoji\n231A-231B\n{00A9_FE0F}\n\
     end\n";
+
+/// No table.
+pub(crate) const EMPTY: &str = "end";
+
+/// Calls the assertions on the database of the text. They borrow it, since it is proved slowly where it is owned.
+pub(crate) fn with_tables<F: Fn(&PropertyDatabase) -> Result<(), Fail> + Copy>(
+    alloc: Global,
+    text: &str,
+    assertions: F,
+) -> Result<(), Fail>
+    requires { F.IsAlwaysCallable assertions }
+{
+    let database = PropertyDatabase::from_text(alloc, text)?;
+    assertions(&database)
+}
+
+/// The error of a call whose table is absent.
+pub(crate) fn absent(table: TableName) -> Option<DataError> {
+    Some(DataError::Absent { table })
+}
+
+/// The code points from the first to the last.
+pub(crate) fn range(start: u32, end: u32) -> CodePointRange {
+    CodePointRange { start, end }
+}

@@ -3,8 +3,18 @@
 #![tactic(auto)]
 
 #[cfg(test)]
+mod emoji;
+#[cfg(test)]
 mod example;
 #[cfg(test)]
 mod fixtures;
 #[cfg(test)]
+mod free;
+#[cfg(test)]
+mod maps;
+#[cfg(test)]
+mod names;
+#[cfg(test)]
 mod scripts;
+#[cfg(test)]
+mod sets;
