@@ -1,5 +1,5 @@
 -- The answers to patterns.
-use Rattle.std.proofs.Common.{◌≡◌, ℕ, Bool, true, false, List, length, encode_utf8_all, ◌++◌, codes, Option, Some, None, refl, sym, ap, ◌∙◌, subst}
+use Rattle.std.proofs.Common.{◌≡◌, ℕ, Bool, true, false, List, encode_utf8_all, ◌++◌, codes, Option, Some, refl, ap, ◌∙◌, subst}
 use mathlib.Core.Path.{fun_ext}
 use Rattle.std.specs.Str.{chars}
 use Rattle.std.specs.String.{string_bytes}

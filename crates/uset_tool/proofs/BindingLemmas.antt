@@ -10,14 +10,14 @@ use Rattle.cp_strset.specs.StringSet.{StringSet}
 use Rattle.prop_data.specs.Tables.{Tables}
 use Rattle.uset_grammar.specs.Text.{Text}
 use Rattle.uset_grammar.specs.Tree.{Tree, has}
-use Rattle.uset_grammar.specs.Language.{Value, character, string, set}
+use Rattle.uset_grammar.specs.Language.{character, string, set}
 use Rattle.uset_grammar.specs.Place.{size}
 use Rattle.uset_grammar.specs.Answers.{ReadsUnder}
 use Rattle.uset_fault.specs.declared.error.ParseError.{ParseError}
 use Rattle.uset_fault.specs.Errors.{offset_in}
 use Rattle.uset_variables.specs.declared.map.VariableMap.{VariableMap}
 use Rattle.uset_variables.specs.declared.value.VariableValue.{VariableValue}
-use Rattle.uset_variables.specs.declared.value.VariableValue.TheVariants.{UnicodeSet, Char, String as Spelled}
+use Rattle.uset_variables.specs.declared.value.VariableValue.TheVariants.{String as Spelled}
 use Rattle.uset_variables.specs.Values.{value_seen, kept, character_or}
 use Rattle.uset_variables.specs.Variables.{bound, variables_of, no_variables, Binds}
 use Rattle.uset_gather.specs.Gathered.{in_set}
@@ -25,7 +25,7 @@ use Rattle.uset_reader.specs.Syntaxes.{language_of}
 use Rattle.uset_parse.specs.Reading.{IsRead, IsRefused}
 use Rattle.uset_tool.specs.declared.answer.Answer.{Answer}
 use Rattle.uset_tool.specs.Script.{Definition, character as character_definition, string as string_definition, set as set_definition}
-use Rattle.uset_tool.specs.Answer.{Variables, with_binding, string_or_character, bound_text, is_bound_text, text_after_text, fault_text, DefinitionAnswer, a_character, a_string, a_set, text_after, no_set, BindingAnswer, bound_before, free, IsBound, IsFaultAnswer}
+use Rattle.uset_tool.specs.Answer.{Variables, with_binding, string_or_character, bound_text, is_bound_text, text_after_text, fault_text, DefinitionAnswer, a_character, a_string, a_set, text_after, no_set, BindingAnswer, bound_before, IsBound, IsFaultAnswer}
 use Rattle.uset_tool.proofs.AnswerLemmas.{fault_told}
 
 -- a map that binds no name

@@ -1,5 +1,5 @@
 -- An input has one answer, and without a fault of source or sink the status is its, or memory was refused.
-use Rattle.std.proofs.Common.{◌≡◌, ℕ, Bool, true, false, cond, List, Option, None, Some, IfSome, refl, ap, subst, inl, inr, arith}
+use Rattle.std.proofs.Common.{◌≡◌, ℕ, Bool, true, false, cond, List, ◌++◌, Option, None, Some, IfSome, refl, ap, subst, inl, inr, arith}
 use Rattle.std.proofs.lemmas.Bool.{both_ways}
 use Rattle.prop_data.specs.TableText.{table_fault, tables_in}
 use Rattle.uset_tool.specs.Words.{Command, evaluate, count_tables, table_fault_text}
@@ -7,7 +7,7 @@ use Rattle.uset_variables.specs.Variables.{no_variables}
 use Rattle.uset_tool.specs.declared.status.Status.{Status}
 use Rattle.uset_tool.specs.declared.status.Status.TheVariants.{Done, SomeErr, Usage, Tables, ReadFault, WriteFault, NoMemory, NotText, TooLong}
 use Rattle.uset_tool.specs.Device.{Rose, NoFault}
-use Rattle.uset_tool.specs.Run.{table_lines, script_lines, text_lines, Evaluates, faulty_tables, script, Counts, faulty_text, counted, Results, Answers, usage, too_long, not_text, evaluates, IsWhole, IsWritten, Writes, IsSettled, IsAccepted, IsAnswered}
+use Rattle.uset_tool.specs.Run.{table_lines, script_lines, text_lines, Evaluates, faulty_tables, script, Counts, faulty_text, counted, Results, Answers, usage, too_long, not_text, evaluates, IsWhole, IsWritten, Writes, AppendsWhole, AppendsAnswer, IsSettled, IsAccepted, IsAnswered}
 use Rattle.uset_tool.specs.Laws.{OneAnswer}
 use Rattle.uset_tool.proofs.Existence.{answer_exists}
 use Rattle.uset_tool.proofs.Once.{RunLaws, laws_of, script_once}
@@ -57,19 +57,19 @@ one_answer_law laws = λ words input.
     (text, status, answer, λ other s h. answered_once laws words input other text s status h answer)
 
 -- a whole answer has its status
-whole_settles : (words : List (List ℕ)) (input before now : List ℕ) (result : Status) → IsWhole (Answers words input) before now result → IsSettled (Answers words input) result
-whole_settles words input before now result (t, answer, now_is) = (t, result, answer, inl refl)
+whole_settles : (words : List (List ℕ)) (input : List ℕ) (old new : Option (List ℕ)) (result : Status) → AppendsWhole (Answers words input) old new result → IsSettled (Answers words input) result
+whole_settles words input old new result (t, answer, appended) = (t, result, answer, inl refl)
 
-settled : OneAnswer → (words : List (List ℕ)) (input before now : List ℕ) (result : Status) → (result ≡ ReadFault → ⊥) → (result ≡ WriteFault → ⊥) → IsWritten (Answers words input) before now result → IsSettled (Answers words input) result
-settled one words input before now Done no_read no_write h = whole_settles words input before now Done h
-settled one words input before now SomeErr no_read no_write h = whole_settles words input before now SomeErr h
-settled one words input before now Usage no_read no_write h = whole_settles words input before now Usage h
-settled one words input before now Tables no_read no_write h = whole_settles words input before now Tables h
-settled one words input before now NotText no_read no_write h = whole_settles words input before now NotText h
-settled one words input before now TooLong no_read no_write h = whole_settles words input before now TooLong h
-settled one words input before now ReadFault no_read no_write h = absurd (no_read refl)
-settled one words input before now WriteFault no_read no_write h = absurd (no_write refl)
-settled one words input before now NoMemory no_read no_write h = let (text, status, answer, only) = one words input in (text, status, answer, inr refl)
+settled : OneAnswer → (words : List (List ℕ)) (input : List ℕ) (old new : Option (List ℕ)) (result : Status) → (result ≡ ReadFault → ⊥) → (result ≡ WriteFault → ⊥) → AppendsAnswer (Answers words input) old new result → IsSettled (Answers words input) result
+settled one words input old new Done no_read no_write h = whole_settles words input old new Done h
+settled one words input old new SomeErr no_read no_write h = whole_settles words input old new SomeErr h
+settled one words input old new Usage no_read no_write h = whole_settles words input old new Usage h
+settled one words input old new Tables no_read no_write h = whole_settles words input old new Tables h
+settled one words input old new NotText no_read no_write h = whole_settles words input old new NotText h
+settled one words input old new TooLong no_read no_write h = whole_settles words input old new TooLong h
+settled one words input old new ReadFault no_read no_write h = absurd (no_read refl)
+settled one words input old new WriteFault no_read no_write h = absurd (no_write refl)
+settled one words input old new NoMemory no_read no_write h = let (text, status, answer, only) = one words input in (text, status, answer, inr refl)
 
 script_status : (errs : Bool) → IsAnswered (cond errs SomeErr Done)
 script_status true = inr (inl refl)
@@ -88,30 +88,49 @@ accepted_status words input _ _ ok (not_text b c no_text) = absurd (both_ways _ 
 accepted_status words input t s ok (evaluates command b c d h) =
     result_status ok.command input t s ok.tables (subst (λ o. Results o input t s) (one_command words command ok.command b ok.known) h)
 
-complete : (words : List (List ℕ)) (input before now : List ℕ) (result : Status) → (result ≡ ReadFault → ⊥) → (result ≡ WriteFault → ⊥) → IsAccepted words input → IsWritten (Answers words input) before now result → IsAnswered result
-complete words input before now Done no_read no_write ok (t, answer, now_is) = accepted_status words input t Done ok answer
-complete words input before now SomeErr no_read no_write ok (t, answer, now_is) = accepted_status words input t SomeErr ok answer
-complete words input before now Usage no_read no_write ok (t, answer, now_is) = accepted_status words input t Usage ok answer
-complete words input before now Tables no_read no_write ok (t, answer, now_is) = accepted_status words input t Tables ok answer
-complete words input before now NotText no_read no_write ok (t, answer, now_is) = accepted_status words input t NotText ok answer
-complete words input before now TooLong no_read no_write ok (t, answer, now_is) = accepted_status words input t TooLong ok answer
-complete words input before now ReadFault no_read no_write ok h = absurd (no_read refl)
-complete words input before now WriteFault no_read no_write ok h = absurd (no_write refl)
-complete words input before now NoMemory no_read no_write ok h = inr (inr refl)
+complete : (words : List (List ℕ)) (input : List ℕ) (old new : Option (List ℕ)) (result : Status) → (result ≡ ReadFault → ⊥) → (result ≡ WriteFault → ⊥) → IsAccepted words input → AppendsAnswer (Answers words input) old new result → IsAnswered result
+complete words input old new Done no_read no_write ok (t, answer, appended) = accepted_status words input t Done ok answer
+complete words input old new SomeErr no_read no_write ok (t, answer, appended) = accepted_status words input t SomeErr ok answer
+complete words input old new Usage no_read no_write ok (t, answer, appended) = accepted_status words input t Usage ok answer
+complete words input old new Tables no_read no_write ok (t, answer, appended) = accepted_status words input t Tables ok answer
+complete words input old new NotText no_read no_write ok (t, answer, appended) = accepted_status words input t NotText ok answer
+complete words input old new TooLong no_read no_write ok (t, answer, appended) = accepted_status words input t TooLong ok answer
+complete words input old new ReadFault no_read no_write ok h = absurd (no_read refl)
+complete words input old new WriteFault no_read no_write ok h = absurd (no_write refl)
+complete words input old new NoMemory no_read no_write ok h = inr (inr refl)
 
--- the same, whatever source and sink tell, where no fault was counted
+-- a whole answer is one that was written, where the sink tells what was
+whole_writes : (A : List ℕ → Status → Type 0) (old new : Option (List ℕ)) (status : Status) → ((before now : List ℕ) → IsWhole A before now status → IsWritten A before now status) → AppendsWhole A old new status → Writes A old new status
+whole_writes A None new status whole h = tt
+whole_writes A (Some before) new status whole (text, answer, appended) = (before ++ text, appended, whole before (before ++ text) (text, answer, refl))
+
+answer_writes : (A : List ℕ → Status → Type 0) (old new : Option (List ℕ)) (status : Status) → AppendsAnswer A old new status → Writes A old new status
+answer_writes A old new Done h = whole_writes A old new Done (λ before now k. k) h
+answer_writes A old new SomeErr h = whole_writes A old new SomeErr (λ before now k. k) h
+answer_writes A old new Usage h = whole_writes A old new Usage (λ before now k. k) h
+answer_writes A old new Tables h = whole_writes A old new Tables (λ before now k. k) h
+answer_writes A old new NotText h = whole_writes A old new NotText (λ before now k. k) h
+answer_writes A old new TooLong h = whole_writes A old new TooLong (λ before now k. k) h
+answer_writes A old new ReadFault h = h
+answer_writes A old new WriteFault h = h
+answer_writes A old new NoMemory h = h
+
+-- the same, whatever source and sink tell
+pub written_run : (words : List (List ℕ)) (left old new : Option (List ℕ)) (result : Status) →
+    IfSome left (λ input. AppendsAnswer (Answers words input) old new result) → IfSome left (λ input. Writes (Answers words input) old new result)
+written_run words None old new result h = tt
+written_run words (Some input) old new result h = answer_writes (Answers words input) old new result h
+
 pub settled_run : OneAnswer → (words : List (List ℕ)) (left old new : Option (List ℕ)) (result : Status) (a b c d : ℕ) → (result ≡ ReadFault → Rose a b) → (result ≡ WriteFault → Rose c d) →
-    IfSome left (λ input. Writes (Answers words input) old new result) →
-    IfSome left (λ input. IfSome old (λ before. NoFault a b → NoFault c d → IsSettled (Answers words input) result))
+    IfSome left (λ input. AppendsAnswer (Answers words input) old new result) →
+    IfSome left (λ input. NoFault a b → NoFault c d → IsSettled (Answers words input) result)
 settled_run one words None old new result a b c d read write h = tt
-settled_run one words (Some input) None new result a b c d read write h = tt
-settled_run one words (Some input) (Some before) new result a b c d read write (now, new_is, w) =
-    λ no_read no_write. settled one words input before now result (λ e. no_read (read e)) (λ e. no_write (write e)) w
+settled_run one words (Some input) old new result a b c d read write h =
+    λ no_read no_write. settled one words input old new result (λ e. no_read (read e)) (λ e. no_write (write e)) h
 
 pub complete_run : (words : List (List ℕ)) (left old new : Option (List ℕ)) (result : Status) (a b c d : ℕ) → (result ≡ ReadFault → Rose a b) → (result ≡ WriteFault → Rose c d) →
-    IfSome left (λ input. Writes (Answers words input) old new result) →
-    IfSome left (λ input. IfSome old (λ before. NoFault a b → NoFault c d → IsAccepted words input → IsAnswered result))
+    IfSome left (λ input. AppendsAnswer (Answers words input) old new result) →
+    IfSome left (λ input. NoFault a b → NoFault c d → IsAccepted words input → IsAnswered result)
 complete_run words None old new result a b c d read write h = tt
-complete_run words (Some input) None new result a b c d read write h = tt
-complete_run words (Some input) (Some before) new result a b c d read write (now, new_is, w) =
-    λ no_read no_write ok. complete words input before now result (λ e. no_read (read e)) (λ e. no_write (write e)) ok w
+complete_run words (Some input) old new result a b c d read write h =
+    λ no_read no_write ok. complete words input old new result (λ e. no_read (read e)) (λ e. no_write (write e)) ok h

@@ -1,8 +1,6 @@
 -- The answers of the program, computed on small scripts.
-use Rattle.std.proofs.Common.{arith, ℕ, List, length, ◌≡◌, ◌≢◌, true, false, [], ◌∷◌, ◌++◌, codes, refl}
+use Rattle.std.proofs.Common.{ℕ, List, ◌≡◌, true, false, [], ◌∷◌, ◌++◌, codes, refl}
 use Rattle.std.specs.Prelude.{Some, None}
-use Rattle.std.proofs.lemmas.Bool.Decides.{nat_tests}
-use Rattle.std.proofs.lemmas.List.Elements.{All-nil}
 use Rattle.std.specs.Fmt.{digits}
 use Rattle.std.specs.Str.{chars}
 use Rattle.cp_invlist.specs.InversionList.{contains, is_inversion_list}
@@ -22,7 +20,7 @@ use Rattle.uset_tool.specs.Answer.{range_text, string_text, read_text, fault_tex
 use Rattle.uset_tool.specs.Script.{silent, pattern, binding, bad, script_line, character_of, character, string, set}
 use Rattle.uset_tool.specs.Words.{is_known, table_fault_text}
 use Rattle.uset_tool.specs.Run.{table_lines, script_lines, Answers, usage, Evaluates, faulty_tables, script}
-use Rattle.uset_tool.specs.declared.status.Status.TheVariants.{Usage, Tables, SomeErr, Done}
+use Rattle.uset_tool.specs.declared.status.Status.TheVariants.{Usage, Tables, SomeErr}
 
 abbrev zero : CodePointRange
 zero = record { start = 0x30; end = 0x30 }

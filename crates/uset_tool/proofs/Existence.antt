@@ -5,12 +5,9 @@ use Rattle.std.proofs.lemmas.Bool.{cases_Bool, cases_lt, eqb-true}
 use Rattle.std.proofs.lemmas.Bool.Decides.{nat_tests}
 use Rattle.std.proofs.lemmas.List.{length-append}
 use Rattle.std.proofs.lemmas.Str.{encodes-append, encodes-chars, scalars-chars, IsUtf8-from_is_utf8}
-use Rattle.std.specs.List.{AllByRecursion, list_all}
+use Rattle.std.specs.List.{list_all}
 use Rattle.std.specs.Str.{IsUtf8, is_utf8, chars, all_scalars, bytes_eq}
 use lib.Utf8.{scalar}
-use Rattle.cp_invlist.specs.declared.ranges.CodePointRange.{CodePointRange}
-use Rattle.cp_invlist.specs.Ranges.{AreMaximalRanges}
-use Rattle.cp_strset.specs.StringList.{AreCanonical, holds}
 use Rattle.text_lines.specs.Lines.{lines}
 use Rattle.prop_data.specs.declared.error.TableError.{TableError}
 use Rattle.prop_data.specs.Forbidden.{AreAllowed}
@@ -19,13 +16,13 @@ use Rattle.prop_data.specs.TableText.{table_fault, tables_in}
 use Rattle.uset_grammar.specs.Text.{Text, ◌>>=◌}
 use Rattle.uset_grammar.specs.Tree.{Tree, point, string, has}
 use Rattle.uset_grammar.specs.Place.{size}
-use Rattle.uset_grammar.specs.Finite.{IsBounded, IsString, IsFinite, IsFiniteValue, IsFiniteLanguage}
-use Rattle.uset_grammar.specs.Language.{Value, character, string as string_value, set as set_value, Resolved, Language}
+use Rattle.uset_grammar.specs.Finite.{IsBounded, IsFinite, IsFiniteValue, IsFiniteLanguage}
+use Rattle.uset_grammar.specs.Language.{Value, character, set as set_value, Language}
 use Rattle.uset_grammar.specs.Answers.{Answer, read as reading, refused, ReadsUnder, under, IsAnswer}
 use Rattle.uset_resolve.specs.Laws.{SourcesAreBounded}
 use Rattle.uset_reader.specs.Syntaxes.{language_by, language_of}
-use Rattle.uset_tool.specs.Script.{stripped, at_space, onto_front, as_character, hex_onto, character_of, onto_field, spaced, both, characters_of, string_of, Definition, character as character_definition, string as string_definition, set as set_definition, definition_by, definition_of, ScriptLine, silent, pattern, binding, bad, binding_or_bad, named, let_or_bad, pattern_or, is_silent, script_line}
-use Rattle.uset_tool.specs.Answer.{Variables, with_binding, string_or_character, AreStrings, PatternAnswer, read, fault, read_text, fault_text, bound_text, is_bound_text, text_after_text, bad_line_text, DefinitionAnswer, a_character, a_string, a_set, text_after, no_set, BindingAnswer, bound_before, free, LineAnswer, ScriptAnswer, ends, answers}
+use Rattle.uset_tool.specs.Script.{stripped, at_space, onto_front, as_character, hex_onto, character_of, spaced, both, characters_of, string_of, Definition, character as character_definition, string as string_definition, set as set_definition, definition_by, definition_of, ScriptLine, silent, pattern, binding, bad, binding_or_bad, named, let_or_bad, pattern_or, is_silent, script_line}
+use Rattle.uset_tool.specs.Answer.{Variables, with_binding, string_or_character, PatternAnswer, read, fault, read_text, fault_text, bound_text, is_bound_text, text_after_text, bad_line_text, DefinitionAnswer, a_character, a_string, a_set, text_after, no_set, bound_before, free, LineAnswer, ScriptAnswer, ends, answers}
 use Rattle.uset_variables.specs.Variables.{no_variables}
 use Rattle.uset_tool.specs.declared.status.Status.{Status}
 use Rattle.uset_tool.specs.declared.status.Status.TheVariants.{Done, SomeErr, Usage, Tables as Tables_status, NotText, TooLong}

@@ -1,5 +1,5 @@
 -- Each line has one answer.
-use Rattle.std.proofs.Common.{◌≡◌, ℕ, ◌+◌, Bool, true, false, ◌||◌, List, [], ◌∷◌, ◌++◌, length, encode_utf8_all, is_some, refl, sym, ap, ap₂, ◌∙◌, subst, append_assoc, append-nil, length-append, Option, None, Some, IfSome, Err, arith}
+use Rattle.std.proofs.Common.{◌≡◌, ℕ, Bool, true, false, ◌||◌, List, [], ◌∷◌, ◌++◌, refl, sym, ap, ap₂, ◌∙◌, subst, append_assoc, append-nil, length-append, Option, None, Some, IfSome, Ok, Err, arith}
 use Rattle.std.proofs.lemmas.Bool.{both_ways}
 use Rattle.std.specs.Str.{chars}
 use Rattle.cp_invlist.specs.declared.ranges.CodePointRange.{CodePointRange}
@@ -13,7 +13,7 @@ use Rattle.uset_grammar.specs.Outcome.{Kind}
 use Rattle.uset_grammar.specs.Tree.{Tree, point, string, has}
 use Rattle.uset_grammar.specs.Language.{Language, set as set_value}
 use Rattle.uset_grammar.specs.Place.{size}
-use Rattle.uset_grammar.specs.Answers.{Answer, read as reading, refused, ReadsUnder, IsFault, IsAnswer}
+use Rattle.uset_grammar.specs.Answers.{Answer, ReadsUnder, IsFault, IsAnswer}
 use Rattle.uset_grammar.specs.Laws.{FiniteSets, RestsAreLast}
 use Rattle.uset_resolve.specs.Laws.{SourcesAreBounded}
 use Rattle.uset_reader.specs.Laws.{OneAnswer}
@@ -283,11 +283,10 @@ last_stops tables start variables all pending errs (Some before) middle new e he
 
 -- all lines are answered, and the last of the answers was written
 pub all_answered : (tables : Tables) (start variables : Variables) (all : List (List ℕ)) (pending : List ℕ) (errs : Bool) (old middle new : Option (List ℕ)) → Holds tables start all variables [] errs pending old middle → Appends middle new pending →
-    IfSome old (λ before. (text : List ℕ) × ScriptAnswer tables start all text errs × (new ≡ Some (before ++ text)))
-all_answered tables start variables all pending errs None middle new held written = tt
-all_answered tables start variables all pending errs (Some before) middle new held written =
+    AnswersScript tables start all old new (Ok errs)
+all_answered tables start variables all pending errs old middle new held written =
     let text = held.text in (
       text,
       subst (λ t. ScriptAnswer tables start all t errs) (append-nil text) (subst (λ b. ScriptAnswer tables start all (text ++ []) b) (or-false errs) (held.answered.joins [] false ends)),
-      Appends-more (Some before) middle new held.written pending held.appended written ∙ ap (λ t. Some (before ++ t)) (sym held.parts),
+      subst (λ t. Appends old new t) (sym held.parts) (Appends-more old middle new held.written pending held.appended written),
     )

@@ -29,10 +29,10 @@ abbrev pub StopsWithin : WriteError → List ℕ → List ℕ → List ℕ → T
 StopsWithin Failed before now text = IsProperFront before now text
 StopsWithin NoMemory before now text = IsFront before now text
 
--- the answers to the lines, and whether an `err` line is among them; or how far they came
+-- The answers to the lines, and whether an `err` line is among them, which is known also where the sink tells nothing; or
+-- how far they came.
 abbrev pub AnswersScript : Tables → Variables → List (List ℕ) → Option (List ℕ) → Option (List ℕ) → Result Bool WriteError → Type 0
-AnswersScript tables variables lines old new (Ok errs) =
-    IfSome old (λ before. (text : List ℕ) × ScriptAnswer tables variables lines text errs × (new ≡ Some (before ++ text)))
+AnswersScript tables variables lines old new (Ok errs) = (text : List ℕ) × ScriptAnswer tables variables lines text errs × Appends old new text
 AnswersScript tables variables lines old new (Err e) = IfSome old (λ before. (now : List ℕ) × (new ≡ Some now)
     × ((text : List ℕ) (errs : Bool) → ScriptAnswer tables variables lines text errs → StopsWithin e before now text))
 

@@ -15,17 +15,21 @@ Rose old new = (old < new) ⊎ (last_count ≤ new)
 abbrev pub NoFault : ℕ → ℕ → Type 0
 NoFault old new = Rose old new → ⊥
 
+-- the bytes that were told are those that are told now
+abbrev pub Stays : Option (List ℕ) → Option (List ℕ) → Type 0
+Stays old new = IfSome old (λ bytes. new ≡ Some bytes)
+
 -- A read took its bytes off the front of what was left and put them at the front of the buffer, and took none only where
 -- nothing was left; a read that failed took nothing.
 abbrev pub ReadsFront : {E : Type 0} → Option (List ℕ) → Option (List ℕ) → Result ℕ E → List ℕ → Type 0
 ReadsFront old new (Ok n) buf =
     IfSome old (λ bytes. (n ≤ length bytes) × (take n buf ≡ take n bytes) × (new ≡ Some (drop n bytes)) × (n ≡ 0 → bytes ≡ []))
-ReadsFront old new (Err e) buf = new ≡ old
+ReadsFront old new (Err e) buf = Stays old new
 
 -- a write appended the front of the piece, and a write that was refused nothing
 abbrev pub WritesFront : {E : Type 0} → Option (List ℕ) → Option (List ℕ) → Result ℕ E → List ℕ → Type 0
 WritesFront old new (Ok n) piece = IfSome old (λ before. new ≡ Some (before ++ take n piece))
-WritesFront old new (Err e) piece = new ≡ old
+WritesFront old new (Err e) piece = Stays old new
 
 -- all of the text was appended
 abbrev pub Appends : Option (List ℕ) → Option (List ℕ) → List ℕ → Type 0

@@ -77,6 +77,22 @@ IsWritten A before now NoMemory = (text : List ℕ) (status : Status) → A text
 abbrev pub Writes : AnswersOf → Option (List ℕ) → Option (List ℕ) → Status → Type 0
 Writes A old new status = IfSome old (λ before. (now : List ℕ) × (new ≡ Some now) × IsWritten A before now status)
 
+-- there is an answer with this status, also where the sink tells nothing, and the whole of it was appended
+abbrev pub AppendsWhole : AnswersOf → Option (List ℕ) → Option (List ℕ) → Status → Type 0
+AppendsWhole A old new status = (text : List ℕ) × A text status × Appends old new text
+
+-- The same as `Writes`, and where an answer was appended whole, its status is known also where the sink tells nothing.
+abbrev pub AppendsAnswer : AnswersOf → Option (List ℕ) → Option (List ℕ) → Status → Type 0
+AppendsAnswer A old new Done = AppendsWhole A old new Done
+AppendsAnswer A old new SomeErr = AppendsWhole A old new SomeErr
+AppendsAnswer A old new Usage = AppendsWhole A old new Usage
+AppendsAnswer A old new Tables = AppendsWhole A old new Tables
+AppendsAnswer A old new NotText = AppendsWhole A old new NotText
+AppendsAnswer A old new TooLong = AppendsWhole A old new TooLong
+AppendsAnswer A old new ReadFault = Writes A old new ReadFault
+AppendsAnswer A old new WriteFault = Writes A old new WriteFault
+AppendsAnswer A old new NoMemory = Writes A old new NoMemory
+
 -- the statuses that an input which is text can have
 abbrev pub is_of_text : Status → Bool
 is_of_text Done = true

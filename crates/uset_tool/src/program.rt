@@ -7,7 +7,7 @@ ghost use Rattle.uset_tool.specs.Words.{is_known, table_fault_text};
 ghost use Rattle.text_lines.specs.Lines.{lines};
 ghost use Rattle.prop_data.specs.Database.{tables_of};
 ghost use Rattle.prop_data.specs.Forbidden.{AreAllowed};
-ghost use Rattle.uset_tool.specs.Run.{Answers, Results, Evaluates, Counts, SaysCounts, Writes, IsLeft, IsSettled, IsAccepted, IsAnswered, EndsAs, Says, SaysError, ScriptWrites, is_of_text};
+ghost use Rattle.uset_tool.specs.Run.{Answers, Results, Evaluates, Counts, SaysCounts, Writes, AppendsAnswer, IsLeft, IsSettled, IsAccepted, IsAnswered, EndsAs, Says, SaysError, ScriptWrites, is_of_text};
 
 use crate::counts::counts_text;
 use crate::input::{InputError, read_input};
@@ -90,7 +90,7 @@ fn answer<K: Sink>(alloc: Global, script: &str, database: &PropertyDatabase, sin
 
 /// Answers an input that is text: a table text and a script behind it.
 fn eval<K: Sink>(alloc: Global, input: &str, sink: &mut K) -> Status
-    ensures written { Writes (Evaluates input.now) (K.written sink.old) (K.written sink.new) result }
+    ensures written { AppendsAnswer (Evaluates input.now) (K.written sink.old) (K.written sink.new) result }
     ensures status { is_of_text result ≡ true }
     ensures failed { result ≡ Status.WriteFault → Rose (K.faults sink.old) (K.faults sink.new) }
     ensures counted { K.faults sink.old ≤ K.faults sink.new }
@@ -105,7 +105,7 @@ fn eval<K: Sink>(alloc: Global, input: &str, sink: &mut K) -> Status
 
 /// Answers an input that is text and a table text alone: how many tables of each kind it has.
 fn count<K: Sink>(alloc: Global, input: &str, sink: &mut K) -> Status
-    ensures written { Writes (Counts input.now) (K.written sink.old) (K.written sink.new) result }
+    ensures written { AppendsAnswer (Counts input.now) (K.written sink.old) (K.written sink.new) result }
     ensures status { is_of_text result ≡ true }
     ensures failed { result ≡ Status.WriteFault → Rose (K.faults sink.old) (K.faults sink.new) }
     ensures counted { K.faults sink.old ≤ K.faults sink.new }
@@ -118,7 +118,8 @@ fn count<K: Sink>(alloc: Global, input: &str, sink: &mut K) -> Status
 
 /// Answers an input that is text.
 fn answer_text<K: Sink>(alloc: Global, command: Command, input: &str, sink: &mut K) -> Status
-    ensures written { Writes (Results (command_seen command) input.now) (K.written sink.old) (K.written sink.new) result }
+    ensures written { AppendsAnswer (Results (command_seen command) input.now)
+        (K.written sink.old) (K.written sink.new) result }
     ensures status { is_of_text result ≡ true }
     ensures failed { result ≡ Status.WriteFault → Rose (K.faults sink.old) (K.faults sink.new) }
     ensures counted { K.faults sink.old ≤ K.faults sink.new }
@@ -137,7 +138,8 @@ fn answer_words<S: Source, K: Sink>(
     sink: &mut K,
 ) -> Status
     ensures written { IfSome (S.left source.old) (λ input.
-        Writes (Answers (map string_bytes words.now.items) input) (K.written sink.old) (K.written sink.new) result) }
+        AppendsAnswer (Answers (map string_bytes words.now.items) input)
+        (K.written sink.old) (K.written sink.new) result) }
     ensures left { IfSome (S.left source.old) (λ input. IsLeft input (S.left source.new) result) }
     ensures usage { result ≡ Status.Usage → is_known (map string_bytes words.now.items) ≡ false }
     ensures unknown { is_known (map string_bytes words.now.items) ≡ false → EndsAs Status.Usage result }
@@ -185,13 +187,13 @@ pub fn run<S: Source, K: Sink>(
     ensures read_fault { result ≡ Status.ReadFault → Rose (S.faults source.old) (S.faults source.new) }
     ensures write_fault { result ≡ Status.WriteFault → Rose (K.faults sink.old) (K.faults sink.new) }
 
-    // Where no fault was counted, the status is that of the one answer, or memory was refused.
-    ensures settled { IfSome (S.left source.old) (λ input. IfSome (K.written sink.old) (λ before.
+    // Where no fault was counted, the status is that of the one answer, or memory was refused, whatever the sink tells.
+    ensures settled { IfSome (S.left source.old) (λ input.
         NoFault (S.faults source.old) (S.faults source.new) → NoFault (K.faults sink.old) (K.faults sink.new) →
-        IsSettled (Answers (map string_bytes words.now.items) input) result)) }
-    ensures complete { IfSome (S.left source.old) (λ input. IfSome (K.written sink.old) (λ before.
+        IsSettled (Answers (map string_bytes words.now.items) input) result) }
+    ensures complete { IfSome (S.left source.old) (λ input.
         NoFault (S.faults source.old) (S.faults source.new) → NoFault (K.faults sink.old) (K.faults sink.new) →
-        IsAccepted (map string_bytes words.now.items) input → IsAnswered result)) }
+        IsAccepted (map string_bytes words.now.items) input → IsAnswered result) }
 {
     // The law by which an input has one answer.
     one_answer();

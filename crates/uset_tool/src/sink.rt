@@ -1,5 +1,5 @@
 //! Sinks of bytes.
-ghost use Rattle.std.specs.Prelude.{◌≡◌, ℕ, ◌+◌, ◌<◌, ◌≤◌, ◌++◌, List, [], Option, Some, None, length, IfOk, IfErr, OnOk, Err};
+ghost use Rattle.std.specs.Prelude.{◌≡◌, ℕ, ◌+◌, ◌<◌, ◌≤◌, ◌++◌, List, [], Option, Some, length, IfOk, IfErr, OnOk, Err};
 ghost use Rattle.uset_tool.specs.Answered.{Gathers, StopsGathering};
 ghost use Rattle.uset_tool.specs.Device.{WritesFront, WritesText, Rose};
 
@@ -106,8 +106,8 @@ impl Sink for SureSink {
     }
 }
 
-/// A writer of std as a sink. It tells no bytes, and counts each error of the writer, and each write
-/// that took nothing. It takes no memory.
+/// A writer of std as a sink. It tells the bytes that the writer tells, as a `Vec` does and standard output
+/// does not, and counts each error of the writer, and each write that took nothing. It takes no memory.
 #[derive(Drop)]
 pub struct StdSink<W: Write + Drop> {
     writer: W,
@@ -117,13 +117,15 @@ pub struct StdSink<W: Write + Drop> {
 impl<W: Write + Drop> StdSink<W> {
     /// A sink over the writer, with no fault counted.
     pub fn new(writer: W) -> StdSink<W>
-        ensures { ⟦<StdSink<W> as Sink>⟧.faults result ≡ 0 }
+        ensures told { ⟦<StdSink<W> as Sink>⟧.written result ≡ W.contents writer }
+        ensures counted { ⟦<StdSink<W> as Sink>⟧.faults result ≡ 0 }
     {
         StdSink { writer, faults: 0 }
     }
 
     fn fail(&mut self) -> Result<usize, WriteError>
         ensures error { result ≡ Err WriteError.Failed }
+        ensures writer { self.new.writer ≡ self.old.writer }
         ensures counted { Rose self.old.faults self.new.faults }
         ensures grows { self.old.faults ≤ self.new.faults }
     {
@@ -133,14 +135,15 @@ impl<W: Write + Drop> StdSink<W> {
 }
 
 impl<W: Write + Drop> Sink for StdSink<W> {
-    ghost written = { λ _. None };
+    ghost written = { λ s. W.contents s.writer };
 
     ghost faults = { λ s. s.faults };
 
     /// Appends the front of the piece, and takes no memory.
     fn write(&mut self, buf: &[u8]) -> Result<usize, WriteError>
         ensures within { IfOk result (λ n. (0 < n) × (n ≤ length buf.now)) }
-        ensures bytes { WritesFront None None result buf.now }
+        ensures bytes { WritesFront
+            (⟦<StdSink<W> as Sink>⟧.written self.old) (⟦<StdSink<W> as Sink>⟧.written self.new) result buf.now }
         ensures failed { IfErr result (λ error. error ≡ WriteError.Failed) }
         ensures rose { IfErr result (λ _. Rose (⟦<StdSink<W> as Sink>⟧.faults self.old) (⟦<StdSink<W> as Sink>⟧.faults self.new)) }
         ensures counted { ⟦<StdSink<W> as Sink>⟧.faults self.old ≤ ⟦<StdSink<W> as Sink>⟧.faults self.new }

@@ -1,5 +1,5 @@
 //! Sources of bytes.
-ghost use Rattle.std.specs.Prelude.{◌≡◌, ℕ, ◌<◌, ◌≤◌, List, Option, Some, None, length, IfOk, OnErr, drop};
+ghost use Rattle.std.specs.Prelude.{◌≡◌, ℕ, ◌<◌, ◌≤◌, List, Option, Some, length, IfOk, OnErr, drop};
 ghost use Rattle.uset_tool.specs.Device.{ReadsFront, Rose, last_count};
 
 use std::io::Read;
@@ -71,7 +71,8 @@ impl Source for SureSource {
     }
 }
 
-/// A reader of std as a source. It tells no bytes, and counts each error of the reader.
+/// A reader of std as a source. It tells the bytes that the reader tells, as a `Cursor` does and standard
+/// input does not, and counts each error of the reader.
 #[derive(Drop)]
 pub struct StdSource<R: Read + Drop> {
     reader: R,
@@ -81,14 +82,15 @@ pub struct StdSource<R: Read + Drop> {
 impl<R: Read + Drop> StdSource<R> {
     /// A source over the reader, with no fault counted.
     pub fn new(reader: R) -> StdSource<R>
-        ensures { ⟦<StdSource<R> as Source>⟧.faults result ≡ 0 }
+        ensures told { ⟦<StdSource<R> as Source>⟧.left result ≡ R.remaining reader }
+        ensures counted { ⟦<StdSource<R> as Source>⟧.faults result ≡ 0 }
     {
         StdSource { reader, faults: 0 }
     }
 }
 
 impl<R: Read + Drop> Source for StdSource<R> {
-    ghost left = { λ _. None };
+    ghost left = { λ s. R.remaining s.reader };
 
     ghost faults = { λ s. s.faults };
 

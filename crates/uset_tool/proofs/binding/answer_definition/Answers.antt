@@ -1,4 +1,3 @@
-use Rattle.std.proofs.Common.{sym, ap}
 use Rattle.std.specs.String.{string_bytes}
 use Rattle.std.proofs.lemmas.Result.{IfOk-weaker}
 use Rattle.prop_data.specs.Database.{tables_of}
@@ -7,7 +6,6 @@ use Rattle.uset_variables.specs.declared.value.VariableValue.TheVariants.{String
 use Rattle.uset_variables.specs.Values.{value_seen, kept}
 use Rattle.uset_variables.specs.Variables.{variables_of}
 use Rattle.uset_tool.specs.declared.answer.Answer.{Answer}
-use Rattle.uset_tool.specs.Lines.{definition_seen}
 use Rattle.uset_tool.specs.Answer.{DefinitionAnswer, IsBound}
 use Rattle.uset_tool.proofs.BindingLemmas.{character_answer, string_answer}
 use Rattle.uset_tool.proofs.binding.answer_definition.Goals as goal

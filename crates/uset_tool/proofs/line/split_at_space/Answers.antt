@@ -1,4 +1,4 @@
-use Rattle.std.proofs.Common.{Some, None, ap, sym, ◌∙◌, lit<}
+use Rattle.std.proofs.Common.{lit<}
 use Rattle.std.proofs.lemmas.Str.Pattern.{split_parts}
 use Rattle.uset_tool.proofs.LineLemmas.{at_space_cut}
 use Rattle.uset_tool.proofs.line.split_at_space.Goals as goal

@@ -1,4 +1,4 @@
-use Rattle.std.proofs.Common.{◌≡◌, List, ℕ, [], ◌∙◌, sym, ap, length}
+use Rattle.std.proofs.Common.{◌∙◌, sym, length}
 use Rattle.std.proofs.lemmas.Bool.{eqb-true}
 use Rattle.uset_tool.proofs.CharacterLemmas.{empty_string, none_of_no_length}
 use Rattle.uset_tool.proofs.line.string_of.Goals as goal

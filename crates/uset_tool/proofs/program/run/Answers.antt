@@ -1,5 +1,8 @@
-use Rattle.uset_tool.proofs.Complete.{settled_run, complete_run}
+use Rattle.uset_tool.proofs.Complete.{written_run, settled_run, complete_run}
 use Rattle.uset_tool.proofs.program.run.Goals as goal
+
+pub returns-clause-written : goal.returns-clause-written
+returns-clause-written g c = written_run _ _ _ _ _ c.answer_words.ensures.written
 
 pub returns-clause-settled : goal.returns-clause-settled
 returns-clause-settled g c =
