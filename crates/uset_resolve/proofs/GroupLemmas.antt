@@ -1,5 +1,5 @@
 -- The runs whose values pass a test hold the code points whose values do.
-use Rattle.std.proofs.Common.{◌≡◌, ℕ, ◌+◌, ◌<◌, ◌≤◌, Bool, true, false, cond, ◌&&◌, ◌||◌, nat_lt, List, [], ◌∷◌, Option, Some, None, refl, sym, ap, ap₂, ◌∙◌, inl, inr, arith}
+use Rattle.std.proofs.Common.{◌≡◌, ℕ, ◌+◌, ◌<◌, ◌≤◌, Bool, true, false, cond, ◌==◌, ◌&&◌, ◌||◌, nat_lt, List, [], ◌∷◌, Option, Some, None, refl, sym, ap, ap₂, ◌∙◌, inl, inr, arith}
 use Rattle.std.proofs.lemmas.Bool.{cases_lt}
 use Rattle.std.proofs.lemmas.Bool.Decides.{nat_tests}
 use Rattle.cp_invlist.specs.InversionList.{is_code_point}
@@ -13,6 +13,14 @@ use Rattle.uset_resolve.specs.Resolution.{group_bits}
 abbrev pub passing : (ℕ → Bool) → List (CodePointMapRange ℕ) → ℕ → Bool
 passing test [] c = false
 passing test (r ∷ rs) c = (in_code_points r.range c && test r.value) || passing test rs c
+
+-- two numbers are equal
+abbrev pub same_number : ℕ → ℕ → Bool
+same_number x y = x == y
+
+pub or_assoc : (a b d : Bool) → ((a || b) || d) ≡ (a || (b || d))
+or_assoc true b d = refl
+or_assoc false b d = refl
 
 or_false : (b : Bool) → (b || false) ≡ b
 or_false true = refl

@@ -1,5 +1,6 @@
 pub mod Keys
 pub mod Decimal
+pub mod Joining
 pub mod Resolution
 pub mod Sources
 pub mod Laws
