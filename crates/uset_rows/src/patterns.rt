@@ -36,7 +36,8 @@ const CODE_POINTS: [(&str, &str); 25] = [
 ];
 
 /// Sets inside a set.
-const SETS: [(&str, &str); 14] = [
+const SETS: [(&str, &str); 15] = [
+    ("[$a$ ]", "6 0061 FFFF"),
     ("[[a-a][b-z] - [a-d][e-z]]", "25 0065-007A"),
     ("[[a-a][b-z] - [a-z][]]", "22"),
     ("[-[a-z]&[b]]", "12 0062"),

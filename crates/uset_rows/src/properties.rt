@@ -209,7 +209,8 @@ const UNEXPECTED: [(&str, &str); 25] = [
 ];
 
 /// Properties that cannot stand there.
-const UNFIT: [(&str, &str); 3] = [
+const UNFIT: [(&str, &str); 4] = [
+    ("[a-\\p{ll}]", "[a-\\"),
     ("[a-\\p{AHex}]", "[a-\\"),
     ("[a-\\P{AHex}x", "[a-\\"),
     ("[--\\p{AHex}]", "[--\\"),
