@@ -1,7 +1,10 @@
 -- Brackets that gather.
-use Rattle.std.proofs.Common.{◌≡◌, ◌≢◌, ◌<◌, ◌+◌, ℕ, suc, Bool, true, false, List, [], ◌∷◌, ◌++◌, length, take, slice_index_or, Option, Some, None, refl, sym, ap, ◌∙◌, subst, arith}
+use Rattle.std.proofs.Common.{◌≡◌, ◌≢◌, ◌<◌, ◌+◌, ℕ, suc, Bool, true, false, List, [], ◌∷◌, ◌++◌, length, take, slice_index_or, Option, Some, None, Result, Ok, Err, OnOk, Box, not, ◌||◌, ◌&&◌, refl, sym, ap, ◌∙◌, subst, arith}
 use Rattle.std.proofs.Math.Seq.{take-suc}
-use Rattle.uset_grammar.specs.Tree.{Member, has, Steps, add, gathers, leading_hyphen}
+use Rattle.std.specs.Global.{Global}
+use Rattle.std.specs.declared.string.String.{String}
+use Rattle.std.specs.String.{string_bytes}
+use Rattle.uset_grammar.specs.Tree.{Tree, Member, has, Steps, add, gathers, leading_hyphen}
 use Rattle.uset_grammar.specs.Item.{Item, chars, tree_of}
 use Rattle.uset_grammar.specs.Body.{add_each}
 use Rattle.uset_grammar.specs.Text.{Text}
@@ -11,26 +14,38 @@ use Rattle.uset_grammar.specs.Place.{size}
 use Rattle.uset_grammar.specs.Turn.{greatest, reversed_code}
 use Rattle.uset_grammar.specs.Laws.{AwaitedTells}
 use Rattle.uset_gather.specs.declared.gathered.Gathered.{Gathered}
-use Rattle.uset_gather.specs.Gathered.{gathered_in}
+use Rattle.uset_gather.specs.Gathered.{gathered_in, is_string}
+use Rattle.uset_grammar.specs.Language.{Language}
+use Rattle.uset_steps.specs.declared.gathering.Gathering.{Gathering}
+use Rattle.uset_steps.specs.declared.named_set.Named.{Named as NamedOperand}
+use Rattle.uset_steps.specs.declared.step.Operation.{Operation}
+use Rattle.uset_steps.specs.declared.step.Operation.TheVariants.{Join, Remove, Retain}
+use Rattle.uset_steps.specs.Names.{Sets, named_in, IsSetOf}
+use Rattle.uset_steps.specs.Steps.{operated}
+use Rattle.uset_steps.specs.Gathering.{gathering_in, closed as finished, Fits as NamesFit, Becomes as StepsBecome, BecomesWith as StepsBecomeWith}
+use Rattle.uset_reader.specs.declared.item.Codes.{Codes}
+use Rattle.uset_reader.specs.declared.item.Item.TheVariants.{Several, Text as Spelled}
+use Rattle.uset_reader.specs.declared.item.Operand.TheVariants.{Inner, Named}
+use Rattle.uset_reader.specs.Named.{sets_of}
 use Rattle.uset_reader.specs.declared.bracket.Opening.{Opening as CodeOpening}
 use Rattle.uset_reader.specs.declared.bracket.OpenBracket.{OpenBracket as CodeBracket}
 use Rattle.uset_reader.specs.declared.bracket.Taken.{Taken}
 use Rattle.uset_reader.specs.declared.bracket.Taken.TheVariants.{Fits, Reversed, Unfit}
 use Rattle.uset_reader.specs.declared.arrange.Arranged.{Arranged}
-use Rattle.uset_reader.specs.declared.arrange.Operation.{Operation}
 use Rattle.uset_reader.specs.declared.arrange.Awaits.TheVariants.{Element}
-use Rattle.uset_reader.specs.Items.{number_of, awaits_seen, arranged_steps, Arranges, own_steps}
-use Rattle.uset_reader.specs.Brackets.{opening_seen, KeepsFrame, Becomes, Stands, begun, Took, Refused, Became, Refuses, Closed, EndedAs, finished}
+use Rattle.uset_reader.specs.Items.{number_of, awaits_seen, arranged_steps, Arranges, operated as operated_steps, own_steps}
+use Rattle.uset_reader.specs.Brackets.{opening_seen, KeepsFrame, Follows, Becomes, BecomesWith, GathersItem, GathersSet, Stands, begun, Took, Refused, Became, Refuses, Closed, EndedAs}
 
 -- a bracket that begins
-pub begins : (b : CodeBracket) (opening : CodeOpening) (before : Text) (place : ℕ) → b.opening ≡ opening → b.awaits ≡ Element → b.before ≡ place → place ≡ size before →
-    ((m : Member) → gathered_in b.gathered m ≡ leading_hyphen opening.leading m) → Stands b (begun before opening)
-begins b opening before place o a p at g = record {
+pub begins : (l : Language) (b : CodeBracket) (opening : CodeOpening) (before : Text) (place : ℕ) → b.opening ≡ opening → b.awaits ≡ Element → b.before ≡ place → place ≡ size before →
+    ((m : Member) → gathering_in b.gathered m ≡ leading_hyphen opening.leading m) → NamesFit (sets_of l) b.gathered → Stands l b (begun before opening)
+begins l b opening before place o a p at g fits = record {
   header = sym (ap opening_seen o);
   before = p ∙ at;
   steps = same;
   awaited = ap (λ s. on (awaits_seen s) same) (sym a);
   gathered = λ rest m. ap (gathers rest m) (sym (g m));
+  fits = fits;
 }
 
 -- one more code point
@@ -38,11 +53,14 @@ each_more : (cs : List ℕ) (c : ℕ) (rest : Steps) → add_each (cs ++ c ∷ [
 each_more [] c rest = refl
 each_more (d ∷ cs) c rest = ap (add d d) (each_more cs c rest)
 
-pub becomes_more : (old between new : Gathered) (cs : List ℕ) (c : ℕ) → Becomes old (add_each cs) between → Becomes between (add c c) new → Becomes old (add_each (cs ++ c ∷ [])) new
-becomes_more old between new cs c h k rest m = ap (λ s. gathers s m (gathered_in old m)) (each_more cs c rest) ∙ (h (add c c rest) m ∙ k rest m)
+pub becomes_more : (old between new : Gathering) (cs : List ℕ) (c : ℕ) → Becomes old (add_each cs) between → Becomes between (add c c) new → Becomes old (add_each (cs ++ c ∷ [])) new
+becomes_more old between new cs c h k = record {
+  follows = λ rest m. ap (λ s. gathers s m (gathering_in old m)) (each_more cs c rest) ∙ (h.follows (add c c rest) m ∙ k.follows rest m);
+  fits = λ sets f. k.fits sets (h.fits sets f);
+}
 
 -- the next code point of a list
-pub becomes_next : (old between new : Gathered) (first : ℕ) (cs : List ℕ) (i d : ℕ) → i < length cs → Becomes old (add_each (first ∷ take i cs)) between →
+pub becomes_next : (old between new : Gathering) (first : ℕ) (cs : List ℕ) (i d : ℕ) → i < length cs → Becomes old (add_each (first ∷ take i cs)) between →
     Becomes between (add (slice_index_or cs i d) (slice_index_or cs i d)) new → Becomes old (add_each (first ∷ take (i + 1) cs)) new
 becomes_next old between new first cs i d below h k =
     let one : i + 1 ≡ suc i = omega arith in
@@ -54,8 +72,8 @@ pub keeps_then : (old between new : CodeBracket) → KeepsFrame old between → 
 keeps_then old between new h k = record { opening = k.opening ∙ h.opening; before = k.before ∙ h.before; awaits = k.awaits ∙ h.awaits }
 
 -- one after another
-pub becomes_then : (old between new : Gathered) (f g : Steps → Steps) → Becomes old f between → Becomes between g new → Becomes old (λ rest. f (g rest)) new
-becomes_then old between new f g h k rest m = h (g rest) m ∙ k rest m
+pub becomes_then : (l : Language) (old between new : Gathering) (f g : Steps → Steps) → Becomes old f between → BecomesWith l between g new → BecomesWith l old (λ rest. f (g rest)) new
+becomes_then l old between new f g h k = record { follows = λ rest m. h.follows (g rest) m ∙ k.follows rest m; fits = k.fits }
 
 -- the own steps of several code points
 pub own_several : (operation : Operation) (c : ℕ) (cs : List ℕ) (rest : Steps) → cs ≢ [] → own_steps operation (chars (c ∷ cs)) rest ≡ add_each (c ∷ cs) rest
@@ -63,10 +81,10 @@ own_several operation c [] rest n = absurd (n refl)
 own_several operation c (d ∷ cs) rest n = refl
 
 -- an item that was arranged and gathered
-pub took : (awaited : AwaitedTells) (old new : CodeBracket) (o : OpenBracket) (i : Item) (a : Arranged) (n : Next) → next (awaits_seen old.awaits) i ≡ n → Arranges n i (Some a) →
-    new.awaits ≡ a.awaits → new.opening ≡ old.opening → new.before ≡ old.before → Becomes old.gathered (arranged_steps a i) new.gathered → Stands old o → Took old new o i
-took awaited old new o i a stuck e h w op be g s = absurd h
-took awaited old new o i a (on t f) e h w op be g s =
+pub took : (l : Language) (awaited : AwaitedTells) (old new : CodeBracket) (o : OpenBracket) (i : Item) (a : Arranged) (n : Next) → next (awaits_seen old.awaits) i ≡ n → Arranges n i (Some a) →
+    new.awaits ≡ a.awaits → new.opening ≡ old.opening → new.before ≡ old.before → BecomesWith l old.gathered (arranged_steps a i) new.gathered → Stands l old o → Took l old new o i
+took l awaited old new o i a stuck e h w op be g s = absurd h
+took l awaited old new o i a (on t f) e h w op be g s =
     let more = awaited o.items (awaits_seen old.awaits) s.steps s.awaited i in record {
       fits = more.0 ∙ ap went e;
       stands = record {
@@ -74,23 +92,24 @@ took awaited old new o i a (on t f) e h w op be g s =
         before = be ∙ s.before;
         steps = λ rest. s.steps (f rest);
         awaited = more.1 ∙ (ap (after s.steps) e ∙ ap (λ z. on z (λ rest. s.steps (f rest))) (h.0 ∙ ap awaits_seen (sym w)));
-        gathered = λ rest m. s.gathered (f rest) m ∙ (ap (λ z. gathers z m (gathered_in old.gathered m)) (h.1 rest) ∙ g rest m);
+        gathered = λ rest m. s.gathered (f rest) m ∙ (ap (λ z. gathers z m (gathering_in old.gathered m)) (h.1 rest) ∙ g.follows rest m);
+        fits = g.fits;
       };
     }
 
 -- an item that was refused
-refused_with : (awaited : AwaitedTells) (old : CodeBracket) (o : OpenBracket) (i : Item) (code : Option ℕ) → next (awaits_seen old.awaits) i ≡ stuck →
-    reversed_code i (went (next (awaits_seen old.awaits) greatest)) ≡ code → Stands old o → Refused o i code
-refused_with awaited old o i code e r s = record {
+refused_with : (l : Language) (awaited : AwaitedTells) (old : CodeBracket) (o : OpenBracket) (i : Item) (code : Option ℕ) → next (awaits_seen old.awaits) i ≡ stuck →
+    reversed_code i (went (next (awaits_seen old.awaits) greatest)) ≡ code → Stands l old o → Refused o i code
+refused_with l awaited old o i code e r s = record {
   unfit = (awaited o.items (awaits_seen old.awaits) s.steps s.awaited i).0 ∙ ap went e;
   reversed = ap (reversed_code i) (awaited o.items (awaits_seen old.awaits) s.steps s.awaited greatest).0 ∙ r;
 }
 
-pub refused : (awaited : AwaitedTells) (old new : CodeBracket) (o : OpenBracket) (i : Item) (taken : Taken) → next (awaits_seen old.awaits) i ≡ stuck →
-    Refuses (awaits_seen old.awaits) i taken → Stands old o → Became old taken new o i
-refused awaited old new o i Fits e h s = absurd h
-refused awaited old new o i (Reversed c) e h s = refused_with awaited old o i (Some (number_of c)) e (h e) s
-refused awaited old new o i Unfit e h s = refused_with awaited old o i None e (h e) s
+pub refused : (l : Language) (awaited : AwaitedTells) (old new : CodeBracket) (o : OpenBracket) (i : Item) (taken : Taken) → next (awaits_seen old.awaits) i ≡ stuck →
+    Refuses (awaits_seen old.awaits) i taken → Stands l old o → Became l old taken new o i
+refused l awaited old new o i Fits e h s = absurd h
+refused l awaited old new o i (Reversed c) e h s = refused_with l awaited old o i (Some (number_of c)) e (h e) s
+refused l awaited old new o i Unfit e h s = refused_with l awaited old o i None e (h e) s
 
 -- an item that is not arranged is refused
 pub not_arranged : (i : Item) (n : Next) → Arranges n i None → n ≡ stuck
@@ -98,9 +117,9 @@ not_arranged i stuck h = refl
 not_arranged i (on s f) h = absurd h
 
 -- a bracket that closes
-pub closes : (b : CodeBracket) (o : OpenBracket) (all set : Gathered) (ends : Bool) → Stands b o → ends ≡ true → EndedAs (ending (awaits_seen b.awaits)) b.gathered all ends →
-    ((m : Member) → gathered_in set m ≡ finished b.opening.negated m (gathered_in all m)) → Closed o set
-closes b o all set ends s is h g = by (ending (awaits_seen b.awaits)) refl h
+pub closes : (l : Language) (b : CodeBracket) (o : OpenBracket) (all : Gathering) (set : Gathered) (ends : Bool) → Stands l b o → ends ≡ true → EndedAs (ending (awaits_seen b.awaits)) b.gathered all ends →
+    ((m : Member) → gathered_in set m ≡ finished b.opening.negated m (gathering_in all m)) → Closed o set
+closes l b o all set ends s is h g = by (ending (awaits_seen b.awaits)) refl h
   where
     by : (e : Option Steps) → ending (awaits_seen b.awaits) ≡ e → EndedAs e b.gathered all ends → Closed o set
     by None e none = absurd (let k : false ≡ true = sym none ∙ is in cc)
@@ -113,9 +132,40 @@ closes b o all set ends s is h g = by (ending (awaits_seen b.awaits)) refl h
           ∙ sym (ap (λ h. has (tree_of h (s.steps last)) m) s.header));
     }
 
-pub stays_open : (b : CodeBracket) (o : OpenBracket) (all : Gathered) (ends : Bool) → Stands b o → ends ≡ false → EndedAs (ending (awaits_seen b.awaits)) b.gathered all ends → arrange o.items ≡ None
-stays_open b o all ends s is h = by (ending (awaits_seen b.awaits)) refl h
+pub stays_open : (l : Language) (b : CodeBracket) (o : OpenBracket) (all : Gathering) (ends : Bool) → Stands l b o → ends ≡ false → EndedAs (ending (awaits_seen b.awaits)) b.gathered all ends → arrange o.items ≡ None
+stays_open l b o all ends s is h = by (ending (awaits_seen b.awaits)) refl h
   where
     by : (e : Option Steps) → ending (awaits_seen b.awaits) ≡ e → EndedAs e b.gathered all ends → arrange o.items ≡ None
     by None e none = ap arranged s.awaited ∙ ap (finish s.steps) e
     by (Some last) e some = absurd (let k : true ≡ false = sym some.0 ∙ is in cc)
+
+-- SETS AND STEPS
+pub on_ok : {A E : Type 0} (result : Result A E) {P Q : Type 0} → (P → Q) → OnOk result P → OnOk result Q
+on_ok (Ok x) f h = f h
+on_ok (Err e) f h = tt
+
+-- a set was gathered whose members the tree has
+operation_follows : (operation : Operation) (tree : Tree) (old new : Gathering) (set : Member → Bool) → ((m : Member) → gathering_in new m ≡ operated operation (set m) (gathering_in old m)) →
+    ((m : Member) → has tree m ≡ set m) → Follows old (operated_steps operation tree) new
+operation_follows Join tree old new set g same rest m = ap (gathers rest m) (ap (λ b. gathering_in old m || b) (same m) ∙ sym (g m))
+operation_follows Remove tree old new set g same rest m = ap (gathers rest m) (ap (λ b. gathering_in old m && not b) (same m) ∙ sym (g m))
+operation_follows Retain tree old new set g same rest m = ap (gathers rest m) (ap (λ b. gathering_in old m && b) (same m) ∙ sym (g m))
+
+pub gathers_inner : (operation : Operation) (set : Gathered) (old new : Gathering) → StepsBecome old new (λ m. operated operation (gathered_in set m) (gathering_in old m)) → GathersSet operation (Inner set) old new
+gathers_inner operation set old new h l tree fits is = record { follows = operation_follows operation tree old new (gathered_in set) h.has is; fits = h.fits (sets_of l) fits }
+
+pub gathers_named : (operation : Operation) (named : Box NamedOperand Global) (old new : Gathering) →
+    ((sets : Sets) → NamesFit sets old → IsSetOf sets named.value → StepsBecomeWith sets new (λ m. operated operation (named_in named.value.set m) (gathering_in old m))) → GathersSet operation (Named named) old new
+gathers_named operation named old new h l tree fits is =
+    let k = h (sets_of l) fits is.1 in record { follows = operation_follows operation tree old new (named_in named.value.set) k.has is.0; fits = k.fits }
+
+-- the code points of an escape
+pub gathers_several : (operation : Operation) (codes : Codes) (old new : Gathering) → Becomes old (add_each (codes.first ∷ codes.more.items)) new → GathersItem operation (Several codes) old new
+gathers_several operation codes old new h l tree fits is = record {
+  follows = λ rest m. ap (λ s. gathers s m (gathering_in old m)) (own_several operation codes.first codes.more.items rest codes.several) ∙ h.follows rest m;
+  fits = h.fits (sets_of l) fits;
+}
+
+-- a string
+pub gathers_text : (operation : Operation) (s : String Global) (old new : Gathering) → StepsBecome old new (λ m. gathering_in old m || is_string (string_bytes s) m) → GathersItem operation (Spelled s) old new
+gathers_text operation s old new h l tree fits is = record { follows = λ rest m. ap (gathers rest m) (sym (h.has m)); fits = h.fits (sets_of l) fits }

@@ -14,7 +14,8 @@ use Rattle.uset_grammar.specs.Property.{PropertyOutcome}
 use Rattle.cp_invlist.specs.InversionList.{contains, differ}
 use Rattle.uset_grammar.specs.Tree.{Member, point, string, has, negation, in_source}
 use Rattle.uset_grammar.specs.Language.{Language, Resolved, found, resolves, lacks}
-use Rattle.uset_gather.specs.declared.operand.Operand.{Operand}
+use Rattle.uset_steps.specs.declared.name.Name.TheVariants.{Property}
+use Rattle.uset_steps.specs.declared.named_set.NamedSet.{NamedSet}
 use Rattle.uset_read.specs.declared.property.Form.{Form as CodeForm}
 use Rattle.uset_read.specs.declared.property.Query.{Query as CodeQuery}
 use Rattle.uset_read.specs.declared.stop.Kind.{Kind as CodeKind}
@@ -26,7 +27,7 @@ use Rattle.uset_reader.specs.declared.syntax.Syntax.{Syntax}
 use Rattle.uset_resolve.specs.declared.query.Resolution.{Resolution}
 use Rattle.uset_resolve.specs.Resolution.{resolve_bytes, lacking_bytes}
 use Rattle.uset_resolve.specs.Sources.{IsResolution, Resolves}
-use Rattle.uset_reader.specs.Resolution.{resolved_by, lacked_by, IsOperandOf}
+use Rattle.uset_reader.specs.Resolution.{resolved_by, lacked_by, IsSetOfProperty}
 use Rattle.uset_reader.specs.Syntaxes.{language_seen}
 use Rattle.uset_reader.specs.Units.{OperandIs, OperandStops}
 
@@ -84,18 +85,18 @@ module _ (s : Syntax) (text : List ℕ) where
   module _ (form : CodeForm) (query : CodeQuery) (mark : List ℕ) (read : PropertyIs s.white_space.now text form query mark)
       (resolution : Resolution) (answers : IsResolution resolution (resolved_by (tables_of s.database.now) (query_seen query)) (lacked_by (tables_of s.database.now) (query_seen query))) where
     -- a property that resolves to nothing
-    pub misses : (kind : CodeKind) (at : Bor (List ℕ)) → at.now ≡ mark → IsOperandOf resolution query.negated (Err kind) → OperandStops l text (Fault kind at)
+    pub misses : (kind : CodeKind) (at : Bor (List ℕ)) → at.now ≡ mark → IsSetOfProperty resolution query.negated (Err kind) → OperandStops l text (Fault kind at)
     misses kind at same h begins =
         let is = h (resolved_by (tables_of s.database.now) (query_seen query)) (lacked_by (tables_of s.database.now) (query_seen query)) answers in
         let missed = (read s.letter begins (resolves l) (lacks l)).refused is.0 in
         (missed.0, missed.1 ∙ ap (λ m. missed.0 ++ chars m) (sym same), subst (λ k. PropertyOutcome l.white_space (resolves l) (lacks l) (chars text) (faulty k missed.0)) (sym is.1) missed.2)
 
-    pub unclosed : (operand : Operand) (stop : Stop) → IsOperandOf resolution query.negated (Ok operand) → Stops (close_in (form_seen form) (chars mark)) stop → OperandStops l text stop
-    unclosed operand stop h stops begins =
+    pub unclosed : (set : NamedSet) (stop : Stop) → IsSetOfProperty resolution query.negated (Ok set) → Stops (close_in (form_seen form) (chars mark)) stop → OperandStops l text stop
+    unclosed set stop h stops begins =
         let is = h (resolved_by (tables_of s.database.now) (query_seen query)) (lacked_by (tables_of s.database.now) (query_seen query)) answers in
         (read s.letter begins (resolves l) (lacks l)).unclosed stop is.0 stops
 
-    pub closed : (operand : Operand) (rest : List ℕ) → IsOperandOf resolution query.negated (Ok operand) → close_in (form_seen form) (chars mark) ≡ got tt (chars rest) → OperandIs l text operand rest
-    closed operand rest h ends begins =
+    pub closed : (set : NamedSet) (rest : List ℕ) → IsSetOfProperty resolution query.negated (Ok set) → close_in (form_seen form) (chars mark) ≡ got tt (chars rest) → OperandIs l text (record { name = Property query; set = set }) rest
+    closed set rest h ends begins =
         let is = h (resolved_by (tables_of s.database.now) (query_seen query)) (lacked_by (tables_of s.database.now) (query_seen query)) answers in
-        record { query = query_seen query; outcome = (read s.letter begins (resolves l) (lacks l)).closed (chars rest) is.0 ends; members = is.1 }
+        record { query = query_seen query; outcome = (read s.letter begins (resolves l) (lacks l)).closed (chars rest) is.0 ends; members = (is.1, λ m. sym (is.1 m)) }

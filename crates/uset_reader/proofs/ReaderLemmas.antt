@@ -14,8 +14,9 @@ use Rattle.uset_grammar.specs.Place.{size, offset_of}
 use Rattle.uset_grammar.specs.Turn.{accepted, rejected, Turn, goes, stops, UnitReader, turn, Means}
 use Rattle.uset_grammar.specs.Laws.{UnitsAreRead, TurnsMean, ReadAtLast, MovesOn, AllRestsAreBehind}
 use Rattle.uset_gather.specs.declared.gathered.Gathered.{Gathered}
-use Rattle.uset_gather.specs.declared.operand.Operand.{Operand}
-use Rattle.uset_gather.specs.Gathered.{gathered_in, operand_in, in_set}
+use Rattle.uset_gather.specs.Gathered.{gathered_in, in_set}
+use Rattle.uset_steps.specs.declared.named_set.Named.{Named}
+use Rattle.uset_steps.specs.Names.{named_in}
 use Rattle.uset_read.specs.declared.cursor.Cursor.{Cursor}
 use Rattle.uset_read.specs.declared.stop.Stop.{Stop}
 use Rattle.uset_read.specs.declared.stop.Stop.TheVariants.{Fault as StopFault, Ended, NoMemory as StopNoMemory}
@@ -47,8 +48,8 @@ lawful s = record { apart = s.apart; a_letter = s.letter }
 pub record OpenAt (l : Language) (source left : List ℕ) (outer : List CodeBracket) (b : CodeBracket) : Type 0 where
   pub innermost : OpenBracket
   pub others : List OpenBracket
-  pub stands : Stands b innermost
-  pub around : Around outer others
+  pub stands : Stands l b innermost
+  pub around : Around l outer others
   pub reached : Reached l (chars source) (innermost ∷ others) (chars left)
   pub here : Before source left
 
@@ -65,7 +66,7 @@ module _ (units_read : UnitsAreRead) (means : TurnsMean) (last : ReadAtLast) (on
       let on = onward l (chars source) [] (begun [] opening ∷ []) [] (chars source) (chars inner) refl moves in record {
         innermost = begun [] opening;
         others = [];
-        stands = fresh [] refl;
+        stands = fresh l [] refl;
         around = tt;
         reached = further whole moves;
         here = record { before = on.0; is = on.1 };
@@ -160,13 +161,13 @@ module _ (s : Syntax) (source : List ℕ) where
     }
 
   module _ (units : UnitReader spoken) (begins_so : first spoken (chars source) ≡ of_property) where
-    pub read_property : (operand : Operand) (made : Gathered) (rest : List ℕ) (end : Cursor) → OperandIs spoken source operand rest → ((m : Member) → gathered_in made m ≡ operand_in operand m) → source_of end ≡ source →
+    pub read_property : (named : Named) (made : Gathered) (rest : List ℕ) (end : Cursor) → OperandIs spoken source named rest → ((m : Member) → gathered_in made m ≡ named_in named.set m) → source_of end ≡ source →
         left_of end ≡ rest → IsReading spoken source made end
-    read_property operand made rest end h members same left =
+    read_property named made rest end h members same left =
         let found = h (units.property_begins (chars source) begins_so) in record {
           tree = property_tree spoken found.query;
           read = subst (λ z. Reads spoken (chars source) (property_tree spoken found.query) (chars z)) (sym left) (a_property begins_so ((found.outcome.reads found.query (chars rest)).0 refl));
-          members = λ m. members m ∙ sym (found.members m);
+          members = λ m. members m ∙ sym (found.members.0 m);
           same = same;
         }
 

@@ -36,7 +36,7 @@ use Rattle.uset_reader.specs.Fronts.{no_tree}
 use Rattle.uset_reader.specs.Brackets.{Stands, begun, IsBegun, IsItem, Takes, Closes}
 use Rattle.uset_reader.specs.declared.bracket.Opening.{Opening as CodeOpening}
 use Rattle.uset_gather.specs.declared.gathered.Gathered.{Gathered}
-use Rattle.uset_gather.specs.declared.operand.Operand.TheVariants.{Gathered as Made}
+use Rattle.uset_reader.specs.declared.item.Operand.TheVariants.{Inner}
 use Rattle.uset_reader.specs.declared.item.Item.TheVariants.{Set}
 use Rattle.uset_fault.specs.Errors.{kind_of, offset_in, kind_told, ToldAs, Tells}
 use Rattle.uset_reader.specs.Faults.{IsAt, IsBefore, IsStop}
@@ -63,11 +63,11 @@ tells_too e P Q f h = by (kind_told (kind_of e)) h
     by (Some k) h = f k (offset_in e) h
 
 -- a fault is where the turn stops
-pub stops_so : (t : Turn) (v : Verdict) (e : ParseError) (outer : List CodeBracket) (b : CodeBracket) → t ≡ stops v → Rejects v e → TurnedTo t outer b (Err e)
-stops_so t v e outer b is h = tells_too e _ _ (λ k o r. (r.0, is ∙ ap stops r.1, r.2)) h
+pub stops_so : (l : Language) (t : Turn) (v : Verdict) (e : ParseError) (outer : List CodeBracket) (b : CodeBracket) → t ≡ stops v → Rejects v e → TurnedTo l t outer b (Err e)
+stops_so l t v e outer b is h = tells_too e _ _ (λ k o r. (r.0, is ∙ ap stops r.1, r.2)) h
 
-pub stops_nowhere : (t : Turn) (e : ParseError) (outer : List CodeBracket) (b : CodeBracket) → kind_told (kind_of e) ≡ None → TurnedTo t outer b (Err e)
-stops_nowhere t e outer b is = tells_nothing e _ is
+pub stops_nowhere : (l : Language) (t : Turn) (e : ParseError) (outer : List CodeBracket) (b : CodeBracket) → kind_told (kind_of e) ≡ None → TurnedTo l t outer b (Err e)
+stops_nowhere l t e outer b is = tells_nothing e _ is
 
 pub ends_early : (e : ParseError) → kind_told (kind_of e) ≡ Some eof → offset_in e ≡ None → Rejects (rejected eof None) e
 ends_early e is o = tells e eof _ is (None, refl, o)
@@ -136,24 +136,24 @@ judged_unfit l units source q o os s i r true e = absurd (let g = e in cc)
 pub takes_fit : (source : List ℕ) (old new : CodeBracket) (item : CodeItem) (sort : CodeSort) (text : List ℕ) (rest : Bor (List ℕ)) → Takes old item Fits new →
     TakesAs source old item sort text rest.now new (Ok (GoesOn rest))
 takes_fit source old new item sort text rest h l units s i outer sorted is here behind o os stands around =
-    let took = h o i stands is in
+    let took = h l o i stands is in
     (with_item o i, os, judged_fit l units (chars source) (chars text) o os s i (chars rest.now) (fit (o.items ++ i ∷ [])) took.fits, took.stands, around)
 
 pub takes_reversed : (places : PlacesAre) (cursor : Cursor) (old new : CodeBracket) (item : CodeItem) (sort : CodeSort) (text rest : List ℕ) (c : CodePoint) (e : ParseError) → Takes old item (Reversed c) new →
     kind_told (kind_of e) ≡ Some (unexpected (as_character (number_of c))) → IsBefore cursor rest (offset_in e) → TakesAs (source_of cursor) old item sort text rest new (Err e)
 takes_reversed places cursor old new item sort text rest c e h is offset l units s i outer sorted item_is here behind o os stands around =
-    let refused = h o i stands item_is in
+    let refused = h l o i stands item_is in
     let source = chars (source_of cursor) in
-    stops_so _ (rejected (unexpected (as_character (number_of c))) (Some (last_at l units source (chars rest)))) e outer new
+    stops_so l _ (rejected (unexpected (as_character (number_of c))) (Some (last_at l units source (chars rest)))) e outer new
     (judged_unfit l units source (chars text) o os s i (chars rest) (fit (o.items ++ i ∷ [])) refused.unfit ∙ ap (λ z. stops (refusal l units source s (chars text) (chars rest) z)) refused.reversed)
     (rejects_before places l units cursor text rest e (unexpected (as_character (number_of c))) here behind is (λ t. refl) offset)
 
 pub takes_unfit : (cursor : Cursor) (old new : CodeBracket) (item : CodeItem) (sort : CodeSort) (text rest : List ℕ) (e : ParseError) → Takes old item Unfit new → IsUnfit cursor sort text rest e →
     TakesAs (source_of cursor) old item sort text rest new (Err e)
 takes_unfit cursor old new item sort text rest e h unfit l units s i outer sorted item_is here behind o os stands around =
-    let refused = h o i stands item_is in
+    let refused = h l o i stands item_is in
     let source = chars (source_of cursor) in
-    stops_so _ (refusal l units source s (chars text) (chars rest) None) e outer new
+    stops_so l _ (refusal l units source s (chars text) (chars rest) None) e outer new
     (judged_unfit l units source (chars text) o os s i (chars rest) (fit (o.items ++ i ∷ [])) refused.unfit ∙ ap (λ z. stops (refusal l units source s (chars text) (chars rest) z)) refused.reversed)
     (unfit l units s sorted here behind)
 
@@ -169,7 +169,7 @@ module _ (s : Syntax) where
       kind_told (kind_of e) ≡ Some unknown_variable → IsBefore cursor rest (offset_in e) → TakesVariable l (source_of cursor) b name text rest b (Err e)
   takes_unbound places cursor b name text rest e utf8 none is offset units outer here behind o os stands around =
       let source = chars (source_of cursor) in
-      stops_so _ (rejected unknown_variable (Some (last_at l units source (chars rest)))) e outer b
+      stops_so l _ (rejected unknown_variable (Some (last_at l units source (chars rest)))) e outer b
       (ap (λ v. named_turn l units source o os (chars text) (chars rest) v) (bound_by name utf8 ∙ ap (option_map value_seen) none))
       (rejects_before places l units cursor text rest e unknown_variable here behind is (λ t. refl) offset)
 
@@ -178,11 +178,11 @@ module _ (s : Syntax) where
   not_last v r = refl
 
   pub takes_bound : (source : List ℕ) (b new : CodeBracket) (name text rest : List ℕ) (v : VariableValue) (item : CodeItem) (result : Result Progress ParseError) → encode_utf8_all (chars name) ≡ name →
-      bound s.variables.now name ≡ Some v → IsItem item (item_of (value_seen v)) → TakesAs source b item Variable text rest new result → TakesVariable l source b name text rest new result
+      bound s.variables.now name ≡ Some v → ((l : Language) → l.variable (chars name) ≡ Some (value_seen v) → IsItem l item (item_of (value_seen v))) → TakesAs source b item Variable text rest new result → TakesVariable l source b name text rest new result
   takes_bound source b new name text rest v item result utf8 some is h units outer here behind o os stands around =
-      subst (λ t. TurnedTo t outer new result)
+      subst (λ t. TurnedTo l t outer new result)
       (sym (ap (λ z. named_turn l units (chars source) o os (chars text) (chars rest) z) (bound_by name utf8 ∙ ap (option_map value_seen) some)))
-      (h l units of_variable_name (item_of (value_seen v)) outer refl is here behind o os stands around)
+      (h l units of_variable_name (item_of (value_seen v)) outer refl (is l (bound_by name utf8 ∙ ap (option_map value_seen) some)) here behind o os stands around)
 
 -- UNITS
 module _ (places : PlacesAre) (awaited : AwaitedTells) (l : Language) (cursor : Cursor) (b : CodeBracket) (text : List ℕ) (several : Bool) (fits : several ≡ went (next (awaits_seen b.awaits) two)) where
@@ -190,7 +190,7 @@ module _ (places : PlacesAre) (awaited : AwaitedTells) (l : Language) (cursor : 
   whole = chars (source_of cursor)
 
   -- the outcome of the unit that the grammar's turn asks
-  asked : (units : UnitReader l) → front l (chars text) ≡ begins_unit → is_short (chars text) ≡ false → (o : OpenBracket) → Stands b o → (x : Outcome Meaning) →
+  asked : (units : UnitReader l) → front l (chars text) ≡ begins_unit → is_short (chars text) ≡ false → (o : OpenBracket) → Stands l b o → (x : Outcome Meaning) →
       UnitOutcome l.white_space several (resolves l) (lacks l) (chars text) x → units.unit_at (fit (o.items ++ two ∷ [])) (chars text) ≡ x
   asked units f long o stands x is =
       let fit_is = (awaited o.items (awaits_seen b.awaits) stands.steps stands.awaited two).0 in
@@ -211,8 +211,8 @@ module _ (places : PlacesAre) (awaited : AwaitedTells) (l : Language) (cursor : 
   takes_stopped StopNoMemory e stopped is units outer here f long o os stands around = tells_nothing e _ is
 
   module _ (item : CodeItem) (rest : List ℕ) (read : UnitIs l several text item rest) where
-    taken_turn : (units : UnitReader l) → front l (chars text) ≡ begins_unit → is_short (chars text) ≡ false → (o : OpenBracket) (os : List OpenBracket) → Stands b o → (x : Bool) →
-        ((i : Item) → IsItem item i → is_last_property of_unit i (chars rest) ≡ x) → (i : Item) × IsItem item i × (unit_turn l units whole o os (chars text) (units.unit_at (fit (o.items ++ two ∷ [])) (chars text))
+    taken_turn : (units : UnitReader l) → front l (chars text) ≡ begins_unit → is_short (chars text) ≡ false → (o : OpenBracket) (os : List OpenBracket) → Stands l b o → (x : Bool) →
+        ((i : Item) → IsItem l item i → is_last_property of_unit i (chars rest) ≡ x) → (i : Item) × IsItem l item i × (unit_turn l units whole o os (chars text) (units.unit_at (fit (o.items ++ two ∷ [])) (chars text))
         ≡ cond x (stops (rejected eof None)) (judged l units whole o os (chars text) of_unit i (chars rest) (fit (o.items ++ i ∷ []))))
     taken_turn units f long o os stands x last =
         let found = read (units.unit_begins (chars text) f long) in
@@ -221,19 +221,19 @@ module _ (places : PlacesAre) (awaited : AwaitedTells) (l : Language) (cursor : 
         (i, found.item_is, ap (λ z. unit_turn l units whole o os (chars text) z) t ∙ ap (λ z. cond z (stops (rejected eof None)) (judged l units whole o os (chars text) of_unit i (chars rest) (fit (o.items ++ i ∷ [])))) (last i found.item_is))
 
     -- a property with nothing behind it
-    pub takes_last : (e : ParseError) → ((i : Item) → IsItem item i → is_last_property of_unit i (chars rest) ≡ true) → kind_told (kind_of e) ≡ Some eof → offset_in e ≡ None → TakesUnit l (source_of cursor) b text b (Err e)
+    pub takes_last : (e : ParseError) → ((i : Item) → IsItem l item i → is_last_property of_unit i (chars rest) ≡ true) → kind_told (kind_of e) ≡ Some eof → offset_in e ≡ None → TakesUnit l (source_of cursor) b text b (Err e)
     takes_last e last is offset units outer here f long o os stands around =
         let t = taken_turn units f long o os stands true last in
         tells e eof _ is (None, t.2, offset)
 
     -- any other unit
-    pub takes_unit : (new : CodeBracket) (result : Result Progress ParseError) → RestsAreBehind l → ((i : Item) → IsItem item i → is_last_property of_unit i (chars rest) ≡ false) →
+    pub takes_unit : (new : CodeBracket) (result : Result Progress ParseError) → RestsAreBehind l → ((i : Item) → IsItem l item i → is_last_property of_unit i (chars rest) ≡ false) →
         TakesAs (source_of cursor) b item Written text rest new result → TakesUnit l (source_of cursor) b text new result
     takes_unit new result behind goes_on h units outer here f long o os stands around =
         let t = taken_turn units f long o os stands false goes_on in
         let found = read (units.unit_begins (chars text) f long) in
         let unit = (found.outcome.reads found.unit (chars rest)).0 refl in
-        subst (λ z. TurnedTo z outer new result) (sym t.2)
+        subst (λ z. TurnedTo l z outer new result) (sym t.2)
         (h l units of_unit t.0 outer (λ z. (let g = z in cc)) t.1 here (behind.units several (chars text) (chars rest) found.unit unit) o os stands around)
 
 -- BRACKETS
@@ -245,10 +245,10 @@ pub none_popped : (old new : List CodeBracket) (n : ℕ) → old ≡ new ++ [] �
 none_popped old new n parts rest none = parts ∙ (append-nil new ∙ (rest ∙ ap (λ m. take (m - 1) old) none))
 
 -- an item that wasn't taken doesn't fit
-pub misfits : (old new : CodeBracket) (item : CodeItem) (taken : Taken) → (taken ≡ Fits → ⊥) → Takes old item taken new → (o : OpenBracket) (i : Item) → Stands old o → IsItem item i → fit (o.items ++ i ∷ []) ≡ false
-misfits old new item Fits n h o i s is = absurd (n refl)
-misfits old new item (Reversed c) n h o i s is = (h o i s is).unfit
-misfits old new item Unfit n h o i s is = (h o i s is).unfit
+pub misfits : (old new : CodeBracket) (item : CodeItem) (taken : Taken) → (taken ≡ Fits → ⊥) → Takes old item taken new → (l : Language) (o : OpenBracket) (i : Item) → Stands l old o → IsItem l item i → fit (o.items ++ i ∷ []) ≡ false
+misfits old new item Fits n h l o i s is = absurd (n refl)
+misfits old new item (Reversed c) n h l o i s is = (h l o i s is).unfit
+misfits old new item Unfit n h l o i s is = (h l o i s is).unfit
 
 -- a bracket opens inside
 pub opens_inside : (places : PlacesAre) (cursor : Cursor) (outer new_outer : List CodeBracket) (b new : CodeBracket) (opening : CodeOpening) (text : List ℕ) (inner : Bor (List ℕ)) (offset : ℕ) →
@@ -260,45 +260,45 @@ opens_inside places cursor outer new_outer b new opening text inner offset at_te
       begun (at l units whole (chars text)) opening,
       o ∷ os,
       refl,
-      is (at l units whole (chars text)) (at_text here.before here.is ∙ ap size (sym place)),
-      subst (λ bs. AllStand bs (o ∷ os)) (sym (ap reverse pushed ∙ reverse-snoc outer b)) (stands, around),
+      is l (at l units whole (chars text)) (at_text here.before here.is ∙ ap size (sym place)),
+      subst (λ bs. AllStand l bs (o ∷ os)) (sym (ap reverse pushed ∙ reverse-snoc outer b)) (stands, around),
     )
 
 -- a `]` that doesn't fit
 pub closes_unfit : (places : PlacesAre) (cursor : Cursor) (outer new_outer : List CodeBracket) (b new : CodeBracket) (text rest : List ℕ) (e : ParseError) → Closes b None → kind_told (kind_of e) ≡ Some (unexpected 0x5D) →
     IsAt cursor text (offset_in e) → ClosesAs (source_of cursor) outer b text rest new_outer new (Err e)
 closes_unfit places cursor outer new_outer b new text rest e h is offset l units here o os stands around =
-    stops_so _ (rejected (unexpected 0x5D) (Some (at l units (chars (source_of cursor)) (chars text)))) e new_outer new
-    (ap (λ z. closed l units (chars (source_of cursor)) o os (chars text) (chars rest) z) (h o stands))
+    stops_so l _ (rejected (unexpected 0x5D) (Some (at l units (chars (source_of cursor)) (chars text)))) e new_outer new
+    (ap (λ z. closed l units (chars (source_of cursor)) o os (chars text) (chars rest) z) (h l o stands))
     (rejects_at places l units cursor text e (unexpected 0x5D) here is (λ t. refl) offset)
 
-none_around : (os : List OpenBracket) → AllStand [] os → os ≡ []
-none_around [] h = refl
-none_around (o ∷ os) h = absurd h
+none_around : (l : Language) (os : List OpenBracket) → AllStand l [] os → os ≡ []
+none_around l [] h = refl
+none_around l (o ∷ os) h = absurd h
 
 -- the outermost bracket closes
 pub closes_outermost : (source : List ℕ) (outer new_outer : List CodeBracket) (b new : CodeBracket) (text : List ℕ) (rest : Bor (List ℕ)) (made : Gathered) → Closes b (Some made) → outer ≡ [] →
     ClosesAs source outer b text rest.now new_outer new (Ok (Done made rest))
 closes_outermost source outer new_outer b new text rest made h none l units here o os stands around =
-    let shut = h o stands in
-    let alone = none_around os (subst (λ bs. AllStand (reverse bs) os) none around) in (
+    let shut = h l o stands in
+    let alone = none_around l os (subst (λ bs. AllStand l (reverse bs) os) none around) in (
       tree_of o.header shut.steps,
       ap (λ z. closed l units (chars source) o os (chars text) (chars rest.now) z) shut.arranged ∙ ap (λ z. closed l units (chars source) o z (chars text) (chars rest.now) (Some shut.steps)) alone,
       shut.members,
     )
 
 -- the bracket around the innermost one
-pub record BracketAround (around : CodeBracket) (outer : List CodeBracket) (os : List OpenBracket) : Type 0 where
+pub record BracketAround (l : Language) (around : CodeBracket) (outer : List CodeBracket) (os : List OpenBracket) : Type 0 where
   pub next : OpenBracket
   pub further : List OpenBracket
   pub are : os ≡ next ∷ further
-  pub stands : Stands around next
-  pub around_too : Around outer further
+  pub stands : Stands l around next
+  pub around_too : Around l outer further
 
-bracket_around : (outer left : List CodeBracket) (around : CodeBracket) (os : List OpenBracket) → outer ≡ left ++ around ∷ [] → Around outer os → BracketAround around left os
-bracket_around outer left around os is h = by os refl (subst (λ bs. AllStand bs os) (ap reverse is ∙ reverse-snoc left around) h)
+bracket_around : (l : Language) (outer left : List CodeBracket) (around : CodeBracket) (os : List OpenBracket) → outer ≡ left ++ around ∷ [] → Around l outer os → BracketAround l around left os
+bracket_around l outer left around os is h = by os refl (subst (λ bs. AllStand l bs os) (ap reverse is ∙ reverse-snoc left around) h)
   where
-    by : (xs : List OpenBracket) → os ≡ xs → AllStand (around ∷ reverse left) xs → BracketAround around left os
+    by : (xs : List OpenBracket) → os ≡ xs → AllStand l (around ∷ reverse left) xs → BracketAround l around left os
     by [] e h = absurd h
     by (o ∷ more) e h = record { next = o; further = more; are = e; stands = h.0; around_too = h.1 }
 
@@ -306,8 +306,8 @@ bracket_around outer left around os is h = by os refl (subst (λ bs. AllStand bs
 pub closes_last : (source : List ℕ) (outer new_outer left : List CodeBracket) (b around new : CodeBracket) (text rest : List ℕ) (made : Gathered) (e : ParseError) → Closes b (Some made) → outer ≡ left ++ around ∷ [] →
     chars rest ≡ [] → kind_told (kind_of e) ≡ Some eof → offset_in e ≡ None → ClosesAs source outer b text rest new_outer new (Err e)
 closes_last source outer new_outer left b around new text rest made e h popped none is offset l units here o os stands around_h =
-    let shut = h o stands in
-    let next = bracket_around outer left around os popped around_h in
+    let shut = h l o stands in
+    let next = bracket_around l outer left around os popped around_h in
     tells e eof _ is (
       None,
       ap (λ z. closed l units (chars source) o os (chars text) (chars rest) z) shut.arranged
@@ -317,29 +317,29 @@ closes_last source outer new_outer left b around new text rest made e h popped n
 
 module _ (source : List ℕ) (outer left : List CodeBracket) (b around new : CodeBracket) (text : List ℕ) (rest : Bor (List ℕ)) (made : Gathered) (shuts : Closes b (Some made)) (popped : outer ≡ left ++ around ∷ []) (c : ℕ) (t : Text)
     (more : chars rest.now ≡ c ∷ t) where
-  module _ (l : Language) (units : UnitReader l) (o : OpenBracket) (os : List OpenBracket) (stands : Stands b o) (around_h : Around outer os) where
-    abbrev inside : BracketAround around left os
-    inside = bracket_around outer left around os popped around_h
+  module _ (l : Language) (units : UnitReader l) (o : OpenBracket) (os : List OpenBracket) (stands : Stands l b o) (around_h : Around l outer os) where
+    abbrev inside : BracketAround l around left os
+    inside = bracket_around l outer left around os popped around_h
 
     abbrev set_item : Item
-    set_item = nested (tree_of o.header (shuts o stands).steps)
+    set_item = nested (tree_of o.header (shuts l o stands).steps)
 
-    is_set_item : IsItem (Set (Made made)) set_item
-    is_set_item = record { tree = tree_of o.header (shuts o stands).steps; same = λ m. sym ((shuts o stands).members m); is = refl }
+    is_set_item : IsItem l (Set (Inner made)) set_item
+    is_set_item = record { tree = tree_of o.header (shuts l o stands).steps; same = λ m. sym ((shuts l o stands).members m); is = refl }
 
     closed_turn : (x : Bool) → fit (inside.next.items ++ set_item ∷ []) ≡ x →
         closed l units (chars source) o os (chars text) (chars rest.now) (arrange o.items) ≡ nested_turn l units (chars source) o inside.next inside.further (c ∷ t) set_item x
     closed_turn x fits =
-        ap (λ z. closed l units (chars source) o os (chars text) (chars rest.now) z) (shuts o stands).arranged
-        ∙ (ap (λ z. closed l units (chars source) o z (chars text) (chars rest.now) (Some (shuts o stands).steps)) inside.are
-        ∙ (ap (λ z. closed l units (chars source) o (inside.next ∷ inside.further) (chars text) z (Some (shuts o stands).steps)) more
+        ap (λ z. closed l units (chars source) o os (chars text) (chars rest.now) z) (shuts l o stands).arranged
+        ∙ (ap (λ z. closed l units (chars source) o z (chars text) (chars rest.now) (Some (shuts l o stands).steps)) inside.are
+        ∙ (ap (λ z. closed l units (chars source) o (inside.next ∷ inside.further) (chars text) z (Some (shuts l o stands).steps)) more
         ∙ ap (λ z. nested_turn l units (chars source) o inside.next inside.further (c ∷ t) set_item z) fits))
 
   -- its set fits outside
-  pub closes_inside : Takes around (Set (Made made)) Fits new → ClosesAs source outer b text rest.now left new (Ok (GoesOn rest))
+  pub closes_inside : Takes around (Set (Inner made)) Fits new → ClosesAs source outer b text rest.now left new (Ok (GoesOn rest))
   closes_inside h l units here o os stands around_h =
       let k = inside l units o os stands around_h in
-      let took = h k.next (set_item l units o os stands around_h) k.stands (is_set_item l units o os stands around_h) in (
+      let took = h l k.next (set_item l units o os stands around_h) k.stands (is_set_item l units o os stands around_h) in (
         with_item k.next (set_item l units o os stands around_h),
         k.further,
         closed_turn l units o os stands around_h true took.fits ∙ ap (λ z. goes (with_item k.next (set_item l units o os stands around_h) ∷ k.further) z) (sym more),
@@ -348,13 +348,13 @@ module _ (source : List ℕ) (outer left : List CodeBracket) (b around new : Cod
       )
 
   -- its set doesn't fit outside
-  pub closes_misplaced : (unfit : (o : OpenBracket) (i : Item) → Stands around o → IsItem (Set (Made made)) i → fit (o.items ++ i ∷ []) ≡ false) (e : ParseError) →
+  pub closes_misplaced : (unfit : (l : Language) (o : OpenBracket) (i : Item) → Stands l around o → IsItem l (Set (Inner made)) i → fit (o.items ++ i ∷ []) ≡ false) (e : ParseError) →
       kind_told (kind_of e) ≡ Some (unexpected 0x5B) → offset_in e ≡ Some b.before → ClosesAs source outer b text rest.now left new (Err e)
   closes_misplaced unfit e is offset l units here o os stands around_h =
       let k = inside l units o os stands around_h in
       tells e (unexpected 0x5B) _ is (
         Some o.before,
-        closed_turn l units o os stands around_h false (unfit k.next (set_item l units o os stands around_h) k.stands (is_set_item l units o os stands around_h)),
+        closed_turn l units o os stands around_h false (unfit l k.next (set_item l units o os stands around_h) k.stands (is_set_item l units o os stands around_h)),
         offset ∙ ap (λ z. Some z) stands.before,
       )
 
@@ -387,22 +387,22 @@ module _ (s : Syntax) (cursor : Cursor) (outer : List CodeBracket) (b : CodeBrac
       ∙ ap (λ z. front_turn spoken units all_of_it o os (chars text) z) e)
 
   pub turned : (f : Front) → front spoken (chars text) ≡ f → (new_outer : List CodeBracket) (new : CodeBracket) (result : Result Progress ParseError) →
-      ((units : UnitReader spoken) → Before (source_of cursor) text → ForAll outer b (λ o os. TurnedTo (front_turn spoken units all_of_it o os (chars text) f) new_outer new result)) →
+      ((units : UnitReader spoken) → Before (source_of cursor) text → ForAll spoken outer b (λ o os. TurnedTo spoken (front_turn spoken units all_of_it o os (chars text) f) new_outer new result)) →
       Turns spoken (source_of cursor) (left_of cursor) outer b new_outer new result
   turned f e new_outer new result h units here o os stands around =
-      subst (λ t. TurnedTo t new_outer new result) (sym (turn_is units o os f e)) (h units (text_there here) o os stands around)
+      subst (λ t. TurnedTo spoken t new_outer new result) (sym (turn_is units o os f e)) (h units (text_there here) o os stands around)
 
   pub turned_caret : PlacesAre → front spoken (chars text) ≡ caret → (e : ParseError) → kind_told (kind_of e) ≡ Some (unexpected 0x5E) → IsAt cursor text (offset_in e) →
       Turns spoken (source_of cursor) (left_of cursor) outer b outer b (Err e)
   turned_caret places f e is offset =
       turned caret f outer b (Err e) (λ units here o os stands around.
-      stops_so _ (rejected (unexpected 0x5E) (Some (at spoken units all_of_it (chars text)))) e outer b refl
+      stops_so spoken _ (rejected (unexpected 0x5E) (Some (at spoken units all_of_it (chars text)))) e outer b refl
       (rejects_at places spoken units cursor text e (unexpected 0x5E) here is (λ t. refl) offset))
 
-  pub turned_single : RestsAreBehind spoken → (item : CodeItem) (rest : List ℕ) (new : CodeBracket) (result : Result Progress ParseError) → IsTreeOf item no_tree →
+  pub turned_single : RestsAreBehind spoken → (item : CodeItem) (rest : List ℕ) (new : CodeBracket) (result : Result Progress ParseError) → ((m : Language) → IsTreeOf m item no_tree) →
       front spoken (chars text) ≡ single (item_seen no_tree item) (chars rest) → TakesAs (source_of cursor) b item Written text rest new result →
       Turns spoken (source_of cursor) (left_of cursor) outer b outer new result
   turned_single behind item rest new result no_set f h =
       turned (single (item_seen no_tree item) (chars rest)) f outer new result (λ units here o os stands around.
-      h spoken units of_one_character (item_seen no_tree item) outer (λ z. (let g = z in cc)) (record { tree = no_tree; same = no_set; is = refl }) here
+      h spoken units of_one_character (item_seen no_tree item) outer (λ z. (let g = z in cc)) (record { tree = no_tree; same = no_set spoken; is = refl }) here
       (behind.singles (chars text) (chars rest) (item_seen no_tree item) f) o os stands around)

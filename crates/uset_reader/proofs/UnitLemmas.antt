@@ -1,5 +1,5 @@
 -- Units that are read.
-use Rattle.std.proofs.Common.{zero, suc, length, Option, Some, None, inl, inr, ◌≡◌, ◌≤◌, ℕ, Bool, true, false, ◌&&◌, not, nat_lt, All, List, [], ◌∷◌, refl, sym, ap, ◌∙◌, subst, arith}
+use Rattle.std.proofs.Common.{zero, suc, length, Option, Some, None, inl, inr, ◌≡◌, ◌≤◌, ℕ, Bool, true, false, ◌&&◌, not, nat_lt, All, Box, List, [], ◌∷◌, refl, sym, ap, ◌∙◌, subst, arith}
 use Rattle.std.specs.Prelude.{◌==◌, is_some}
 use Rattle.std.proofs.lemmas.Bool.{eqb-true}
 use Rattle.std.proofs.lemmas.Bool.Decides.{nat_tests}
@@ -19,7 +19,7 @@ use Rattle.uset_grammar.specs.Unit.{Meaning, an_escape, a_string, a_property, be
 use Rattle.uset_grammar.specs.Item.{chars as item_chars, text as item_text, text_item}
 use Rattle.uset_grammar.specs.Language.{Language, resolves, lacks, property_tree}
 use Rattle.uset_grammar.specs.Laws.{KindsTell, UnitsOfKinds}
-use Rattle.uset_gather.specs.declared.operand.Operand.{Operand}
+use Rattle.uset_steps.specs.declared.named_set.Named.{Named as NamedOperand}
 use Rattle.uset_read.specs.declared.stop.Stop.{Stop}
 use Rattle.uset_read.specs.declared.stop.Stop.TheVariants.{Fault, Ended, NoMemory}
 use Rattle.uset_read.specs.declared.escape.Spelled.{Spelled as CodeSpelled}
@@ -29,6 +29,7 @@ use Rattle.uset_read.specs.Spelled.{spelled_seen, EscapeIs, EscapeStops}
 use Rattle.uset_read.specs.Pieces.{StringIs, StringStops}
 use Rattle.uset_read.specs.UnitRead.{StopsAt}
 use Rattle.uset_reader.specs.declared.syntax.Syntax.{Syntax}
+use Rattle.uset_reader.specs.declared.item.Operand.TheVariants.{Named}
 use Rattle.uset_reader.specs.declared.item.Item.{Item as CodeItem}
 use Rattle.uset_reader.specs.declared.item.Item.TheVariants.{Single, Several, Text as Spelled_text, Set}
 use Rattle.uset_reader.specs.declared.item.Codes.{Codes}
@@ -79,14 +80,14 @@ allowed_within several (Itself c) h = tt
 allowed_within several (Numbers first more) h = all_within several (first ∷ more.items) (and_first (list_all (fits_in (in_bracket several)) (first ∷ more.items)) (so_many (in_bracket several) (first ∷ more.items)) h)
 
 -- ITEMS
-pub single_item : (c : CodePoint) (n : ℕ) → number_of c ≡ n → IsItem (Single c) (item_chars (n ∷ []))
-single_item c n e = record { tree = no_tree; same = tt; is = ap (λ z. item_chars (z ∷ [])) (sym e) }
+pub single_item : (l : Language) (c : CodePoint) (n : ℕ) → number_of c ≡ n → IsItem l (Single c) (item_chars (n ∷ []))
+single_item l c n e = record { tree = no_tree; same = tt; is = ap (λ z. item_chars (z ∷ [])) (sym e) }
 
-pub one_item : (c : CodePoint) (n : ℕ) (more : List ℕ) → number_of c ≡ n → more ≡ [] → IsItem (Single c) (item_chars (n ∷ more))
-one_item c n more e none = subst (λ ns. IsItem (Single c) (item_chars (n ∷ ns))) (sym none) (single_item c n e)
+pub one_item : (l : Language) (c : CodePoint) (n : ℕ) (more : List ℕ) → number_of c ≡ n → more ≡ [] → IsItem l (Single c) (item_chars (n ∷ more))
+one_item l c n more e none = subst (λ ns. IsItem l (Single c) (item_chars (n ∷ ns))) (sym none) (single_item l c n e)
 
-pub several_item : (codes : Codes) → IsItem (Several codes) (item_chars (codes.first ∷ codes.more.items))
-several_item codes = record { tree = no_tree; same = tt; is = refl }
+pub several_item : (l : Language) (codes : Codes) → IsItem l (Several codes) (item_chars (codes.first ∷ codes.more.items))
+several_item l codes = record { tree = no_tree; same = tt; is = refl }
 
 empty_is : {A : Type 0} (xs : List A) → length xs ≡ 0 → xs ≡ []
 empty_is [] h = refl
@@ -105,19 +106,19 @@ other_text [] h = refl
 other_text (d ∷ []) h = absurd (let g = h in cc)
 other_text (d ∷ e ∷ t) h = refl
 
-pub sole_item : (c : CodePoint) (t : Text) (d : ℕ) → sole_of t ≡ Some d → number_of c ≡ d → IsItem (Single c) (text_item t)
-sole_item c t d h e = subst (IsItem (Single c)) (sym (sole_text t d h)) (single_item c d e)
+pub sole_item : (l : Language) (c : CodePoint) (t : Text) (d : ℕ) → sole_of t ≡ Some d → number_of c ≡ d → IsItem l (Single c) (text_item t)
+sole_item l c t d h e = subst (IsItem l (Single c)) (sym (sole_text t d h)) (single_item l c d e)
 
-pub string_item : (s : String Global) → sole_of (chars (string_bytes s)) ≡ None → IsItem (Spelled_text s) (text_item (chars (string_bytes s)))
-string_item s h = record { tree = no_tree; same = tt; is = other_text (chars (string_bytes s)) h }
+pub string_item : (l : Language) (s : String Global) → sole_of (chars (string_bytes s)) ≡ None → IsItem l (Spelled_text s) (text_item (chars (string_bytes s)))
+string_item l s h = record { tree = no_tree; same = tt; is = other_text (chars (string_bytes s)) h }
 
 pub none_kept : (o : Option ℕ) → not (is_some o) ≡ true → o ≡ None
 none_kept None h = refl
 none_kept (Some c) h = absurd (let g : false ≡ true = h in cc)
 
 -- a copy of a string
-pub copied_item : (s : String Global) (bytes : List ℕ) → string_bytes s ≡ bytes → IsItem (Spelled_text s) (item_text (chars bytes))
-copied_item s bytes e = record { tree = no_tree; same = tt; is = ap (λ bs. item_text (chars bs)) (sym e) }
+pub copied_item : (l : Language) (s : String Global) (bytes : List ℕ) → string_bytes s ≡ bytes → IsItem l (Spelled_text s) (item_text (chars bytes))
+copied_item l s bytes e = record { tree = no_tree; same = tt; is = ap (λ bs. item_text (chars bs)) (sym e) }
 
 -- UNITS
 module _ (s : Syntax) (kinds : KindsTell) (several : Bool) (text : List ℕ) where
@@ -133,12 +134,12 @@ module _ (s : Syntax) (kinds : KindsTell) (several : Bool) (text : List ℕ) whe
   of_string : (inner : Text) → chars text ≡ 0x7B ∷ inner → (o : Outcome (List Spelled)) → StringOutcome l.white_space (chars text) o → Outcomes (chars text) (meaning a_string o)
   of_string inner e o h = subst (λ z. Outcomes z (meaning a_string o)) (sym e) (units.strings inner o (subst (λ z. StringOutcome l.white_space z o) e h))
 
-  pub string_read : IsString (chars text) → (string rest : List ℕ) (item : CodeItem) → StringIs s.white_space.now text string rest → IsItem item (text_item (chars string)) → UnitIs l several text item rest
+  pub string_read : IsString (chars text) → (string rest : List ℕ) (item : CodeItem) → StringIs s.white_space.now text string rest → IsItem l item (text_item (chars string)) → UnitIs l several text item rest
   string_read begins string rest item h is b =
       let found = h s.apart begins.inner begins.parts in record {
         unit = a_string found.0;
         outcome = of_string begins.inner begins.parts (got found.0 (chars rest)) found.1;
-        item_is = subst (λ t. IsItem item (text_item t)) found.2 is;
+        item_is = subst (λ t. IsItem l item (text_item t)) found.2 is;
       }
 
   pub string_stops : IsString (chars text) → (stop : Stop) → StringStops s.white_space.now text stop → UnitStops l several text stop
@@ -163,7 +164,7 @@ module _ (s : Syntax) (kinds : KindsTell) (several : Bool) (text : List ℕ) whe
       let found = h s.apart begins.inner begins.parts in
       allowed_within several spelled ((found.reads (spelled_seen spelled) (chars rest)).0 refl).fits
 
-  pub escape_read : IsEscape (chars text) → (spelled : CodeSpelled) (rest : List ℕ) (item : CodeItem) → EscapeIs s.white_space.now (Bracket several) text spelled rest → IsItem item (chars_of spelled) →
+  pub escape_read : IsEscape (chars text) → (spelled : CodeSpelled) (rest : List ℕ) (item : CodeItem) → EscapeIs s.white_space.now (Bracket several) text spelled rest → IsItem l item (chars_of spelled) →
       UnitIs l several text item rest
   escape_read begins spelled rest item h is b =
       let letter = letter_of begins.inner begins.parts begins.no_property b in record {
@@ -195,8 +196,8 @@ module _ (s : Syntax) (kinds : KindsTell) (several : Bool) (text : List ℕ) whe
       by _ is (backslash_begins {d} {t}) =
           subst (λ z. Outcomes z (meaning a_property o)) (sym is) (units.perl_properties d t o (other.no_escape d t is) (subst (λ z. PropertyOutcome l.white_space (resolves l) (lacks l) z o) is h))
 
-  pub property_read : IsProperty (chars text) → (operand : Operand) (rest : List ℕ) → OperandIs l text operand rest → UnitIs l several text (Set operand) rest
-  property_read other operand rest h b =
+  pub property_read : IsProperty (chars text) → (named : Box NamedOperand Global) (rest : List ℕ) → OperandIs l text named.value rest → UnitIs l several text (Set (Named named)) rest
+  property_read other named rest h b =
       let found = h (property_begins b other) in record {
         unit = a_property found.query;
         outcome = of_property b other (got found.query (chars rest)) found.outcome;

@@ -7,6 +7,7 @@ use Rattle.uset_grammar.specs.Arranging.{Awaits, element, stuck, on, next, went,
 use Rattle.uset_grammar.specs.Reached.{OpenBracket, with_item}
 use Rattle.uset_grammar.specs.Place.{size}
 use Rattle.uset_grammar.specs.Turn.{greatest, reversed_code}
+use Rattle.uset_grammar.specs.Language.{Language}
 use Rattle.uset_gather.specs.declared.gathered.Gathered.{Gathered}
 use Rattle.uset_gather.specs.Gathered.{gathered_in}
 use Rattle.uset_reader.specs.declared.bracket.Opening.{Opening as CodeOpening}
@@ -14,33 +15,50 @@ use Rattle.uset_reader.specs.declared.bracket.OpenBracket.{OpenBracket as CodeBr
 use Rattle.uset_reader.specs.declared.bracket.Taken.{Taken}
 use Rattle.uset_reader.specs.declared.bracket.Taken.TheVariants.{Fits, Reversed, Unfit}
 use Rattle.uset_reader.specs.declared.item.Item.{Item as CodeItem}
-use Rattle.uset_gather.specs.declared.operand.Operand.{Operand}
-use Rattle.uset_reader.specs.declared.arrange.Operation.{Operation}
+use Rattle.uset_reader.specs.declared.item.Operand.{Operand}
+use Rattle.uset_steps.specs.declared.gathering.Gathering.{Gathering}
+use Rattle.uset_steps.specs.declared.step.Operation.{Operation}
+use Rattle.uset_steps.specs.Names.{Sets}
+use Rattle.uset_steps.specs.Gathering.{gathering_in, Fits as NamesFit}
+use Rattle.uset_reader.specs.Named.{sets_of}
 use Rattle.uset_reader.specs.Items.{number_of, item_seen, IsTreeOf, IsOperand, awaits_seen, operated, own_steps}
 
 abbrev pub opening_seen : CodeOpening → Opening
 opening_seen o = record { negated = o.negated; leading = o.leading }
 
--- The set is what the steps make of another: whatever steps follow.
-abbrev pub Becomes : Gathered → (Steps → Steps) → Gathered → Type 0
-Becomes old steps new = (rest : Steps) (m : Member) → gathers (steps rest) m (gathered_in old m) ≡ gathers rest m (gathered_in new m)
+-- the set is what the steps make of another, whatever steps follow
+abbrev pub Follows : Gathering → (Steps → Steps) → Gathering → Type 0
+Follows old steps new = (rest : Steps) (m : Member) → gathers (steps rest) m (gathering_in old m) ≡ gathers rest m (gathering_in new m)
+
+-- the same, and it fits each meaning of the names that the other fits
+pub record Becomes (old : Gathering) (steps : Steps → Steps) (new : Gathering) : Type 0 where
+  pub follows : Follows old steps new
+  pub fits : (sets : Sets) → NamesFit sets old → NamesFit sets new
+
+-- the same for the meaning that the language gives them
+pub record BecomesWith (l : Language) (old : Gathering) (steps : Steps → Steps) (new : Gathering) : Type 0 where
+  pub follows : Follows old steps new
+  pub fits : NamesFit (sets_of l) new
 
 -- the set is what an item's own steps make of another, or an operation with an operand
-abbrev pub GathersItem : Operation → CodeItem → Gathered → Gathered → Type 0
-GathersItem operation item old new = (tree : Tree) → IsTreeOf item tree → Becomes old (own_steps operation (item_seen tree item)) new
+abbrev pub GathersItem : Operation → CodeItem → Gathering → Gathering → Type 0
+GathersItem operation item old new = (l : Language) (tree : Tree) → NamesFit (sets_of l) old → IsTreeOf l item tree →
+    BecomesWith l old (own_steps operation (item_seen tree item)) new
 
-abbrev pub GathersSet : Operation → Operand → Gathered → Gathered → Type 0
-GathersSet operation operand old new = (tree : Tree) → IsOperand operand tree → Becomes old (operated operation tree) new
+abbrev pub GathersSet : Operation → Operand → Gathering → Gathering → Type 0
+GathersSet operation operand old new = (l : Language) (tree : Tree) → NamesFit (sets_of l) old → IsOperand l operand tree →
+    BecomesWith l old (operated operation tree) new
 
 -- What the code keeps of an open bracket: what it begins with and where, what is awaited behind its items, and what
--- they gather.
-pub record Stands (b : CodeBracket) (o : OpenBracket) : Type 0 where
+-- they gather, with sets that their names stand for.
+pub record Stands (l : Language) (b : CodeBracket) (o : OpenBracket) : Type 0 where
   pub header : o.header ≡ opening_seen b.opening
   pub before : b.before ≡ size o.before
   pub steps : Steps → Steps
   pub awaited : run element o.items ≡ on (awaits_seen b.awaits) steps
   pub gathered : (rest : Steps) (m : Member) →
-      gathers (steps rest) m (leading_hyphen o.header.leading m) ≡ gathers rest m (gathered_in b.gathered m)
+      gathers (steps rest) m (leading_hyphen o.header.leading m) ≡ gathers rest m (gathering_in b.gathered m)
+  pub fits : NamesFit (sets_of l) b.gathered
 
 -- what was gathered alone has changed
 pub record KeepsFrame (old new : CodeBracket) : Type 0 where
@@ -59,42 +77,38 @@ abbrev pub begun : Text → CodeOpening → OpenBracket
 begun before opening = record { before = before; header = opening_seen opening; items = [] }
 
 -- an item of the grammar that the item of the code is
-pub record IsItem (item : CodeItem) (i : Item) : Type 0 where
+pub record IsItem (l : Language) (item : CodeItem) (i : Item) : Type 0 where
   pub tree : Tree
-  pub same : IsTreeOf item tree
+  pub same : IsTreeOf l item tree
   pub is : i ≡ item_seen tree item
 
 -- the item fits, and was taken
-pub record Took (old new : CodeBracket) (o : OpenBracket) (i : Item) : Type 0 where
+pub record Took (l : Language) (old new : CodeBracket) (o : OpenBracket) (i : Item) : Type 0 where
   pub fits : fit (o.items ++ i ∷ []) ≡ true
-  pub stands : Stands new (with_item o i)
+  pub stands : Stands l new (with_item o i)
 
 -- the item doesn't fit, and ends a reversed range with this code or none
 pub record Refused (o : OpenBracket) (i : Item) (code : Option ℕ) : Type 0 where
   pub unfit : fit (o.items ++ i ∷ []) ≡ false
   pub reversed : reversed_code i (fit (o.items ++ greatest ∷ [])) ≡ code
 
-abbrev pub Became : CodeBracket → Taken → CodeBracket → OpenBracket → Item → Type 0
-Became old Fits new o i = Took old new o i
-Became old (Reversed c) new o i = Refused o i (Some (number_of c))
-Became old Unfit new o i = Refused o i None
+abbrev pub Became : Language → CodeBracket → Taken → CodeBracket → OpenBracket → Item → Type 0
+Became l old Fits new o i = Took l old new o i
+Became l old (Reversed c) new o i = Refused o i (Some (number_of c))
+Became l old Unfit new o i = Refused o i None
 
 -- what became of the item, for every bracket that the code's stands for
 abbrev pub Takes : CodeBracket → CodeItem → Taken → CodeBracket → Type 0
-Takes old item taken new = (o : OpenBracket) (i : Item) → Stands old o → IsItem item i → Became old taken new o i
+Takes old item taken new = (l : Language) (o : OpenBracket) (i : Item) → Stands l old o → IsItem l item i → Became l old taken new o i
 
 -- a bracket without items that begins so
 abbrev pub IsBegun : CodeOpening → ℕ → CodeBracket → Type 0
-IsBegun opening place b = (before : Text) → place ≡ size before → Stands b (begun before opening)
+IsBegun opening place b = (l : Language) (before : Text) → place ≡ size before → Stands l b (begun before opening)
 
 -- whether a `]` fits, and what is gathered then
-abbrev pub EndedAs : Option Steps → Gathered → Gathered → Bool → Type 0
+abbrev pub EndedAs : Option Steps → Gathering → Gathering → Bool → Type 0
 EndedAs None old new ends = ends ≡ false
-EndedAs (Some last) old new ends = (ends ≡ true) × ((m : Member) → gathers last m (gathered_in old m) ≡ gathered_in new m)
-
--- whether something is a member of a bracket, from whether it was gathered
-abbrev pub finished : Bool → Member → Bool → Bool
-finished negated m b = if negated then negation m b else b
+EndedAs (Some last) old new ends = (ends ≡ true) × ((m : Member) → gathers last m (gathering_in old m) ≡ gathering_in new m)
 
 -- the set is that of the bracket, whose items are arranged to these steps
 pub record Closed (o : OpenBracket) (set : Gathered) : Type 0 where
@@ -108,4 +122,4 @@ ClosedAs (Some set) o = Closed o set
 
 -- how a bracket closes, for every one that the code's stands for
 abbrev pub Closes : CodeBracket → Option Gathered → Type 0
-Closes b set = (o : OpenBracket) → Stands b o → ClosedAs set o
+Closes b set = (l : Language) (o : OpenBracket) → Stands l b o → ClosedAs set o

@@ -39,7 +39,7 @@ abbrev pub IsBehindFront : CodeFront → List ℕ → Type 0
 IsBehindFront Nothing text = Unit {0}
 IsBehindFront (Closing rest) text = length rest.now < length text
 IsBehindFront (Opening o inner) text = length inner.now < length text
-IsBehindFront (Single item rest) text = IsProper item × IsTreeOf item no_tree × length rest.now < length text
+IsBehindFront (Single item rest) text = IsProper item × ((l : Language) → IsTreeOf l item no_tree) × length rest.now < length text
 IsBehindFront (Name name rest) text = length rest.now < length text
 IsBehindFront BeginsUnit text = Unit {0}
 IsBehindFront Caret text = Unit {0}

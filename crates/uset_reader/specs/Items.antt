@@ -8,16 +8,22 @@ use Rattle.uset_grammar.specs.Tree.{Tree, has, Member, Steps, add, add_text, joi
 use Rattle.uset_grammar.specs.Item.{Item, chars, text, nested, minus, ampersand, dollar}
 use Rattle.uset_grammar.specs.Body.{add_each}
 use Rattle.uset_grammar.specs.Arranging.{Awaits, element, after_single, range_end, hyphen_end, anchor_end, after_set, remove_or_end, keep_set, Next, stuck, on}
-use Rattle.uset_gather.specs.declared.operand.Operand.{Operand}
-use Rattle.uset_gather.specs.Gathered.{operand_in}
+use Rattle.uset_grammar.specs.Language.{Language}
+use Rattle.uset_gather.specs.Gathered.{gathered_in}
+use Rattle.uset_steps.specs.declared.named_set.Named.{Named as NamedOperand}
+use Rattle.uset_steps.specs.declared.named_set.NamedSet.{NamedSet}
+use Rattle.uset_steps.specs.declared.step.Operation.{Operation}
+use Rattle.uset_steps.specs.declared.step.Operation.TheVariants.{Join, Remove, Retain}
+use Rattle.uset_steps.specs.Names.{named_in, IsSetOf}
 use Rattle.uset_reader.specs.declared.code_point.CodePoint.{CodePoint}
+use Rattle.uset_reader.specs.declared.item.Operand.{Operand}
+use Rattle.uset_reader.specs.declared.item.Operand.TheVariants.{Inner, Named}
 use Rattle.uset_reader.specs.declared.item.Item.{Item as CodeItem}
 use Rattle.uset_reader.specs.declared.item.Item.TheVariants.{Minus, Ampersand, Dollar, Single, Several, Text as Spelled, Set}
 use Rattle.uset_reader.specs.declared.arrange.Awaits.{Awaits as CodeAwaits}
 use Rattle.uset_reader.specs.declared.arrange.Awaits.TheVariants.{Element, AfterSingle, RangeEnd, End, AnchorEnd, AfterSet, RemoveOrEnd, Keep}
-use Rattle.uset_reader.specs.declared.arrange.Operation.{Operation}
-use Rattle.uset_reader.specs.declared.arrange.Operation.TheVariants.{Join, Remove, Retain}
 use Rattle.uset_reader.specs.declared.arrange.Arranged.{Arranged}
+use Rattle.uset_reader.specs.Named.{sets_of}
 
 -- the number of a code point
 abbrev pub number_of : CodePoint → ℕ
@@ -33,19 +39,28 @@ item_seen tree (Several codes) = chars (codes.first ∷ codes.more.items)
 item_seen tree (Spelled t) = text (characters (string_bytes t))
 item_seen tree (Set operand) = nested tree
 
--- the tree has the members of the operand
-abbrev pub IsOperand : Operand → Tree → Type 0
-IsOperand operand tree = (m : Member) → has tree m ≡ operand_in operand m
+-- the tree has the members of the set
+abbrev pub IsNamed : NamedSet → Tree → Type 0
+IsNamed set tree = (m : Member) → has tree m ≡ named_in set m
+
+-- the same, and it is the tree that the name stands for
+abbrev pub IsNamedOf : Language → NamedOperand → Tree → Type 0
+IsNamedOf l named tree = IsNamed named.set tree × IsSetOf (sets_of l) named
+
+-- the tree has the members of the operand, which a name stands for where it has one
+abbrev pub IsOperand : Language → Operand → Tree → Type 0
+IsOperand l (Inner set) tree = (m : Member) → has tree m ≡ gathered_in set m
+IsOperand l (Named named) tree = IsNamedOf l named.value tree
 
 -- where the item is a set, the tree has its members
-abbrev pub IsTreeOf : CodeItem → Tree → Type 0
-IsTreeOf (Set operand) tree = IsOperand operand tree
-IsTreeOf Minus tree = Unit {0}
-IsTreeOf Ampersand tree = Unit {0}
-IsTreeOf Dollar tree = Unit {0}
-IsTreeOf (Single c) tree = Unit {0}
-IsTreeOf (Several codes) tree = Unit {0}
-IsTreeOf (Spelled t) tree = Unit {0}
+abbrev pub IsTreeOf : Language → CodeItem → Tree → Type 0
+IsTreeOf l (Set operand) tree = IsOperand l operand tree
+IsTreeOf l Minus tree = Unit {0}
+IsTreeOf l Ampersand tree = Unit {0}
+IsTreeOf l Dollar tree = Unit {0}
+IsTreeOf l (Single c) tree = Unit {0}
+IsTreeOf l (Several codes) tree = Unit {0}
+IsTreeOf l (Spelled t) tree = Unit {0}
 
 -- a string isn't one character, and codes are code points
 abbrev pub IsProper : CodeItem → Type 0

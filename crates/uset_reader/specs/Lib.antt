@@ -1,3 +1,4 @@
+pub mod Named
 pub mod Items
 pub mod Brackets
 pub mod Resolution

@@ -26,22 +26,22 @@ use Rattle.uset_reader.specs.Brackets.{Stands, IsItem, begun}
 use Rattle.uset_fault.specs.Errors.{Tells}
 
 -- the brackets of the code stand for those of the grammar, one for one
-abbrev pub AllStand : List CodeBracket → List OpenBracket → Type 0
-AllStand [] [] = Unit {0}
-AllStand (b ∷ bs) (o ∷ os) = Stands b o × AllStand bs os
-AllStand [] (o ∷ os) = ⊥
-AllStand (b ∷ bs) [] = ⊥
+abbrev pub AllStand : Language → List CodeBracket → List OpenBracket → Type 0
+AllStand l [] [] = Unit {0}
+AllStand l (b ∷ bs) (o ∷ os) = Stands l b o × AllStand l bs os
+AllStand l [] (o ∷ os) = ⊥
+AllStand l (b ∷ bs) [] = ⊥
 
 -- the outer brackets, of which the code has the outermost first and the grammar the innermost
-abbrev pub Around : List CodeBracket → List OpenBracket → Type 0
-Around outer os = AllStand (reverse outer) os
+abbrev pub Around : Language → List CodeBracket → List OpenBracket → Type 0
+Around l outer os = AllStand l (reverse outer) os
 
 -- The turn of the grammar goes on with brackets for which these stand, and with this rest; or it has read the source, with
 -- this set; or it stops at this fault.
-abbrev pub TurnedTo : Turn → List CodeBracket → CodeBracket → Result Progress ParseError → Type 0
-TurnedTo t outer b (Ok (GoesOn rest)) = (o : OpenBracket) × (os : List OpenBracket) × (t ≡ goes (o ∷ os) (chars rest.now)) × Stands b o × Around outer os
-TurnedTo t outer b (Ok (Done set rest)) = (tree : Tree) × (t ≡ stops (accepted tree (chars rest.now))) × ((m : Member) → gathered_in set m ≡ has tree m)
-TurnedTo t outer b (Err error) = Tells error (λ kind offset. (place : Option Text) × (t ≡ stops (rejected kind place)) × (offset ≡ offset_of kind place))
+abbrev pub TurnedTo : Language → Turn → List CodeBracket → CodeBracket → Result Progress ParseError → Type 0
+TurnedTo l t outer b (Ok (GoesOn rest)) = (o : OpenBracket) × (os : List OpenBracket) × (t ≡ goes (o ∷ os) (chars rest.now)) × Stands l b o × Around l outer os
+TurnedTo l t outer b (Ok (Done set rest)) = (tree : Tree) × (t ≡ stops (accepted tree (chars rest.now))) × ((m : Member) → gathered_in set m ≡ has tree m)
+TurnedTo l t outer b (Err error) = Tells error (λ kind offset. (place : Option Text) × (t ≡ stops (rejected kind place)) × (offset ≡ offset_of kind place))
 
 -- how the item is written
 abbrev pub SortIs : CodeSort → Sort → Type 0
@@ -54,14 +54,14 @@ pub record Before (source text : List ℕ) : Type 0 where
   pub is : chars source ≡ before ++ chars text
 
 -- for the brackets of the grammar that the code's stand for
-abbrev pub ForAll : List CodeBracket → CodeBracket → (OpenBracket → List OpenBracket → Type 0) → Type 0
-ForAll outer b P = (o : OpenBracket) (os : List OpenBracket) → Stands b o → Around outer os → P o os
+abbrev pub ForAll : Language → List CodeBracket → CodeBracket → (OpenBracket → List OpenBracket → Type 0) → Type 0
+ForAll l outer b P = (o : OpenBracket) (os : List OpenBracket) → Stands l b o → Around l outer os → P o os
 
 -- a turn of the reader is one of the grammar
 abbrev pub Turns : Language → List ℕ → List ℕ → List CodeBracket → CodeBracket → List CodeBracket → CodeBracket → Result Progress ParseError → Type 0
 Turns l source left outer b new_outer new result =
     (units : UnitReader l) → Before source left →
-    ForAll outer b (λ o os. TurnedTo (turn l units (chars source) (o ∷ os) (chars left)) new_outer new result)
+    ForAll l outer b (λ o os. TurnedTo l (turn l units (chars source) (o ∷ os) (chars left)) new_outer new result)
 
 -- the same where the cursor stands
 abbrev pub TurnsAt : Language → Cursor → List CodeBracket → CodeBracket → List CodeBracket → CodeBracket → Result Progress ParseError → Type 0
@@ -81,29 +81,29 @@ IsUnfit cursor sort text rest error =
 
 abbrev pub TakesAs : List ℕ → CodeBracket → CodeItem → CodeSort → List ℕ → List ℕ → CodeBracket → Result Progress ParseError → Type 0
 TakesAs source b item sort text rest new result =
-    (l : Language) (units : UnitReader l) (s : Sort) (i : Item) (outer : List CodeBracket) → SortIs sort s → IsItem item i →
+    (l : Language) (units : UnitReader l) (s : Sort) (i : Item) (outer : List CodeBracket) → SortIs sort s → IsItem l item i →
     Before source text → IsBehind (chars text) (chars rest) →
-    ForAll outer b (λ o os. TurnedTo (judged l units (chars source) o os (chars text) s i (chars rest) (fit (o.items ++ i ∷ []))) outer new result)
+    ForAll l outer b (λ o os. TurnedTo l (judged l units (chars source) o os (chars text) s i (chars rest) (fit (o.items ++ i ∷ []))) outer new result)
 
 abbrev pub TakesVariable : Language → List ℕ → CodeBracket → List ℕ → List ℕ → List ℕ → CodeBracket → Result Progress ParseError → Type 0
 TakesVariable l source b name text rest new result =
     (units : UnitReader l) (outer : List CodeBracket) → Before source text → IsBehind (chars text) (chars rest) →
-    ForAll outer b (λ o os. TurnedTo (named_turn l units (chars source) o os (chars text) (chars rest) (l.variable (chars name))) outer new result)
+    ForAll l outer b (λ o os. TurnedTo l (named_turn l units (chars source) o os (chars text) (chars rest) (l.variable (chars name))) outer new result)
 
 abbrev pub TakesUnit : Language → List ℕ → CodeBracket → List ℕ → CodeBracket → Result Progress ParseError → Type 0
 TakesUnit l source b text new result =
     (units : UnitReader l) (outer : List CodeBracket) → Before source text → front l (chars text) ≡ begins_unit → is_short (chars text) ≡ false →
-    ForAll outer b (λ o os. TurnedTo (unit_turn l units (chars source) o os (chars text) (units.unit_at (fit (o.items ++ two ∷ [])) (chars text))) outer new result)
+    ForAll l outer b (λ o os. TurnedTo l (unit_turn l units (chars source) o os (chars text) (units.unit_at (fit (o.items ++ two ∷ [])) (chars text))) outer new result)
 
 abbrev pub Opens : List ℕ → List CodeBracket → CodeBracket → CodeOpening → List ℕ → List ℕ → List CodeBracket → CodeBracket → Result Progress ParseError → Type 0
 Opens source outer b opening text inner new_outer new result =
     (l : Language) (units : UnitReader l) → Before source text →
-    ForAll outer b (λ o os. TurnedTo (goes (begun (at l units (chars source) (chars text)) opening ∷ o ∷ os) (chars inner)) new_outer new result)
+    ForAll l outer b (λ o os. TurnedTo l (goes (begun (at l units (chars source) (chars text)) opening ∷ o ∷ os) (chars inner)) new_outer new result)
 
 abbrev pub ClosesAs : List ℕ → List CodeBracket → CodeBracket → List ℕ → List ℕ → List CodeBracket → CodeBracket → Result Progress ParseError → Type 0
 ClosesAs source outer b text rest new_outer new result =
     (l : Language) (units : UnitReader l) → Before source text →
-    ForAll outer b (λ o os. TurnedTo (closed l units (chars source) o os (chars text) (chars rest) (arrange o.items)) new_outer new result)
+    ForAll l outer b (λ o os. TurnedTo l (closed l units (chars source) o os (chars text) (chars rest) (arrange o.items)) new_outer new result)
 
 -- a rest that goes on is shorter
 abbrev pub IsShorter : Progress → List ℕ → Type 0

@@ -8,7 +8,7 @@ use Rattle.uset_grammar.specs.Property.{Query, PropertyBegins, PropertyOutcome}
 use Rattle.uset_grammar.specs.Unit.{Meaning, begins_property, UnitBegins, UnitOutcome}
 use Rattle.uset_grammar.specs.Item.{Item, chars as item_chars}
 use Rattle.uset_grammar.specs.Language.{Language, resolves, lacks, property_tree, stands_for}
-use Rattle.uset_gather.specs.declared.operand.Operand.{Operand}
+use Rattle.uset_steps.specs.declared.named_set.Named.{Named}
 use Rattle.uset_read.specs.declared.stop.Stop.{Stop}
 use Rattle.uset_read.specs.declared.escape.Spelled.{Spelled}
 use Rattle.uset_read.specs.declared.escape.Spelled.TheVariants.{Itself, Numbers}
@@ -17,17 +17,17 @@ use Rattle.uset_read.specs.UnitRead.{StopsAt}
 use Rattle.uset_reader.specs.declared.item.Item.{Item as CodeItem}
 use Rattle.uset_reader.specs.declared.unit.UnitKind.{UnitKind}
 use Rattle.uset_reader.specs.declared.unit.UnitKind.TheVariants.{String as AString, Escape as AnEscape, Property as AProperty}
-use Rattle.uset_reader.specs.Items.{IsOperand}
+use Rattle.uset_reader.specs.Items.{IsNamedOf}
 use Rattle.uset_reader.specs.Brackets.{IsItem}
 
--- the property at the front of the bytes has this set
-pub record IsRead (l : Language) (text : List ℕ) (operand : Operand) (rest : List ℕ) : Type 0 where
+-- the property at the front of the bytes has this set, with a name for it
+pub record IsRead (l : Language) (text : List ℕ) (named : Named) (rest : List ℕ) : Type 0 where
   pub query : Query
   pub outcome : PropertyOutcome l.white_space (resolves l) (lacks l) (chars text) (got query (chars rest))
-  pub members : IsOperand operand (property_tree l query)
+  pub members : IsNamedOf l named (property_tree l query)
 
-abbrev pub OperandIs : Language → List ℕ → Operand → List ℕ → Type 0
-OperandIs l text operand rest = PropertyBegins (chars text) → IsRead l text operand rest
+abbrev pub OperandIs : Language → List ℕ → Named → List ℕ → Type 0
+OperandIs l text named rest = PropertyBegins (chars text) → IsRead l text named rest
 
 -- the property there stops so
 abbrev pub OperandStops : Language → List ℕ → Stop → Type 0
@@ -38,7 +38,7 @@ OperandStops l text stop =
 pub record IsReadUnit (l : Language) (several : Bool) (text : List ℕ) (item : CodeItem) (rest : List ℕ) : Type 0 where
   pub unit : Meaning
   pub outcome : UnitOutcome l.white_space several (resolves l) (lacks l) (chars text) (got unit (chars rest))
-  pub item_is : IsItem item (stands_for l unit)
+  pub item_is : IsItem l item (stands_for l unit)
 
 abbrev pub UnitIs : Language → Bool → List ℕ → CodeItem → List ℕ → Type 0
 UnitIs l several text item rest = UnitBegins (chars text) → IsReadUnit l several text item rest

@@ -7,6 +7,7 @@ ghost use Rattle.uset_reader.specs.Items.{item_seen, awaits_seen, Arranges};
 use crate::code_point::CodePoint;
 use crate::item::Item;
 use cp_invlist::CodePointRange;
+use uset_steps::Operation;
 
 /// What an open bracket awaits.
 #[derive(Clone, Copy)]
@@ -29,14 +30,6 @@ pub(crate) enum Awaits {
     Keep,
 }
 
-/// How a set is gathered.
-#[derive(Clone, Copy)]
-pub(crate) enum Operation {
-    Join,
-    Remove,
-    Retain,
-}
-
 /// What becomes of an item that fits.
 #[derive(Clone, Copy)]
 pub(crate) struct Arranged {
@@ -51,7 +44,7 @@ pub(crate) struct Arranged {
 impl Arranged {
     ghost use Rattle.std.specs.Prelude.{◌≡◌, Some, None};
     ghost use Rattle.uset_reader.specs.Items.{number_of};
-    ghost use Rattle.uset_reader.specs.declared.arrange.Operation.TheVariants.{Join};
+    ghost use Rattle.uset_steps.specs.declared.step.Operation.TheVariants.{Join};
     ghost use Rattle.uset_reader.specs.declared.arrange.Awaits.TheVariants.{AfterSet as BehindSet};
 
     /// The item adds nothing in front.

@@ -1,16 +1,17 @@
 //! An open bracket.
 ghost use Rattle.std.specs.Prelude.{◌≡◌, IfOk};
 ghost use Rattle.uset_grammar.specs.Tree.{Member, leading_hyphen};
-ghost use Rattle.uset_gather.specs.Gathered.{gathered_in};
+ghost use Rattle.uset_steps.specs.Names.{Sets};
+ghost use Rattle.uset_steps.specs.Gathering.{gathering_in, Fits};
 
-use crate::arrange::{Awaits, Operation, arranged_behind};
+use crate::arrange::{Awaits, arranged_behind};
 use crate::code_point::CodePoint;
-use crate::item::Item;
+use crate::item::{Item, Operand};
 use cp_invlist::{CodePointRange, NoMemory};
 use std::alloc::Global;
-use std::mem::replace;
-use uset_gather::{Gathered, Operand};
+use uset_gather::Gathered;
 use uset_grammar::laws::arranging;
+use uset_steps::{Gathering, Operation};
 
 /// The range of the hyphen alone.
 const HYPHEN: CodePointRange = CodePointRange {
@@ -35,8 +36,8 @@ pub(crate) struct Opening {
 
 /// A bracket whose closing `]` is still to come.
 #[derive(Drop)]
-pub(crate) struct OpenBracket {
-    gathered: Gathered,
+pub(crate) struct OpenBracket<'a> {
+    gathered: Gathering<'a>,
     opening: Opening,
     pub(crate) awaits: Awaits,
     /// The number of bytes of the source before the bracket.
@@ -55,10 +56,11 @@ pub(crate) enum Taken {
 }
 
 /// What a bracket has gathered in front of its items: a hyphen, where one is its first member.
-fn first_gathered(alloc: Global, leading: bool) -> Result<Gathered, NoMemory>
-    ensures { IfOk result (λ g. (m : Member) → gathered_in g m ≡ leading_hyphen leading m) }
+fn first_gathered<'a>(alloc: Global, leading: bool) -> Result<Gathering<'a>, NoMemory>
+    ensures members { IfOk result (λ g. (m : Member) → gathering_in g m ≡ leading_hyphen leading m) }
+    ensures names { IfOk result (λ g. (sets : Sets) → Fits sets g) }
 {
-    let mut gathered = Gathered::new(alloc);
+    let mut gathered = Gathering::new(alloc);
     if !leading {
         return Ok(gathered);
     }
@@ -66,22 +68,21 @@ fn first_gathered(alloc: Global, leading: bool) -> Result<Gathered, NoMemory>
     Ok(gathered)
 }
 
-impl OpenBracket {
+impl<'a> OpenBracket<'a> {
     ghost use Rattle.std.specs.Prelude.{◌≡◌, ◌≤◌, ℕ, ◌∷◌, [], All, IfOk, IfSome, OnOk};
-    ghost use Rattle.uset_grammar.specs.Tree.{Tree, Member, add};
+    ghost use Rattle.uset_grammar.specs.Tree.{Tree, add};
     ghost use Rattle.uset_grammar.specs.Body.{add_each};
     ghost use Rattle.uset_grammar.specs.Arranging.{went, next, ending};
     ghost use Rattle.uset_grammar.specs.Turn.{two};
-    ghost use Rattle.uset_gather.specs.Gathered.{gathered_in};
     ghost use Rattle.uset_reader.specs.Items.{number_of, awaits_seen, item_seen, range_steps, IsProper};
-    ghost use Rattle.uset_reader.specs.Brackets.{Becomes, GathersItem, GathersSet, IsBegun, Takes, Closes, Refuses, KeepsFrame, EndedAs, finished};
+    ghost use Rattle.uset_reader.specs.Brackets.{Becomes, GathersItem, GathersSet, IsBegun, Takes, Closes, Refuses, KeepsFrame, EndedAs};
 
     /// A bracket behind what it begins with.
     pub(crate) fn open(
         alloc: Global,
         opening: Opening,
         before: usize,
-    ) -> Result<OpenBracket, NoMemory>
+    ) -> Result<OpenBracket<'a>, NoMemory>
         ensures { IfOk result (IsBegun opening before) }
     {
         Ok(OpenBracket {
@@ -103,7 +104,7 @@ impl OpenBracket {
     }
 
     /// Takes an item, where it fits.
-    pub(crate) fn take(&mut self, alloc: Global, item: Item<'_>) -> Result<Taken, NoMemory>
+    pub(crate) fn take(&mut self, alloc: Global, item: Item<'a>) -> Result<Taken, NoMemory>
         requires { IsProper item }
         ensures { IfOk result (λ taken. Takes self.old item.entry taken self.new) }
     {
@@ -144,7 +145,7 @@ impl OpenBracket {
         &mut self,
         alloc: Global,
         operation: Operation,
-        item: Item<'_>,
+        item: Item<'a>,
     ) -> Result<(), NoMemory>
         requires { IsProper item }
         ensures becomes { OnOk result (GathersItem operation item.entry self.old.gathered self.new.gathered) }
@@ -152,7 +153,7 @@ impl OpenBracket {
     {
         match item {
             Item::Several(codes) => self.add_each(codes.first, &codes.more),
-            Item::Text(text) => self.gathered.add_text(text),
+            Item::Text(text) => self.gathered.add_text(alloc, text),
             Item::Set(operand) => self.gather_set(alloc, operation, operand),
             Item::Minus | Item::Ampersand | Item::Dollar | Item::Single(_) => Ok(()),
         }
@@ -162,15 +163,17 @@ impl OpenBracket {
         &mut self,
         alloc: Global,
         operation: Operation,
-        operand: Operand<'_>,
+        operand: Operand<'a>,
     ) -> Result<(), NoMemory>
         ensures becomes { OnOk result (GathersSet operation operand.entry self.old.gathered self.new.gathered) }
         ensures same { KeepsFrame self.old self.new }
     {
-        match operation {
-            Operation::Join => self.gathered.join(operand, alloc),
-            Operation::Remove => self.gathered.remove(operand),
-            Operation::Retain => self.gathered.retain(operand, alloc),
+        match operand {
+            Operand::Inner(set) => self.gathered.gather(alloc, operation, set),
+            Operand::Named(named) => {
+                let named = Box::into_inner(named);
+                self.gathered.gather_named(alloc, operation, named)
+            }
         }
     }
 
@@ -224,16 +227,6 @@ impl OpenBracket {
         Ok(true)
     }
 
-    /// Exchanges the members and the other code points, where the bracket is negated.
-    fn finish(&mut self, alloc: Global)
-        ensures members { (m : Member) → gathered_in self.new.gathered m ≡ finished self.old.opening.negated m (gathered_in self.old.gathered m) }
-        ensures place { self.new.before ≡ self.old.before }
-    {
-        if self.opening.negated {
-            self.gathered.negate(alloc);
-        }
-    }
-
     /// Takes `]`. The answer is the bracket's set, which is moved out, and `None` where no `]` fits.
     pub(crate) fn close(&mut self, alloc: Global) -> Result<Option<Gathered>, NoMemory>
         ensures set { IfOk result (Closes self.old) }
@@ -242,7 +235,6 @@ impl OpenBracket {
         if !self.add_last()? {
             return Ok(None);
         }
-        self.finish(alloc);
-        Ok(Some(replace(&mut self.gathered, Gathered::new(alloc))))
+        Ok(Some(self.gathered.close(alloc, self.opening.negated)?))
     }
 }

@@ -15,14 +15,14 @@ use uset_read::{read_name, split_first};
 
 /// What stands in front of a text in a bracket.
 #[derive(Drop)]
-pub(crate) enum Front<'a> {
+pub(crate) enum Front<'v, 'a> {
     Nothing,
     /// A `]`, and the text behind it.
     Closing(&'a str),
     /// A bracket with what it begins with, and the text behind that.
     Opening(Opening, &'a str),
     /// An item of one character, and the text behind it.
-    Single(Item<'a>, &'a str),
+    Single(Item<'v>, &'a str),
     /// A name behind a `$`, and the text behind the name.
     Name(&'a str, &'a str),
     /// An escape, a string or a property.
@@ -60,7 +60,7 @@ pub(crate) fn is_short(text: &str) -> bool
 
 /// What stands in front of the text, white space aside, that is the rest of a bracket.
 #[tactic(auto, unfolding(uset_grammar::specs::Front::sign))]
-pub(crate) fn look_ahead<'a>(syntax: &Syntax<'_>, text: &'a str) -> Front<'a>
+pub(crate) fn look_ahead<'v, 'a>(syntax: &Syntax<'v>, text: &'a str) -> Front<'v, 'a>
     ensures front { front_seen result ≡ front (language_seen syntax.now) (chars text.now) }
     ensures behind { IsBehindFront result text.now }
 {

@@ -2,7 +2,8 @@
 ghost use Rattle.std.specs.Prelude.{◌≢◌, []};
 
 use crate::code_point::CodePoint;
-use uset_gather::Operand;
+use uset_gather::Gathered;
+use uset_steps::Named;
 
 /// The code points of an escape of several numbers: the first, and those behind it.
 #[derive(Drop)]
@@ -10,6 +11,15 @@ pub(crate) struct Codes {
     pub(crate) first: u32,
     pub(crate) more: Vec<u32>,
     ghost several: { more.items ≢ [] },
+}
+
+/// A set in a bracket.
+#[derive(Drop)]
+pub(crate) enum Operand<'a> {
+    /// What a bracket inside gathered.
+    Inner(Gathered),
+    /// A property, or a variable that is bound to a set, with its name.
+    Named(Box<Named<'a>>),
 }
 
 /// An item of a bracket.
@@ -27,6 +37,6 @@ pub(crate) enum Item<'a> {
     Several(Codes),
     /// A string that isn't one character.
     Text(String),
-    /// A set: a property, or a variable that is bound to one.
+    /// A set.
     Set(Operand<'a>),
 }

@@ -3,7 +3,7 @@ ghost use Rattle.std.specs.Prelude.{◌≡◌, ◌≤◌, ◌<◌, length, IfOk,
 ghost use Rattle.prop_data.specs.Database.{tables_of};
 ghost use Rattle.uset_read.specs.Queries.{query_seen};
 ghost use Rattle.uset_read.specs.Stops.{left_at};
-ghost use Rattle.uset_reader.specs.Resolution.{ResolvesTo, IsOperandOf};
+ghost use Rattle.uset_reader.specs.Resolution.{ResolvesTo, IsSetOfProperty};
 ghost use Rattle.uset_reader.specs.Units.{OperandIs, OperandStops};
 ghost use Rattle.uset_reader.specs.Syntaxes.{language_seen};
 
@@ -11,9 +11,9 @@ use crate::syntax::Syntax;
 use cp_invlist::NoMemory;
 use prop_data::PropertyDatabase;
 use std::alloc::Global;
-use uset_gather::Operand;
 use uset_read::{Kind, Query, Stop, close_property, read_property};
 use uset_resolve::{Resolution, resolve};
+use uset_steps::{Name, Named, NamedSet};
 
 /// What a property asks for.
 fn resolve_query<'a>(
@@ -30,12 +30,12 @@ fn resolve_query<'a>(
 }
 
 /// The set of a property, or what is wrong with it.
-fn operand_of<'v>(resolution: Resolution<'v>, negated: bool) -> Result<Operand<'v>, Kind>
-    ensures { IsOperandOf resolution.entry negated result }
+fn set_of<'v>(resolution: Resolution<'v>, negated: bool) -> Result<NamedSet<'v>, Kind>
+    ensures { IsSetOfProperty resolution.entry negated result }
 {
     match resolution {
-        Resolution::Found(source, falsy) if falsy == negated => Ok(Operand::CodePoints(source)),
-        Resolution::Found(source, _) => Ok(Operand::Complement(source)),
+        Resolution::Found(source, falsy) if falsy == negated => Ok(NamedSet::CodePoints(source)),
+        Resolution::Found(source, _) => Ok(NamedSet::Complement(source)),
         Resolution::Unknown => Err(Kind::UnknownProperty),
         Resolution::Lacking => Err(Kind::Internal),
     }
@@ -43,11 +43,11 @@ fn operand_of<'v>(resolution: Resolution<'v>, negated: bool) -> Result<Operand<'
 
 /// Reads the property at the front of the text, which begins with `[:` or a backslash. The key is resolved before what
 /// closes the property is looked at.
-pub(crate) fn read_operand<'v, 'a>(
+pub(crate) fn read_named<'v, 'a>(
     alloc: Global,
     syntax: &Syntax<'v>,
     text: &'a str,
-) -> Result<(Operand<'v>, &'a str), Stop<'a>>
+) -> Result<(Named<'v>, &'a str), Stop<'a>>
     ensures read { IfOk result (λ p. OperandIs (language_seen syntax.now) text.now p.0 p.1.now) }
     ensures stopped { IfErr result (OperandStops (language_seen syntax.now) text.now) }
     ensures place { IfErr result (λ stop. left_at stop ≤ length text.now) }
@@ -55,10 +55,11 @@ pub(crate) fn read_operand<'v, 'a>(
 {
     let (form, query, mark) = read_property(alloc, syntax.white_space, text)?;
     let resolution = resolve_query(alloc, syntax.database, &query)?;
-    match operand_of(resolution, query.negated) {
-        Ok(operand) => {
+    match set_of(resolution, query.negated) {
+        Ok(set) => {
             let rest = close_property(form, mark)?;
-            Ok((operand, rest))
+            let name = Name::Property(query);
+            Ok((Named { name, set }, rest))
         }
         Err(kind) => Err(Stop::Fault(kind, mark)),
     }

@@ -1,9 +1,7 @@
 //! The reader: one loop over the open brackets.
 ghost use Rattle.std.specs.Prelude.{◌≡◌, ◌<◌, length, IfOk, IfErr};
 ghost use Rattle.std.specs.Str.{chars};
-ghost use Rattle.uset_grammar.specs.Tree.{Member};
 ghost use Rattle.uset_grammar.specs.Front.{first, of_bracket, of_variable, of_property};
-ghost use Rattle.uset_gather.specs.Gathered.{gathered_in, operand_in};
 ghost use Rattle.uset_reader.specs.Brackets.{opening_seen};
 ghost use Rattle.uset_reader.specs.Syntaxes.{language_seen};
 ghost use Rattle.uset_reader.specs.Readings.{IsReading, IsRefusal};
@@ -11,15 +9,16 @@ ghost use Rattle.uset_reader.specs.Readings.{IsReading, IsRefusal};
 use crate::bracket::{OpenBracket, Opening};
 use crate::fault::{fault_at, fault_before, stopped};
 use crate::front::{First, look_at_first};
-use crate::property::read_operand;
+use crate::property::read_named;
 use crate::syntax::Syntax;
 use crate::turn::{Progress, turn};
 use cp_invlist::NoMemory;
 use std::alloc::Global;
 use uset_fault::{ParseError, ParseErrorKind};
-use uset_gather::{Gathered, Operand};
+use uset_gather::Gathered;
 use uset_grammar::laws;
 use uset_read::Cursor;
+use uset_steps::NamedSet;
 
 /// Reads the bracket that begins the source, up to its `]`.
 fn read_bracket<'a>(
@@ -51,15 +50,6 @@ fn read_bracket<'a>(
     }
 }
 
-/// The set of the operand alone.
-fn gathered(alloc: Global, operand: Operand<'_>) -> Result<Gathered, NoMemory>
-    ensures { IfOk result (λ g. (m : Member) → gathered_in g m ≡ operand_in operand.entry m) }
-{
-    let mut gathered = Gathered::new(alloc);
-    gathered.join(operand, alloc)?;
-    Ok(gathered)
-}
-
 /// Reads the variable of this name, which begins the source, as a set.
 fn read_variable<'a>(
     alloc: Global,
@@ -81,7 +71,7 @@ fn read_variable<'a>(
     let Some(set) = value.as_set() else {
         return Err(fault_before(cursor, ParseErrorKind::UnexpectedVariable, rest));
     };
-    Ok((gathered(alloc, Operand::Set(set))?, cursor.at(rest)))
+    Ok((NamedSet::Set(set).gathered(alloc)?, cursor.at(rest)))
 }
 
 /// Reads the property that begins the source, as a set.
@@ -96,11 +86,11 @@ fn read_property<'a>(
 {
     laws::turns();
     let cursor = Cursor::new(source);
-    let (operand, rest) = match read_operand(alloc, syntax, source) {
+    let (named, rest) = match read_named(alloc, syntax, source) {
         Ok(read) => read,
         Err(stop) => return Err(stopped(cursor, stop)),
     };
-    Ok((gathered(alloc, operand)?, cursor.at(rest)))
+    Ok((named.set.gathered(alloc)?, cursor.at(rest)))
 }
 
 /// Reads the set at the front of the source. The answer is the set, and the cursor behind it.

@@ -1,11 +1,11 @@
 //! One turn of the reader: what stands in front in the innermost bracket.
-ghost use Rattle.std.specs.Prelude.{◌≡◌, ◌≤◌, ◌<◌, length, IfOk, true};
+ghost use Rattle.std.specs.Prelude.{◌≡◌, ◌≤◌, ◌<◌, length, IfOk, Some, true};
 ghost use Rattle.std.specs.Str.{chars};
 ghost use Rattle.uset_read.specs.Cursors.{source_of, left_of};
 ghost use Rattle.uset_reader.specs.Items.{IsProper};
 ghost use Rattle.uset_reader.specs.Syntaxes.{language_seen};
 ghost use Rattle.uset_grammar.specs.Item.{Item as GrammarItem};
-ghost use Rattle.uset_grammar.specs.Language.{item_of};
+ghost use Rattle.uset_grammar.specs.Language.{Language, item_of};
 ghost use Rattle.uset_grammar.specs.Grammar.{of_unit};
 ghost use Rattle.uset_grammar.specs.Reached.{is_last_property};
 ghost use Rattle.uset_reader.specs.Brackets.{IsItem};
@@ -16,16 +16,17 @@ use crate::bracket::{OpenBracket, Opening, Taken};
 use crate::code_point::CodePoint;
 use crate::fault::{fault_at, fault_before, stopped};
 use crate::front::{Front, is_short, look_ahead};
-use crate::item::Item;
+use crate::item::{Item, Operand};
 use crate::syntax::Syntax;
 use crate::unit::read_unit;
 use cp_invlist::NoMemory;
 use std::alloc::Global;
 use std::mem::replace;
 use uset_fault::{ParseError, ParseErrorKind};
-use uset_gather::{Gathered, Operand};
+use uset_gather::Gathered;
 use uset_grammar::laws;
 use uset_read::{Cursor, split_first};
+use uset_steps::{Name, Named, NamedSet};
 use uset_variables::VariableValue;
 
 /// What a turn made of the open brackets.
@@ -61,12 +62,12 @@ fn unfit(cursor: Cursor<'_>, sort: Sort, text: &str, rest: &str) -> ParseError
 }
 
 /// Takes an item that stands at the front of the text, up to the rest.
-fn take<'a>(
+fn take<'v, 'a>(
     alloc: Global,
     cursor: Cursor<'a>,
-    bracket: &mut OpenBracket,
+    bracket: &mut OpenBracket<'v>,
     sort: Sort,
-    item: Item<'_>,
+    item: Item<'v>,
     text: &'a str,
     rest: &'a str,
 ) -> Result<Progress<'a>, ParseError>
@@ -87,25 +88,33 @@ fn take<'a>(
     }
 }
 
-/// The item that a variable stands for.
-fn variable_item<'v>(alloc: Global, value: &'v VariableValue) -> Result<Item<'v>, NoMemory>
+/// The item that the variable of this name stands for.
+fn variable_item<'v>(
+    alloc: Global,
+    name: &str,
+    value: &'v VariableValue,
+) -> Result<Item<'v>, NoMemory>
     requires { is_kept value.now ≡ true }
-    ensures item { IfOk result (λ item. IsItem item (item_of (value_seen value.now))) }
+    ensures item { IfOk result (λ item. (l : Language) → l.variable (chars name.now) ≡ Some (value_seen value.now) → IsItem l item (item_of (value_seen value.now))) }
     ensures proper { IfOk result IsProper }
 {
     match value {
         VariableValue::Char(c) => Ok(Item::Single(CodePoint::from_char(*c))),
         VariableValue::String(s) => Ok(Item::Text(String::from_str(alloc, s.as_str())?)),
-        VariableValue::UnicodeSet(set) => Ok(Item::Set(Operand::Set(set))),
+        VariableValue::UnicodeSet(set) => {
+            let name = Name::Variable(String::from_str(alloc, name)?);
+            let set = NamedSet::Set(set);
+            Ok(Item::Set(Operand::Named(Box::new(alloc, Named { name, set })?)))
+        }
     }
 }
 
 /// Takes the variable of this name, which stands at the front of the text, up to the rest.
-fn take_variable<'a>(
+fn take_variable<'v, 'a>(
     alloc: Global,
-    syntax: &Syntax<'_>,
+    syntax: &Syntax<'v>,
     cursor: Cursor<'a>,
-    bracket: &mut OpenBracket,
+    bracket: &mut OpenBracket<'v>,
     name: &str,
     text: &'a str,
     rest: &'a str,
@@ -119,13 +128,13 @@ fn take_variable<'a>(
     let Some(value) = syntax.variables.get(name) else {
         return Err(fault_before(cursor, ParseErrorKind::UnknownVariable, rest));
     };
-    let item = variable_item(alloc, value)?;
+    let item = variable_item(alloc, name, value)?;
     take(alloc, cursor, bracket, Sort::Variable, item, text, rest)
 }
 
 /// Whether the unit is a property with nothing behind it.
 fn is_last_property(item: &Item<'_>, rest: &str) -> bool
-    ensures { (i : GrammarItem) → IsItem item.now i → result ≡ is_last_property of_unit i (chars rest.now) }
+    ensures { (l : Language) (i : GrammarItem) → IsItem l item.now i → result ≡ is_last_property of_unit i (chars rest.now) }
 {
     match item {
         Item::Set(_) => split_first(rest).is_none(),
@@ -134,11 +143,11 @@ fn is_last_property(item: &Item<'_>, rest: &str) -> bool
 }
 
 /// Takes the escape, the string or the property at the front of the text.
-fn take_unit<'a>(
+fn take_unit<'v, 'a>(
     alloc: Global,
-    syntax: &Syntax<'_>,
+    syntax: &Syntax<'v>,
     cursor: Cursor<'a>,
-    bracket: &mut OpenBracket,
+    bracket: &mut OpenBracket<'v>,
     text: &'a str,
 ) -> Result<Progress<'a>, ParseError>
     requires within { length text.now ≤ length (left_of cursor) }
@@ -158,11 +167,11 @@ fn take_unit<'a>(
 }
 
 /// Opens a bracket inside the innermost one, at the front of the text.
-fn open<'a>(
+fn open<'v, 'a>(
     alloc: Global,
     cursor: Cursor<'a>,
-    outer: &mut Vec<OpenBracket>,
-    bracket: &mut OpenBracket,
+    outer: &mut Vec<OpenBracket<'v>>,
+    bracket: &mut OpenBracket<'v>,
     opening: Opening,
     text: &'a str,
     inner: &'a str,
@@ -180,11 +189,11 @@ fn open<'a>(
 
 /// Closes the innermost bracket, with a `]` at the front of the text and in front of the rest, and gives its set to the
 /// bracket around it.
-fn close<'a>(
+fn close<'v, 'a>(
     alloc: Global,
     cursor: Cursor<'a>,
-    outer: &mut Vec<OpenBracket>,
-    bracket: &mut OpenBracket,
+    outer: &mut Vec<OpenBracket<'v>>,
+    bracket: &mut OpenBracket<'v>,
     text: &'a str,
     rest: &'a str,
 ) -> Result<Progress<'a>, ParseError>
@@ -205,19 +214,19 @@ fn close<'a>(
     };
     let before = bracket.before;
     *bracket = around;
-    match bracket.take(alloc, Item::Set(Operand::Gathered(set)))? {
+    match bracket.take(alloc, Item::Set(Operand::Inner(set)))? {
         Taken::Fits => Ok(Progress::GoesOn(rest)),
         _ => Err(ParseError::at(ParseErrorKind::UnexpectedChar('['), before)),
     }
 }
 
 /// Reads what stands in front of what is left, white space aside, in the innermost bracket.
-pub(crate) fn turn<'a>(
+pub(crate) fn turn<'v, 'a>(
     alloc: Global,
-    syntax: &Syntax<'_>,
+    syntax: &Syntax<'v>,
     cursor: Cursor<'a>,
-    outer: &mut Vec<OpenBracket>,
-    bracket: &mut OpenBracket,
+    outer: &mut Vec<OpenBracket<'v>>,
+    bracket: &mut OpenBracket<'v>,
 ) -> Result<Progress<'a>, ParseError>
     ensures turns { TurnsAt (language_seen syntax.now) cursor.entry outer.old.items bracket.old outer.new.items bracket.new result }
     ensures shorter { IfOk result (λ p. IsShorter p (left_of cursor.entry)) }

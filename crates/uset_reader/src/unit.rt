@@ -3,6 +3,7 @@ ghost use Rattle.std.specs.Prelude.{◌≡◌, ◌≤◌, ◌<◌, length, IfOk,
 ghost use Rattle.std.specs.Str.{chars};
 ghost use Rattle.std.specs.String.{string_bytes};
 ghost use Rattle.uset_grammar.specs.Item.{text_item};
+ghost use Rattle.uset_grammar.specs.Language.{Language};
 ghost use Rattle.uset_grammar.specs.Unit.{begins_property};
 ghost use Rattle.uset_read.specs.Stops.{left_at};
 ghost use Rattle.uset_reader.specs.Items.{IsProper};
@@ -11,13 +12,15 @@ ghost use Rattle.uset_reader.specs.Syntaxes.{language_seen};
 ghost use Rattle.uset_reader.specs.Units.{begins_with, AreCodePoints, chars_of, IsString, IsEscape, IsProperty, IsOfKind, UnitIs, UnitStops};
 
 use crate::code_point::CodePoint;
-use crate::item::{Codes, Item};
-use crate::property::read_operand;
+use crate::item::{Codes, Item, Operand};
+use crate::property::read_named;
 use crate::syntax::Syntax;
+use cp_invlist::NoMemory;
 use cp_strset::sole_char;
 use std::alloc::Global;
 use uset_grammar::laws::kinds_of_units;
 use uset_read::{Around, Spelled, Stop, read_escape, read_string, split_first};
+use uset_steps::Named;
 
 /// What a unit is.
 #[derive(Clone, Copy)]
@@ -30,7 +33,7 @@ enum UnitKind {
 /// The item that an escape stands for.
 fn escape_item<'v>(spelled: Spelled) -> Item<'v>
     requires { AreCodePoints spelled }
-    ensures item { IsItem result (chars_of spelled) }
+    ensures item { (l : Language) → IsItem l result (chars_of spelled) }
     ensures proper { IsProper result }
 {
     match spelled {
@@ -46,7 +49,7 @@ fn escape_item<'v>(spelled: Spelled) -> Item<'v>
 
 /// The item of a text: its one character, where it has exactly one, else a string.
 pub(crate) fn item_of_text<'v>(text: String) -> Item<'v>
-    ensures item { IsItem result (text_item (chars (string_bytes text))) }
+    ensures item { (l : Language) → IsItem l result (text_item (chars (string_bytes text))) }
     ensures proper { IsProper result }
 {
     match sole_char(&text) {
@@ -104,6 +107,13 @@ fn read_escaped<'v, 'a>(
     Ok((escape_item(spelled), rest))
 }
 
+/// The set in a place of its own.
+fn boxed<'v>(alloc: Global, named: Named<'v>) -> Result<Box<Named<'v>>, NoMemory>
+    ensures { IfOk result (λ b. b.value ≡ named.entry) }
+{
+    Ok(Box::new(alloc, named)?)
+}
+
 /// Reads the property at the front of the text.
 fn read_set<'v, 'a>(
     alloc: Global,
@@ -119,8 +129,8 @@ fn read_set<'v, 'a>(
     ensures shorter { IfOk result (λ p. length p.1.now < length text.now) }
 {
     kinds_of_units();
-    let (operand, rest) = read_operand(alloc, syntax, text)?;
-    Ok((Item::Set(operand), rest))
+    let (named, rest) = read_named(alloc, syntax, text)?;
+    Ok((Item::Set(Operand::Named(boxed(alloc, named)?)), rest))
 }
 
 /// What the unit at the front of the text is, which begins as one.

@@ -29,6 +29,8 @@ mod properties;
 #[cfg(test)]
 mod refusals;
 #[cfg(test)]
+mod repeated;
+#[cfg(test)]
 mod variables;
 
 /// Runs the program over the input. In memory neither source nor sink fails.

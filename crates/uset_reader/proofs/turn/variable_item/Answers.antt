@@ -5,11 +5,11 @@ use Rattle.uset_reader.proofs.UnitLemmas.{single_item, copied_item, none_kept}
 use Rattle.uset_reader.proofs.turn.variable_item.Goals as goal
 
 pub returns-in-Char-clause-item : goal.returns-in-Char-clause-item
-returns-in-Char-clause-item c = rw c.in-Char.is (single_item c.from_char.result c.in-Char.c c.from_char.ensures)
+returns-in-Char-clause-item c = λ l bound. rw c.in-Char.is (single_item l c.from_char.result c.in-Char.c c.from_char.ensures)
 
 pub returns-in_ok-from_str-in-String-clause-item : goal.returns-in_ok-from_str-in-String-clause-item
 returns-in_ok-from_str-in-String-clause-item c =
-    rw c.in-String.is (copied_item c.in_ok-from_str-in-String.field-0 _ (c.in_ok-from_str-in-String.ensures.ok ∙ c.as_str.ensures))
+    λ l bound. rw c.in-String.is (copied_item l c.in_ok-from_str-in-String.field-0 _ (c.in_ok-from_str-in-String.ensures.ok ∙ c.as_str.ensures))
 
 pub returns-in_ok-from_str-in-String-clause-proper : goal.returns-in_ok-from_str-in-String-clause-proper
 returns-in_ok-from_str-in-String-clause-proper c =

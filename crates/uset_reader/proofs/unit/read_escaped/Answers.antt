@@ -1,4 +1,5 @@
 use Rattle.std.proofs.Common.{rules}
+use Rattle.uset_reader.specs.Syntaxes.{language_seen}
 use Rattle.uset_reader.proofs.UnitLemmas.{escape_read, escape_stops, escape_within}
 use Rattle.uset_reader.proofs.unit.read_escaped.Goals as goal
 
@@ -14,4 +15,4 @@ escape_item-requires c =
 pub returns-clause-read : goal.returns-clause-read
 returns-clause-read c =
     escape_read c.args.syntax.now c.kinds_of_units.ensures c.args.several c.args.text.now c.requires c.in_ok-spelled.spelled c.in_ok-spelled.rest.now c.escape_item.result
-    c.in_ok-spelled.ensures.read c.escape_item.ensures.item
+    c.in_ok-spelled.ensures.read (c.escape_item.ensures.item (language_seen c.args.syntax.now))

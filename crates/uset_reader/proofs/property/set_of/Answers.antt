@@ -1,6 +1,6 @@
 use Rattle.std.proofs.Common.{false}
 use Rattle.uset_reader.proofs.PropertyLemmas.{has-found, is-found, differ-alike}
-use Rattle.uset_reader.proofs.property.operand_of.Goals as goal
+use Rattle.uset_reader.proofs.property.set_of.Goals as goal
 
 pub returns-in-Found : goal.returns-in-Found
 returns-in-Found c =

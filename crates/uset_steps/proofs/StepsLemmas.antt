@@ -1,0 +1,179 @@
+-- Steps, one behind another, and those that have no effect.
+use Rattle.std.proofs.Common.{◌≡◌, ℕ, Bool, true, false, not, ◌&&◌, ◌||◌, ◌==◌, ◌⊎◌, inl, inr, if◌then◌else◌, List, [], ◌∷◌, ◌++◌, reverse, Option, Some, None, refl, sym, ap, ◌∙◌, subst, append_assoc}
+use Rattle.std.specs.Prelude.{slice_get}
+use Rattle.std.proofs.lemmas.Bool.{cases_Bool, eqb-true}
+use Rattle.std.proofs.lemmas.List.{append-nil, reverse-append}
+use Rattle.uset_grammar.specs.Tree.{Member}
+use Rattle.uset_steps.specs.declared.named_set.Named.{Named as Entry}
+use Rattle.uset_steps.specs.declared.step.Operation.{Operation}
+use Rattle.uset_steps.specs.declared.step.Operation.TheVariants.{Join, Remove, Retain}
+use Rattle.uset_steps.specs.declared.step.Step.{Step}
+use Rattle.uset_steps.specs.declared.step.Step.TheVariants.{Range, Text, Set, Named}
+use Rattle.uset_steps.specs.Names.{named_in}
+use Rattle.uset_steps.specs.Steps.{operated, entered, step_done, steps_done, names_none, retains, is_side, is_about, occurs}
+
+-- one more step
+pub done_more : (es : List Entry) (ss : List Step) (s : Step) (m : Member) (b : Bool) → steps_done es (ss ++ s ∷ []) m b ≡ step_done es s m (steps_done es ss m b)
+done_more es [] s m b = refl
+done_more es (t ∷ ss) s m b = done_more es ss s m (step_done es t m b)
+
+pub done_append : (es : List Entry) (xs ys : List Step) (m : Member) (b : Bool) → steps_done es (xs ++ ys) m b ≡ steps_done es ys m (steps_done es xs m b)
+done_append es [] ys m b = refl
+done_append es (x ∷ xs) ys m b = done_append es xs ys m (step_done es x m b)
+
+-- a step that names no entry
+pub none_named : (es : List Entry) (s : Step) (m : Member) (b : Bool) → names_none s ≡ true → step_done es s m b ≡ step_done [] s m b
+none_named es (Range span) m b h = refl
+none_named es (Text spelled) m b h = refl
+none_named es (Set operation set) m b h = refl
+none_named es (Named operation place) m b h = absurd (let e = h in cc)
+
+-- what an operation has the last word on: what the set has, or what it lacks
+touched : Bool → Bool → Bool
+touched outside has = if outside then not has else has
+
+idle : (operation : Operation) (outside has b : Bool) → is_side outside (retains operation) ≡ true → touched outside has ≡ false → operated operation has b ≡ b
+unfolding touched
+idle Join false false true side h = refl
+idle Join false false false side h = refl
+idle Join false true b side h = absurd (let e = h in cc)
+idle Join true has b side h = absurd (let e = side in cc)
+idle Remove false false true side h = refl
+idle Remove false false false side h = refl
+idle Remove false true b side h = absurd (let e = h in cc)
+idle Remove true has b side h = absurd (let e = side in cc)
+idle Retain true true true side h = refl
+idle Retain true true false side h = refl
+idle Retain true false b side h = absurd (let e = h in cc)
+idle Retain false has b side h = absurd (let e = side in cc)
+
+decides : (operation : Operation) (outside has b c : Bool) → is_side outside (retains operation) ≡ true → touched outside has ≡ true → operated operation has b ≡ operated operation has c
+unfolding touched
+decides Join false true true true side h = refl
+decides Join false true true false side h = refl
+decides Join false true false true side h = refl
+decides Join false true false false side h = refl
+decides Join false false b c side h = absurd (let e = h in cc)
+decides Join true has b c side h = absurd (let e = side in cc)
+decides Remove false true true true side h = refl
+decides Remove false true true false side h = refl
+decides Remove false true false true side h = refl
+decides Remove false true false false side h = refl
+decides Remove false false b c side h = absurd (let e = h in cc)
+decides Remove true has b c side h = absurd (let e = side in cc)
+decides Retain true false true true side h = refl
+decides Retain true false true false side h = refl
+decides Retain true false false true side h = refl
+decides Retain true false false false side h = refl
+decides Retain true true b c side h = absurd (let e = h in cc)
+decides Retain false has b c side h = absurd (let e = side in cc)
+
+both : (a b : Bool) → (a && b) ≡ true → (a ≡ true) × (b ≡ true)
+both true true h = (refl, refl)
+both true false h = absurd (let e = h in cc)
+both false b h = absurd (let e = h in cc)
+
+either : (a b : Bool) → (a || b) ≡ true → (a ≡ true) ⊎ (b ≡ true)
+either true b h = inl refl
+either false b h = inr h
+
+-- a step is about one entry, on one side
+one_side : (outside other b : Bool) → is_side outside b ≡ true → is_side other b ≡ true → outside ≡ other
+one_side true true b h k = refl
+one_side false false b h k = refl
+one_side true false true h k = absurd (let e = k in cc)
+one_side true false false h k = absurd (let e = h in cc)
+one_side false true true h k = absurd (let e = h in cc)
+one_side false true false h k = absurd (let e = k in cc)
+
+pub about_one : (s : Step) (outside other : Bool) (place elsewhere : ℕ) → is_about outside place s ≡ true → is_about other elsewhere s ≡ true → (outside ≡ other) × (place ≡ elsewhere)
+about_one (Named operation p) outside other place elsewhere h k =
+    let x = both (is_side outside (retains operation)) (p == place) h in
+    let y = both (is_side other (retains operation)) (p == elsewhere) k in
+    (one_side outside other (retains operation) x.0 y.0, sym (eqb-true p place x.1) ∙ eqb-true p elsewhere y.1)
+about_one (Range span) outside other place elsewhere h k = absurd (let e = h in cc)
+about_one (Text spelled) outside other place elsewhere h k = absurd (let e = h in cc)
+about_one (Set operation set) outside other place elsewhere h k = absurd (let e = h in cc)
+
+-- a step about an entry: what it makes is what the operation makes with that entry
+record Acts (es : List Entry) (s : Step) (outside : Bool) (place : ℕ) : Type 0 where
+  operation : Operation
+  side : is_side outside (retains operation) ≡ true
+  does : (m : Member) (b : Bool) → step_done es s m b ≡ entered operation (slice_get es place) m b
+
+acts : (es : List Entry) (s : Step) (outside : Bool) (place : ℕ) → is_about outside place s ≡ true → Acts es s outside place
+acts es (Named operation p) outside place h =
+    let x = both (is_side outside (retains operation)) (p == place) h in record {
+      operation = operation;
+      side = x.0;
+      does = λ m b. ap (λ i. entered operation (slice_get es i) m b) (eqb-true p place x.1);
+    }
+acts es (Range span) outside place h = absurd (let e = h in cc)
+acts es (Text spelled) outside place h = absurd (let e = h in cc)
+acts es (Set operation set) outside place h = absurd (let e = h in cc)
+
+module _ (es : List Entry) (outside : Bool) (place : ℕ) (m : Member) (entry : Entry) (is : slice_get es place ≡ Some entry) where
+  does_with : (s : Step) (a : Acts es s outside place) (b : Bool) → step_done es s m b ≡ operated a.operation (named_in entry.set m) b
+  does_with s a b = a.does m b ∙ ap (λ e. entered a.operation e m b) is
+
+  -- where a step behind decides, all that stands before is alike
+  all_alike : (ss : List Step) → touched outside (named_in entry.set m) ≡ true → occurs outside place ss ≡ true → (b c : Bool) → steps_done es ss m b ≡ steps_done es ss m c
+  all_alike [] h there b c = absurd (let e = there in cc)
+  all_alike (s ∷ ss) h there b c = elim (either (is_about outside place s) (occurs outside place ss) there) [
+    | inl here ↦ (
+        let a = acts es s outside place here in
+        ap (steps_done es ss m)
+        (does_with s a b ∙ (decides a.operation outside (named_in entry.set m) b c a.side h ∙ sym (does_with s a c))))
+    | inr behind ↦ all_alike ss h behind (step_done es s m b) (step_done es s m c)
+  ]
+
+  passes : (s : Step) (ss : List Step) (b : Bool) → is_about outside place s ≡ true → occurs outside place ss ≡ true → steps_done es ss m (step_done es s m b) ≡ steps_done es ss m b
+  passes s ss b about there = elim (cases_Bool (touched outside (named_in entry.set m))) [
+    | inl it ↦ all_alike ss it there (step_done es s m b) b
+    | inr it ↦ (
+        let a = acts es s outside place about in
+        ap (steps_done es ss m) (does_with s a b ∙ idle a.operation outside (named_in entry.set m) b a.side it))
+  ]
+
+-- a step has no effect where one behind it is about the same entry, on the same side
+pub no_effect : (es : List Entry) (s : Step) (ss : List Step) (outside : Bool) (place : ℕ) (m : Member) (b : Bool) → is_about outside place s ≡ true → occurs outside place ss ≡ true →
+    steps_done es ss m (step_done es s m b) ≡ steps_done es ss m b
+no_effect es s ss outside place m b about there = by (slice_get es place) refl
+  where
+    by : (o : Option Entry) → slice_get es place ≡ o → steps_done es ss m (step_done es s m b) ≡ steps_done es ss m b
+    by (Some entry) is = passes es outside place m entry is s ss b about there
+    by None is =
+        let a = acts es s outside place about in
+        ap (steps_done es ss m) (a.does m b ∙ ap (λ e. entered a.operation e m b) is)
+
+-- the last step of those that are left goes to the front of those that are kept
+pub kept_more : (es : List Entry) (left kept next : List Step) (s : Step) (m : Member) (b : Bool) → next ≡ kept ++ s ∷ [] → steps_done es (left ++ reverse next) m b ≡ steps_done es ((left ++ s ∷ []) ++ reverse kept) m b
+kept_more es left kept next s m b is =
+    ap (λ ss. steps_done es (left ++ ss) m b) (ap reverse is ∙ reverse-append kept (s ∷ []))
+    ∙ ap (λ ss. steps_done es ss m b) (sym (append_assoc left (s ∷ []) (reverse kept)))
+
+-- or it is passed over
+pub passed_over : (es : List Entry) (left kept : List Step) (s : Step) (outside : Bool) (place : ℕ) (m : Member) (b : Bool) → is_about outside place s ≡ true → occurs outside place (reverse kept) ≡ true →
+    steps_done es (left ++ reverse kept) m b ≡ steps_done es ((left ++ s ∷ []) ++ reverse kept) m b
+passed_over es left kept s outside place m b about there =
+    done_append es left (reverse kept) m b
+    ∙ (sym (no_effect es s (reverse kept) outside place m (steps_done es left m b) about there)
+    ∙ (ap (steps_done es (reverse kept) m) (sym (done_more es left s m b)) ∙ sym (done_append es (left ++ s ∷ []) (reverse kept) m b)))
+
+-- a step about an entry is among those that are kept with it
+pub occurs_more : (outside : Bool) (place : ℕ) (kept next : List Step) (s : Step) → next ≡ kept ++ s ∷ [] → (occurs outside place (reverse kept) ≡ true) ⊎ (is_about outside place s ≡ true) →
+    occurs outside place (reverse next) ≡ true
+occurs_more outside place kept next s is h =
+    ap (occurs outside place) (ap reverse is ∙ reverse-append kept (s ∷ [])) ∙ or_true (is_about outside place s) (occurs outside place (reverse kept)) h
+  where
+    or_true : (a b : Bool) → (b ≡ true) ⊎ (a ≡ true) → (a || b) ≡ true
+    or_true true b h = refl
+    or_true false b (inl e) = e
+    or_true false b (inr e) = absurd (let g = e in cc)
+
+-- an entry that is marked by a step which is passed over was marked before
+pub about_again : (s : Step) (outside other : Bool) (place elsewhere : ℕ) (P : Bool → ℕ → Type 0) → is_about other elsewhere s ≡ true → P other elsewhere → P outside place ⊎ (is_about outside place s ≡ true) → P outside place
+about_again s outside other place elsewhere P about h (inl before) = before
+about_again s outside other place elsewhere P about h (inr again) =
+    let same = about_one s outside other place elsewhere again about in
+    subst (λ o. P o place) (sym same.0) (subst (P other) (sym same.1) h)

@@ -1,0 +1,40 @@
+-- Sets in the making whose steps are put off.
+use Rattle.std.specs.Prelude.{◌≡◌, Bool, Option, Some, None, Box, if◌then◌else◌}
+use Rattle.std.specs.Global.{Global}
+use Rattle.uset_grammar.specs.Tree.{Member, negation}
+use Rattle.uset_gather.specs.Gathered.{gathered_in}
+use Rattle.uset_steps.specs.declared.gathering.Gathering.{Gathering}
+use Rattle.uset_steps.specs.declared.later.Later.{Later}
+use Rattle.uset_steps.specs.Names.{Sets}
+use Rattle.uset_steps.specs.Later.{later_done, LaterFits}
+
+-- whether something is a member behind the steps that were put off, where there are some
+abbrev pub behind : Option (Box Later Global) → Member → Bool → Bool
+behind None m b = b
+behind (Some later) m b = later_done later.value m b
+
+-- the member was gathered
+abbrev pub gathering_in : Gathering → Member → Bool
+gathering_in g m = behind g.later m (gathered_in g.gathered m)
+
+abbrev pub BehindFits : Sets → Option (Box Later Global) → Type 0
+BehindFits sets None = Unit {0}
+BehindFits sets (Some later) = LaterFits sets later.value
+
+-- whether something is a member of a set that is closed, from whether it was gathered
+abbrev pub closed : Bool → Member → Bool → Bool
+closed negated m b = if negated then negation m b else b
+
+-- Each set that is kept under a name is the one that the name stands for.
+abbrev pub Fits : Sets → Gathering → Type 0
+Fits sets g = BehindFits sets g.later
+
+-- What was gathered has these members, and fits each meaning of the names that it did before.
+pub record Becomes (old new : Gathering) (members : Member → Bool) : Type 0 where
+  pub has : (m : Member) → gathering_in new m ≡ members m
+  pub fits : (sets : Sets) → Fits sets old → Fits sets new
+
+-- the same for the meaning of the names that is told
+pub record BecomesWith (sets : Sets) (new : Gathering) (members : Member → Bool) : Type 0 where
+  pub has : (m : Member) → gathering_in new m ≡ members m
+  pub fits : Fits sets new

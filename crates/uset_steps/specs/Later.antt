@@ -1,0 +1,21 @@
+-- What the steps that are put off make of a set, and the sets that they name.
+use Rattle.std.specs.Prelude.{◌≡◌, Bool, length}
+use Rattle.uset_grammar.specs.Tree.{Member}
+use Rattle.uset_steps.specs.declared.later.Later.{Later}
+use Rattle.uset_steps.specs.declared.step.Operation.{Operation}
+use Rattle.uset_steps.specs.Names.{Name, Sets}
+use Rattle.uset_steps.specs.Steps.{operated, steps_done, EntriesFit, AreWithin}
+
+-- whether something is a member once the steps are done that were put off, by whether it was one
+abbrev pub later_done : Later → Member → Bool → Bool
+later_done later m b = steps_done later.entries.items later.steps.items m b
+
+-- Each set that is kept is the one that its name stands for, and the steps name no other.
+pub record LaterFits (sets : Sets) (later : Later) : Type 0 where
+  pub entries : EntriesFit sets later.entries.items
+  pub within : AreWithin (length later.entries.items) later.steps.items
+
+-- the set of the name was gathered last
+pub record Gathers (sets : Sets) (operation : Operation) (name : Name) (old new : Later) : Type 0 where
+  pub members : (m : Member) (b : Bool) → later_done new m b ≡ operated operation (sets name m) (later_done old m b)
+  pub fits : LaterFits sets new

@@ -1,0 +1,5 @@
+pub mod Names
+pub mod Steps
+pub mod Seen
+pub mod Later
+pub mod Gathering

@@ -1,0 +1,36 @@
+-- The names of sets, and the sets that they stand for.
+use Rattle.std.specs.Prelude.{◌≡◌, ℕ, Bool, List}
+use Rattle.std.specs.String.{string_bytes}
+use Rattle.cp_invlist.specs.InversionList.{contains}
+use Rattle.uset_grammar.specs.Property.{Query}
+use Rattle.uset_grammar.specs.Tree.{Member, in_source, negation}
+use Rattle.uset_gather.specs.Gathered.{in_set, list_in}
+use Rattle.uset_read.specs.Queries.{query_seen}
+use Rattle.uset_steps.specs.declared.name.Name.{Name as CodeName}
+use Rattle.uset_steps.specs.declared.name.Name.TheVariants.{Variable, Property}
+use Rattle.uset_steps.specs.declared.named_set.Named.{Named}
+use Rattle.uset_steps.specs.declared.named_set.NamedSet.{NamedSet}
+use Rattle.uset_steps.specs.declared.named_set.NamedSet.TheVariants.{Set, CodePoints, Complement}
+
+-- What a set is called: a variable by the bytes of its name, or a property by what it asks.
+pub data Name : Type 0 where
+  variable : List ℕ → Name
+  property : Query → Name
+
+abbrev pub name_seen : CodeName → Name
+name_seen (Variable name) = variable (string_bytes name)
+name_seen (Property query) = property (query_seen query)
+
+-- the set that a name stands for has the member
+abbrev pub named_in : NamedSet → Member → Bool
+named_in (Set set) m = in_set set.now m
+named_in (CodePoints source) m = in_source (contains (list_in source)) m
+named_in (Complement source) m = negation m (in_source (contains (list_in source)) m)
+
+-- the set that each name stands for, by its members
+abbrev pub Sets : Type 0
+Sets = Name → Member → Bool
+
+-- the set is the one that its name stands for
+abbrev pub IsSetOf : Sets → Named → Type 0
+IsSetOf sets named = (m : Member) → named_in named.set m ≡ sets (name_seen named.name) m

@@ -1,0 +1,82 @@
+//! The steps that count.
+ghost use Rattle.std.specs.Prelude.{◌≡◌, ◌⊎◌, ℕ, Bool, true, Some, List, reverse, slice_get, IfOk};
+ghost use Rattle.std.specs.Bool.{OnTrue};
+ghost use Rattle.uset_grammar.specs.Tree.{Member};
+ghost use Rattle.uset_steps.specs.declared.named_set.Named.{Named as Entry};
+ghost use Rattle.uset_steps.specs.Steps.{steps_done};
+
+use crate::step::{Operation, Step};
+use cp_invlist::NoMemory;
+use std::alloc::Global;
+use std::mem::replace;
+
+/// Which entries are named in the steps behind a place.
+#[derive(Drop)]
+struct Seen {
+    /// Those that are joined or taken away: each step decides what becomes of all that their set has.
+    inside: Vec<bool>,
+    /// Those of which alone members are kept: each step decides what becomes of all that their set lacks.
+    outside: Vec<bool>,
+}
+
+/// Marks the place, where there is one. The answer is true where it was marked already.
+fn mark(flags: &mut Vec<bool>, place: usize) -> bool
+    ensures before { OnTrue result (slice_get flags.old.items place ≡ Some true) }
+    ensures marked { (i : ℕ) → slice_get flags.new.items i ≡ Some true → (slice_get flags.old.items i ≡ Some true) ⊎ (i ≡ place) }
+{
+    match flags.get_mut(place) {
+        Some(flag) => replace(flag, true),
+        None => false,
+    }
+}
+
+impl Seen {
+    ghost use Rattle.std.specs.Prelude.{◌≡◌, ◌⊎◌, ℕ, Bool, true, false, IfOk};
+    ghost use Rattle.std.specs.Bool.{OnTrue};
+    ghost use Rattle.uset_steps.specs.Steps.{is_about};
+    ghost use Rattle.uset_steps.specs.Seen.{IsSeen};
+
+    /// None of so many entries.
+    fn new(alloc: Global, entries: usize) -> Result<Seen, NoMemory>
+        ensures { IfOk result (λ seen. (outside : Bool) (place : ℕ) → IsSeen seen outside place → false ≡ true) }
+    {
+        Ok(Seen {
+            inside: vec![in alloc; false; entries]?,
+            outside: vec![in alloc; false; entries]?,
+        })
+    }
+
+    /// Marks what the step names. The answer is true where a step behind names the same, so that this one has no effect.
+    fn note(&mut self, step: &Step) -> bool
+        ensures before { OnTrue result ((outside : Bool) × (place : ℕ) × (is_about outside place step.now ≡ true) × IsSeen self.old outside place) }
+        ensures marked { (outside : Bool) (place : ℕ) → IsSeen self.new outside place → IsSeen self.old outside place ⊎ (is_about outside place step.now ≡ true) }
+    {
+        match step {
+            Step::Named(Operation::Retain, place) => mark(&mut self.outside, *place),
+            Step::Named(Operation::Join | Operation::Remove, place) => mark(
+                &mut self.inside,
+                *place,
+            ),
+            Step::Range(_) | Step::Text(_) | Step::Set(_, _) => false,
+        }
+    }
+}
+
+/// The steps that have an effect, the last in front: one that gathers an entry's set is passed over where a step behind it
+/// decides about the same members.
+pub(crate) fn counting(
+    alloc: Global,
+    mut steps: Vec<Step>,
+    entries: usize,
+) -> Result<Vec<Step>, NoMemory>
+    ensures { IfOk result (λ kept. (es : List Entry) (m : Member) (b : Bool) → steps_done es (reverse kept.items) m b ≡ steps_done es steps.items m b) }
+{
+    let mut seen = Seen::new(alloc, entries)?;
+    let mut kept = Vec::new(alloc);
+    while let Some(step) = steps.pop() {
+        if !seen.note(&step) {
+            kept.push(step)?;
+        }
+    }
+    Ok(kept)
+}

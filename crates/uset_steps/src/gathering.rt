@@ -1,0 +1,114 @@
+//! Sets in the making whose steps are put off.
+use crate::later::Later;
+use crate::literal::{Span, Spelled};
+use crate::named_set::Named;
+use crate::step::{Operation, Step, gather};
+use cp_invlist::{CodePointRange, NoMemory};
+use std::alloc::Global;
+use std::mem::replace;
+use uset_gather::{Gathered, Operand};
+
+/// What a bracket gathers. From the first large set with a name on, steps are put off: once the set is needed, a set that was
+/// named again and again is gathered no more than twice. So each step costs no more than its name does.
+#[derive(Drop)]
+pub struct Gathering<'a> {
+    gathered: Gathered,
+    later: Option<Box<Later<'a>>>,
+}
+
+impl<'a> Gathering<'a> {
+    ghost use Rattle.std.specs.Prelude.{◌≡◌, ◌≤◌, ◌||◌, false, None, IfOk, OnOk};
+    ghost use Rattle.std.specs.Str.{chars};
+    ghost use Rattle.std.specs.String.{string_bytes};
+    ghost use Rattle.cp_strset.specs.StringList.{sole_of};
+    ghost use Rattle.uset_grammar.specs.Tree.{Member, in_range};
+    ghost use Rattle.uset_gather.specs.Gathered.{gathered_in, is_string};
+    ghost use Rattle.uset_steps.specs.Names.{Sets, IsSetOf, named_in};
+    ghost use Rattle.uset_steps.specs.Steps.{operated};
+    ghost use Rattle.uset_steps.specs.Gathering.{gathering_in, closed, Fits, Becomes, BecomesWith};
+
+    /// Nothing yet.
+    pub fn new(alloc: Global) -> Gathering<'a>
+        ensures members { (m : Member) → gathering_in result m ≡ false }
+        ensures names { (sets : Sets) → Fits sets result }
+    {
+        Gathering {
+            gathered: Gathered::new(alloc),
+            later: None,
+        }
+    }
+
+    /// Adds the code points of the range.
+    pub fn add_range(&mut self, range: CodePointRange) -> Result<(), NoMemory>
+        requires { range.end ≤ 0x10_FFFF }
+        ensures { OnOk result (Becomes self.old self.new (λ m. gathering_in self.old m || in_range range.start range.end m)) }
+    {
+        let Some(later) = &mut self.later else {
+            return self.gathered.add_range(range);
+        };
+        later.put_off(Step::Range(Span::new(range)))
+    }
+
+    /// Adds a string, which isn't one character.
+    pub fn add_text(&mut self, alloc: Global, text: String) -> Result<(), NoMemory>
+        requires { sole_of (chars (string_bytes text)) ≡ None }
+        ensures { OnOk result (Becomes self.old self.new (λ m. gathering_in self.old m || is_string (string_bytes text) m)) }
+    {
+        match &mut self.later {
+            Some(later) => later.put_off(Step::Text(Box::new(alloc, Spelled::new(text))?)),
+            None => self.gathered.add_text(text),
+        }
+    }
+
+    /// Gathers what another bracket gathered.
+    pub fn gather(
+        &mut self,
+        alloc: Global,
+        operation: Operation,
+        set: Gathered,
+    ) -> Result<(), NoMemory>
+        ensures { OnOk result (Becomes self.old self.new (λ m. operated operation (gathered_in set m) (gathering_in self.old m))) }
+    {
+        match &mut self.later {
+            Some(later) => later.put_off(Step::Set(operation, Box::new(alloc, set)?)),
+            None => gather(alloc, &mut self.gathered, operation, Operand::Gathered(set)),
+        }
+    }
+
+    /// Gathers a set with a name. Each name stands for one set: whatever `sets` gives the names, where it gives those that were
+    /// told before the sets that were told with them, and so this one.
+    pub fn gather_named(
+        &mut self,
+        alloc: Global,
+        operation: Operation,
+        named: Named<'a>,
+    ) -> Result<(), NoMemory>
+        ensures { OnOk result ((sets : Sets) → Fits sets self.old → IsSetOf sets named.entry →
+            BecomesWith sets self.new (λ m. operated operation (named_in named.entry.set m) (gathering_in self.old m))) }
+    {
+        let mut later = match self.later.take() {
+            Some(later) => later,
+            None if named.set.is_large() => Box::new(alloc, Later::new(alloc))?,
+            None => {
+                return gather(alloc, &mut self.gathered, operation, named.set.operand());
+            }
+        };
+        later.put_off_named(alloc, operation, named)?;
+        self.later = Some(later);
+        Ok(())
+    }
+
+    /// Moves out the set of what was gathered, or where it is negated that of the other code points.
+    pub fn close(&mut self, alloc: Global, negated: bool) -> Result<Gathered, NoMemory>
+        ensures { IfOk result (λ set. (m : Member) → gathered_in set m ≡ closed negated m (gathering_in self.old m)) }
+    {
+        if let Some(later) = self.later.take() {
+            let gathered = replace(&mut self.gathered, Gathered::new(alloc));
+            self.gathered = Box::into_inner(later).done(alloc, gathered)?;
+        }
+        if negated {
+            self.gathered.negate(alloc);
+        }
+        Ok(replace(&mut self.gathered, Gathered::new(alloc)))
+    }
+}

@@ -1,0 +1,102 @@
+//! Steps that are put off, with the named sets that they gather.
+use crate::counting::counting;
+use crate::name::Name;
+use crate::named_set::Named;
+use crate::step::{Operation, Step};
+use cp_invlist::NoMemory;
+use std::alloc::Global;
+use std::collections::BTreeMap;
+use uset_gather::Gathered;
+
+/// Steps that are put off, the first in front, and the sets that they name, each once.
+#[derive(Drop)]
+pub(crate) struct Later<'a> {
+    /// The place of an entry, by a text of its name.
+    places: BTreeMap<String, usize>,
+    entries: Vec<Named<'a>>,
+    steps: Vec<Step>,
+}
+
+impl<'a> Later<'a> {
+    ghost use Rattle.std.specs.Prelude.{◌≡◌, Bool, true, [], IfSome, IfOk, OnOk};
+    ghost use Rattle.uset_grammar.specs.Tree.{Member};
+    ghost use Rattle.uset_gather.specs.Gathered.{gathered_in};
+    ghost use Rattle.uset_steps.specs.Names.{Sets, name_seen, IsSetOf};
+    ghost use Rattle.uset_steps.specs.Steps.{step_done, names_none, IsEntryOf, IsEntered};
+    ghost use Rattle.uset_steps.specs.Later.{later_done, LaterFits, Gathers};
+
+    /// None yet.
+    pub(crate) fn new(alloc: Global) -> Later<'a>
+        ensures members { (m : Member) (b : Bool) → later_done result m b ≡ b }
+        ensures names { (sets : Sets) → LaterFits sets result }
+    {
+        Later {
+            places: BTreeMap::new(alloc),
+            entries: Vec::new(alloc),
+            steps: Vec::new(alloc),
+        }
+    }
+
+    /// Puts off a step that names no set.
+    pub(crate) fn put_off(&mut self, step: Step) -> Result<(), NoMemory>
+        requires { names_none step ≡ true }
+        ensures members { OnOk result ((m : Member) (b : Bool) → later_done self.new m b ≡ step_done [] step m (later_done self.old m b)) }
+        ensures names { OnOk result ((sets : Sets) → LaterFits sets self.old → LaterFits sets self.new) }
+    {
+        self.steps.push(step)?;
+        Ok(())
+    }
+
+    /// The place of the name's entry, where there is one.
+    fn place_of(&self, text: &str, name: &Name) -> Option<usize>
+        ensures { IfSome result (IsEntryOf (name_seen name.now) self.now.entries.items) }
+    {
+        let place = *self.places.get(text)?;
+        match self.entries.get(place) {
+            Some(entry) if entry.name.is(name) => Some(place),
+            _ => None,
+        }
+    }
+
+    /// The place of the name's entry, which is made where there is none.
+    fn enter(&mut self, alloc: Global, named: Named<'a>) -> Result<usize, NoMemory>
+        ensures entered { IfOk result (λ place. (sets : Sets) → IsSetOf sets named.entry → IsEntered sets (name_seen named.entry.name) self.old.entries.items self.new.entries.items place) }
+        ensures steps { self.new.steps ≡ self.old.steps }
+    {
+        let text = named.name.text(alloc)?;
+        if let Some(place) = self.place_of(&text, &named.name) {
+            return Ok(place);
+        }
+        let place = self.entries.len();
+        self.entries.push(named)?;
+        self.places.insert(text, place)?;
+        Ok(place)
+    }
+
+    /// Puts off the gathering of a set with a name. A set that was named before is kept, and this one is forgotten.
+    pub(crate) fn put_off_named(
+        &mut self,
+        alloc: Global,
+        operation: Operation,
+        named: Named<'a>,
+    ) -> Result<(), NoMemory>
+        ensures { OnOk result ((sets : Sets) → LaterFits sets self.old → IsSetOf sets named.entry → Gathers sets operation (name_seen named.entry.name) self.old self.new) }
+    {
+        let place = self.enter(alloc, named)?;
+        self.steps.push(Step::Named(operation, place))?;
+        Ok(())
+    }
+
+    /// The set once the steps are done.
+    pub(crate) fn done(self, alloc: Global, gathered: Gathered) -> Result<Gathered, NoMemory>
+        ensures { IfOk result (λ g. (m : Member) → gathered_in g m ≡ later_done self.entry m (gathered_in gathered m)) }
+    {
+        let Later { entries, steps, .. } = self;
+        let mut left = counting(alloc, steps, entries.len())?;
+        let mut set = gathered;
+        while let Some(step) = left.pop() {
+            step.apply(alloc, &mut set, &entries)?;
+        }
+        Ok(set)
+    }
+}

@@ -1,0 +1,70 @@
+//! Sets that have a name.
+use crate::name::Name;
+use cp_invlist::NoMemory;
+use cp_strset::CodePointInversionListAndStringList;
+use std::alloc::Global;
+use uset_gather::{Gathered, Operand, Source};
+
+/// From so many ranges and strings on a set is large.
+const LARGE: usize = 8;
+
+/// A set that has a name, without the name.
+#[derive(Drop)]
+pub enum NamedSet<'a> {
+    /// A set with strings.
+    Set(&'a CodePointInversionListAndStringList),
+    /// These code points, and no strings.
+    CodePoints(Source<'a>),
+    /// The other code points, and no strings.
+    Complement(Source<'a>),
+}
+
+/// A set with its name.
+#[derive(Drop)]
+pub struct Named<'a> {
+    pub name: Name,
+    pub set: NamedSet<'a>,
+}
+
+impl NamedSet<'_> {
+    ghost use Rattle.std.specs.Prelude.{◌≡◌, IfOk};
+    ghost use Rattle.uset_grammar.specs.Tree.{Member};
+    ghost use Rattle.uset_gather.specs.Gathered.{gathered_in, operand_in};
+    ghost use Rattle.uset_steps.specs.Names.{named_in};
+
+    /// The set, to be gathered.
+    pub(crate) fn operand(&self) -> Operand<'_>
+        ensures { (m : Member) → operand_in result m ≡ named_in self.now m }
+    {
+        match self {
+            NamedSet::Set(set) => Operand::Set(set),
+            NamedSet::CodePoints(source) => Operand::CodePoints(Source::Lent(source.list())),
+            NamedSet::Complement(source) => Operand::Complement(Source::Lent(source.list())),
+        }
+    }
+
+    /// The set alone.
+    pub fn gathered(&self, alloc: Global) -> Result<Gathered, NoMemory>
+        ensures { IfOk result (λ g. (m : Member) → gathered_in g m ≡ named_in self.now m) }
+    {
+        let mut gathered = Gathered::new(alloc);
+        gathered.join(self.operand(), alloc)?;
+        Ok(gathered)
+    }
+
+    /// Whether gathering the set takes more time than reading its name.
+    pub(crate) fn is_large(&self) -> bool {
+        let (boundaries, strings) = match self {
+            NamedSet::Set(set) => {
+                (
+                    set.code_points().get_inversion_list().len(),
+                    set.strings().len(),
+                )
+            }
+            NamedSet::CodePoints(source) | NamedSet::Complement(source) => {
+                (source.list().get_inversion_list().len(), 0)
+            }
+        };
+        boundaries / 2 >= LARGE || strings >= LARGE
+    }
+}

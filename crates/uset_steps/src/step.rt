@@ -1,0 +1,79 @@
+//! Steps that are put off.
+ghost use Rattle.std.specs.Prelude.{OnOk};
+ghost use Rattle.uset_gather.specs.Gathered.{gathered_in, operand_in, HasMembers};
+ghost use Rattle.uset_steps.specs.Steps.{operated};
+
+use crate::literal::{Span, Spelled};
+use crate::named_set::Named;
+use cp_invlist::NoMemory;
+use std::alloc::Global;
+use uset_gather::{Gathered, Operand};
+
+/// How a set is gathered.
+#[derive(Clone, Copy)]
+pub enum Operation {
+    /// Its members are added.
+    Join,
+    /// Its members are taken away.
+    Remove,
+    /// Only its members are kept.
+    Retain,
+}
+
+/// A step that is put off.
+#[derive(Drop)]
+pub(crate) enum Step {
+    /// Adds the range.
+    Range(Span),
+    /// Adds the string.
+    Text(Box<Spelled>),
+    /// Gathers what another bracket gathered.
+    Set(Operation, Box<Gathered>),
+    /// Gathers the named set with this place among the entries.
+    Named(Operation, usize),
+}
+
+/// Gathers the operand.
+pub(crate) fn gather(
+    alloc: Global,
+    gathered: &mut Gathered,
+    operation: Operation,
+    operand: Operand<'_>,
+) -> Result<(), NoMemory>
+    ensures { OnOk result (HasMembers gathered.new (λ m. operated operation (operand_in operand.entry m) (gathered_in gathered.old m))) }
+{
+    match operation {
+        Operation::Join => gathered.join(operand, alloc),
+        Operation::Remove => gathered.remove(operand),
+        Operation::Retain => gathered.retain(operand, alloc),
+    }
+}
+
+impl Step {
+    ghost use Rattle.std.specs.Prelude.{OnOk};
+    ghost use Rattle.uset_gather.specs.Gathered.{gathered_in, HasMembers};
+    ghost use Rattle.uset_steps.specs.Steps.{step_done};
+
+    /// Does the step.
+    pub(crate) fn apply(
+        self,
+        alloc: Global,
+        gathered: &mut Gathered,
+        entries: &[Named<'_>],
+    ) -> Result<(), NoMemory>
+        ensures { OnOk result (HasMembers gathered.new (λ m. step_done entries.now self m (gathered_in gathered.old m))) }
+    {
+        match self {
+            Step::Range(span) => gathered.add_range(span.range),
+            Step::Text(spelled) => gathered.add_text(Box::into_inner(spelled).text),
+            Step::Set(operation, set) => {
+                let operand = Operand::Gathered(Box::into_inner(set));
+                gather(alloc, gathered, operation, operand)
+            }
+            Step::Named(operation, place) => match entries.get(place) {
+                Some(entry) => gather(alloc, gathered, operation, entry.set.operand()),
+                None => Ok(()),
+            },
+        }
+    }
+}
