@@ -194,15 +194,12 @@ fn each_front_of_a_pattern_ends_where_more_is_due(rt: HostRuntime) -> Result<(),
 }
 
 #[test]
-fn a_million_brackets_or_letters_are_faults_at_their_end(rt: HostRuntime) -> Result<(), Fail> {
+fn a_name_of_a_million_letters_is_read_to_its_end(rt: HostRuntime) -> Result<(), Fail> {
     let alloc = rt.alloc();
-    let brackets = "[".repeat(alloc, 1_000_000)?;
     let name = "a".repeat(alloc, 1_000_000)?;
-    let input = format!(in alloc;
-        "{TABLES}pat {brackets}\npat [${name}]\nlet {name} char 62\npat [${name}]\n"
-    )?;
+    let input = format!(in alloc; "{TABLES}pat [${name}]\nlet {name} char 62\npat [${name}]\n")?;
     let expected = format!(in alloc;
-        "err {brackets}← error: unexpected end of input\nerr [${name}← error: unknown variable\nbound {name}\nok 1000003 0062\n"
+        "err [${name}← error: unknown variable\nbound {name}\nok 1000003 0062\n"
     )?;
     let (status, sink) = run_in_memory(alloc, &eval(alloc)?, input.into_bytes());
     assert!(rt; sink.written() == expected.as_bytes());

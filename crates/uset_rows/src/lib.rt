@@ -11,6 +11,8 @@ use uset_tool::{Status, SureSink, SureSource, run};
 #[cfg(test)]
 mod counts;
 #[cfg(test)]
+mod depth;
+#[cfg(test)]
 mod devices;
 #[cfg(test)]
 mod errors;

@@ -96,19 +96,6 @@ fn lines_without_an_answer_and_other_ends_of_lines_are_read(rt: HostRuntime) -> 
 }
 
 #[test]
-fn a_million_brackets_inside_one_another_are_read(rt: HostRuntime) -> Result<(), Fail> {
-    let alloc = rt.alloc();
-    let words = eval(alloc)?;
-    let opening = "[".repeat(alloc, 1_000_000)?;
-    let closing = "]".repeat(alloc, 1_000_000)?;
-    let input = format!(in alloc; "{TABLES}pat {opening}{closing}\n")?;
-    let (status, sink) = run_in_memory(alloc, &words, input.into_bytes());
-    assert_eq!(rt; sink.written(), b"ok 2000000\n".as_slice());
-    assert_eq!(rt; status.code(), 0);
-    Ok(())
-}
-
-#[test]
 fn answers_of_more_than_a_piece_are_written_in_order(rt: HostRuntime) -> Result<(), Fail> {
     let alloc = rt.alloc();
     let words = eval(alloc)?;
