@@ -1,61 +1,68 @@
 //! Sets that are named again and again in one bracket.
 use crate::fixtures::assert_answer;
+use std::alloc::Global;
+use std::process::Abort;
 use std::test::Fail;
 
-/// A set with more ranges than a bracket gathers at once.
-const LARGE: &str = "let v set [acegikmoqsuwy{xy}]";
+/// The line that binds a set of 32 ranges and a string, which is put off until its bracket closes.
+const LARGE: &str =
+    "let v set [\\u{100 102 104 106 108 10A 10C 10E 110 112 114 116 118 11A 11C 11E 120 122 124 126 128 12A 12C 12E 130 132 134 136 138 13A 13C 13E}{xy}]";
 
-/// Patterns over that set, each with the length and the members that it is answered with.
-const REPEATED: [(&str, &str); 16] = [
-    (
-        "[$v$v]",
-        "6 0061 0063 0065 0067 0069 006B 006D 006F 0071 0073 0075 0077 0079 {0078_0079}",
-    ),
-    ("[$v-$v]", "7"),
-    (
-        "[$v-$v$v]",
-        "9 0061 0063 0065 0067 0069 006B 006D 006F 0071 0073 0075 0077 0079 {0078_0079}",
-    ),
-    ("[$v&$v-$v]", "10"),
-    (
-        "[$v-[ac]$v]",
-        "11 0061 0063 0065 0067 0069 006B 006D 006F 0071 0073 0075 0077 0079 {0078_0079}",
-    ),
-    ("[$v-[ac]-$v[a]]", "15 0061"),
-    ("[b$v-$v]", "8 0062"),
-    (
-        "[$v[b]&$v]",
-        "10 0061 0063 0065 0067 0069 006B 006D 006F 0071 0073 0075 0077 0079 {0078_0079}",
-    ),
-    ("[$v[b]&$v[d]-$v]", "16 0064"),
-    (
-        "[$v[b{pq}]&$v[d]&$v]",
-        "20 0061 0063 0065 0067 0069 006B 006D 006F 0071 0073 0075 0077 0079 {0078_0079}",
-    ),
-    ("[$v{pq}[]-$v{rs}]", "17 {0070_0071} {0072_0073}"),
-    (
-        "[^$v-$v$v]",
-        "10 0000-0060 0062 0064 0066 0068 006A 006C 006E 0070 0072 0074 0076 0078 007A-10FFFF",
-    ),
-    ("[[:L:]$v-[:L:]]", "15 {0078_0079}"),
-    ("[$v\\p{L}-\\P{L}&\\p{L}]", "21 0041-005A 0061-007A"),
-    (
-        "[$v-\\P{L}\\P{L}&\\p{L}]",
-        "21 0061 0063 0065 0067 0069 006B 006D 006F 0071 0073 0075 0077 0079",
-    ),
-    (
-        "[$v[$v-$v]-$v[$v]]",
-        "18 0061 0063 0065 0067 0069 006B 006D 006F 0071 0073 0075 0077 0079 {0078_0079}",
-    ),
+/// The members of that set.
+const MEMBERS: &str =
+    "0100 0102 0104 0106 0108 010A 010C 010E 0110 0112 0114 0116 0118 011A 011C 011E 0120 0122 0124 0126 0128 012A 012C 012E 0130 0132 0134 0136 0138 013A 013C 013E {0078_0079}";
+
+/// Patterns that denote the set.
+const WHOLE: [&str; 7] = [
+    "[$v$v]",
+    "[$v-$v$v]",
+    "[$v-[\\u0100\\u0104]$v]",
+    "[$v[b]&$v]",
+    "[$v[b{pq}]&$v[d]&$v]",
+    "[$v[$v-$v]-$v[$v]]",
+    "[$v&$v]",
 ];
+
+/// Patterns over the set, each with the members that it denotes.
+const OTHERS: [(&str, &str); 10] = [
+    ("[$v-$v]", ""),
+    ("[$v&$v-$v]", ""),
+    ("[$v-[\\u0100]-$v[\\u0102]]", "0102"),
+    ("[b$v-$v]", "0062"),
+    ("[$v[b]&$v[d]-$v]", "0064"),
+    ("[$v{pq}[]-$v{rs}]", "{0070_0071} {0072_0073}"),
+    ("[[:L:]$v-$v]", "0041-005A 0061-007A"),
+    ("[$v\\p{L}-\\P{L}&\\p{L}]", "0041-005A 0061-007A"),
+    ("[$v-\\P{L}\\P{L}&\\p{L}]", ""),
+    ("[$v[a]-\\P{L}&\\p{L}\\P{L}-\\P{L}]", "0061"),
+];
+
+/// All other code points than those of the set.
+const COMPLEMENT: &str =
+    "0000-00FF 0101 0103 0105 0107 0109 010B 010D 010F 0111 0113 0115 0117 0119 011B 011D 011F 0121 0123 0125 0127 0129 012B 012D 012F 0131 0133 0135 0137 0139 013B 013D 013F-10FFFF";
+
+/// The pattern is read whole, with these members.
+fn assert_denotes(
+    rt: &impl Abort,
+    alloc: Global,
+    pattern: &str,
+    members: &str,
+) -> Result<(), Fail> {
+    let length = pattern.len();
+    let lines = format!(in alloc; "{LARGE}\npat {pattern}")?;
+    let space = if members.is_empty() { "" } else { " " };
+    let answer = format!(in alloc; "bound v\nok {length}{space}{members}\n")?;
+    assert_answer(rt, alloc, &lines, &answer, 0)
+}
 
 #[test]
 fn a_set_that_is_named_again_counts_where_it_stands(rt: HostRuntime) -> Result<(), Fail> {
     let alloc = rt.alloc();
-    for (pattern, expected) in REPEATED {
-        let lines = format!(in alloc; "{LARGE}\npat {pattern}")?;
-        let answer = format!(in alloc; "bound v\nok {expected}\n")?;
-        assert_answer(&rt, alloc, &lines, &answer, 0)?;
+    for pattern in WHOLE {
+        assert_denotes(&rt, alloc, pattern, MEMBERS)?;
     }
-    Ok(())
+    for (pattern, members) in OTHERS {
+        assert_denotes(&rt, alloc, pattern, members)?;
+    }
+    assert_denotes(&rt, alloc, "[^$v-$v$v]", COMPLEMENT)
 }

@@ -39,6 +39,7 @@ impl<'a> Gathering<'a> {
     }
 
     /// Adds the code points of the range.
+    #[inline]
     pub fn add_range(&mut self, range: CodePointRange) -> Result<(), NoMemory>
         requires { range.end ≤ 0x10_FFFF }
         ensures { OnOk result (Becomes self.old self.new (λ m. gathering_in self.old m || in_range range.start range.end m)) }
@@ -61,6 +62,7 @@ impl<'a> Gathering<'a> {
     }
 
     /// Gathers what another bracket gathered.
+    #[inline]
     pub fn gather(
         &mut self,
         alloc: Global,
@@ -99,6 +101,7 @@ impl<'a> Gathering<'a> {
     }
 
     /// Moves out the set of what was gathered, or where it is negated that of the other code points.
+    #[inline]
     pub fn close(&mut self, alloc: Global, negated: bool) -> Result<Gathered, NoMemory>
         ensures { IfOk result (λ set. (m : Member) → gathered_in set m ≡ closed negated m (gathering_in self.old m)) }
     {

@@ -38,6 +38,7 @@ impl<'a> Later<'a> {
     }
 
     /// Puts off a step that names no set.
+    #[cold]
     pub(crate) fn put_off(&mut self, step: Step) -> Result<(), NoMemory>
         requires { names_none step ≡ true }
         ensures members { OnOk result ((m : Member) (b : Bool) → later_done self.new m b ≡ step_done [] step m (later_done self.old m b)) }
@@ -88,6 +89,7 @@ impl<'a> Later<'a> {
     }
 
     /// The set once the steps are done.
+    #[cold]
     pub(crate) fn done(self, alloc: Global, gathered: Gathered) -> Result<Gathered, NoMemory>
         ensures { IfOk result (λ g. (m : Member) → gathered_in g m ≡ later_done self.entry m (gathered_in gathered m)) }
     {

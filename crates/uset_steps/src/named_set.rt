@@ -5,8 +5,11 @@ use cp_strset::CodePointInversionListAndStringList;
 use std::alloc::Global;
 use uset_gather::{Gathered, Operand, Source};
 
-/// From so many ranges and strings on a set is large.
-const LARGE: usize = 8;
+/// Gathering fewer ranges takes less time than putting them off.
+const MANY_RANGES: usize = 32;
+
+/// The same of strings, each of which is copied.
+const MANY_STRINGS: usize = 4;
 
 /// A set that has a name, without the name.
 #[derive(Drop)]
@@ -52,7 +55,7 @@ impl NamedSet<'_> {
         Ok(gathered)
     }
 
-    /// Whether gathering the set takes more time than reading its name.
+    /// Whether gathering the set takes more time than putting it off.
     pub(crate) fn is_large(&self) -> bool {
         let (boundaries, strings) = match self {
             NamedSet::Set(set) => {
@@ -65,6 +68,6 @@ impl NamedSet<'_> {
                 (source.list().get_inversion_list().len(), 0)
             }
         };
-        boundaries / 2 >= LARGE || strings >= LARGE
+        boundaries / 2 >= MANY_RANGES || strings >= MANY_STRINGS
     }
 }

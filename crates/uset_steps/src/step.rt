@@ -34,6 +34,7 @@ pub(crate) enum Step {
 }
 
 /// Gathers the operand.
+#[inline]
 pub(crate) fn gather(
     alloc: Global,
     gathered: &mut Gathered,

@@ -1,0 +1,78 @@
+#!/usr/bin/env python3
+"""Times `uset eval` on sets that are named again and again: `repeated.py PROGRAM [TABLES]`.
+
+A variable of 100,000 ranges, or of 10,000 strings, is joined, taken away or kept ever more often in one bracket, and
+named in ever more brackets one behind another. With tables, properties are named so too. The time of binding the variable, or of
+reading the tables, and of printing the set once is taken off.
+"""
+
+import sys
+from pathlib import Path
+
+from growth import TABLES, element, seconds, string
+
+# How often a set is named.
+TIMES = (1_000, 10_000, 100_000, 1_000_000)
+
+# In how many brackets it is named.
+BRACKETS = (1, 10, 100)
+
+RANGES = "[" + "".join(element(2 * index) for index in range(100_000)) + "]"
+
+STRINGS = "[" + "".join(string(index) for index in range(10_000)) + "]"
+
+# What is named again, behind a first time.
+AGAIN = [
+    ("joined", lambda name: name),
+    ("taken away", lambda name: "-" + name),
+    ("kept", lambda name: "&" + name),
+    ("joined and taken away by turns", lambda name: "-" + name + name),
+    ("joined, with an element between", lambda name: "\u4e00" + name),
+]
+
+
+def print_head(*names):
+    """The head of a table."""
+    print()
+    print("| " + " | ".join(names) + " |")
+    print("|" + "---|" * len(names))
+
+
+def named_again(program, before, sets):
+    """Prints the time of each way to name each set again, at each count."""
+    print_head("set", "how", "times", "ms", "ns each")
+    for label, name in sets:
+        start, _ = seconds(program, before + f"pat [{name}]\n")
+        for how, once in AGAIN:
+            for times in TIMES:
+                taken, _ = seconds(program, before + f"pat [{name}{once(name) * times}]\n")
+                net = max(taken - start, 0.0)
+                print(f"| {label} | {how} | {times:,} | {net * 1e3:.1f} | {net * 1e9 / times:.0f} |", flush=True)
+
+
+def named_in_brackets(program, before, sets):
+    """Prints the time of brackets one behind another that each take an element from the set."""
+    print_head("set", "brackets", "ms", "us each")
+    for label, name in sets:
+        start, _ = seconds(program, before + f"pat [{name}]\n")
+        for count in BRACKETS:
+            taken, _ = seconds(program, before + "pat [" + f"[{name}-[b]]" * count + "]\n")
+            net = max(taken - start, 0.0)
+            print(f"| {label} | {count:,} | {net * 1e3:.1f} | {net * 1e6 / count:.0f} |", flush=True)
+
+
+def main():
+    program = sys.argv[1]
+    bound = TABLES + f"let r set {RANGES}\nlet s set {STRINGS}\n"
+    variables = [("100,000 ranges", "$r"), ("10,000 strings", "$s")]
+    named_again(program, bound, variables)
+    named_in_brackets(program, bound, variables)
+    if len(sys.argv) > 2:
+        tables = Path(sys.argv[2]).read_text(encoding="utf-8")
+        properties = [("`[:Alphabetic:]`", "[:Alphabetic:]"), ("`[:L:]`", "[:L:]")]
+        named_again(program, tables, properties)
+        named_in_brackets(program, tables, properties)
+
+
+if __name__ == "__main__":
+    main()
