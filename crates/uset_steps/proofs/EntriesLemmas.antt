@@ -1,5 +1,5 @@
 -- Entries that fit their names, and steps over more entries.
-use Rattle.std.proofs.Common.{◌≡◌, ℕ, zero, suc, ◌<◌, ◌≤◌, ◌+◌, Bool, true, List, [], ◌∷◌, ◌++◌, length, Option, Some, None, refl, sym, ap, ◌∙◌, subst, arith}
+use Rattle.std.proofs.Common.{◌≡◌, ℕ, zero, suc, ◌<◌, ◌≤◌, ◌+◌, Bool, true, false, List, [], ◌∷◌, ◌++◌, length, Option, Some, None, is_some, refl, sym, ap, ◌∙◌, subst, arith}
 use Rattle.std.specs.Prelude.{slice_get}
 use Rattle.std.proofs.lemmas.List.{append-nil, length-append}
 use Rattle.std.proofs.lemmas.Option.{slice_get_within}
@@ -9,8 +9,7 @@ use Rattle.uset_steps.specs.declared.later.Later.{Later}
 use Rattle.uset_steps.specs.declared.step.Operation.{Operation}
 use Rattle.uset_steps.specs.declared.step.Step.{Step}
 use Rattle.uset_steps.specs.declared.step.Step.TheVariants.{Range, Text, Set, Named}
-use Rattle.uset_steps.specs.declared.name.Name.{Name as CodeName}
-use Rattle.uset_steps.specs.Names.{Name, Sets, name_seen, named_in, IsSetOf}
+use Rattle.uset_steps.specs.Names.{Name, Sets, name_seen, named_in, StandsFor, IsSetOf}
 use Rattle.uset_steps.specs.Steps.{operated, entered, step_done, steps_done, EntriesFit, IsWithin, AreWithin, names_none, IsEntryOf, IsEntered}
 use Rattle.uset_steps.specs.Later.{later_done, LaterFits, Gathers}
 use Rattle.uset_steps.proofs.StepsLemmas.{done_more}
@@ -75,17 +74,26 @@ fits_more sets old new s same more none fits = record {
       (subst (AreWithin (length old.entries.items)) (sym more) (within_more (length old.entries.items) old.steps.items s fits.within (within_none (length old.entries.items) s none)));
 }
 
+the_set : Option (Member → Bool) → Member → Bool
+the_set None m = false
+the_set (Some set) m = set m
+
+-- a name stands for one set
+alike : (sets : Sets) (name : Name) (set other : Member → Bool) → StandsFor sets name set → StandsFor sets name other → (m : Member) → set m ≡ other m
+unfolding the_set
+alike sets name set other h k m = h.same m ∙ (ap (λ o. the_set o m) (sym h.is ∙ k.is) ∙ sym (k.same m))
+
 -- the set of a name was put off
-pub gathers : (sets : Sets) (operation : Operation) (name : Name) (place : ℕ) (old new : Later) → LaterFits sets old → IsEntered sets name old.entries.items new.entries.items place →
-    new.steps.items ≡ old.steps.items ++ Named operation place ∷ [] → Gathers sets operation name old new
-gathers sets operation name place old new fits in_place more = record {
+pub gathers : (sets : Sets) (operation : Operation) (name : Name) (set : Member → Bool) (place : ℕ) (old new : Later) → LaterFits sets old → IsEntered sets name old.entries.items new.entries.items place →
+    StandsFor sets name set → new.steps.items ≡ old.steps.items ++ Named operation place ∷ [] → Gathers sets operation set old new
+gathers sets operation name set place old new fits in_place stands more = record {
   members = λ m b.
       let it = in_place.set fits.entries in
       ap (λ ss. steps_done new.entries.items ss m b) more
       ∙ (done_more new.entries.items old.steps.items (Named operation place) m b
       ∙ (ap (λ o. entered operation o m (steps_done new.entries.items old.steps.items m b)) it.1
-      ∙ ((λ i. operated operation (it.2 m i) (steps_done (in_place.grown i) old.steps.items m b))
-      ∙ ap (operated operation (sets name m)) (done_grown old.entries.items in_place.more old.steps.items m b fits.within))));
+      ∙ ((λ i. operated operation (alike sets name (named_in it.0.set) set it.2 stands m i) (steps_done (in_place.grown i) old.steps.items m b))
+      ∙ ap (operated operation (set m)) (done_grown old.entries.items in_place.more old.steps.items m b fits.within))));
   fits = record {
     entries = in_place.fits fits.entries;
     within =
@@ -98,12 +106,12 @@ gathers sets operation name place old new fits in_place more = record {
 }
 
 -- the name was told before
-pub entered_before : (sets : Sets) (name : CodeName) (es : List Entry) (place : ℕ) → IsEntryOf (name_seen name) es place → IsEntered sets (name_seen name) es es place
-entered_before sets name es place (entry, at, same) = record {
+pub entered_again : (sets : Sets) (name : Name) (es : List Entry) (place : ℕ) → IsEntryOf name es place → IsEntered sets name es es place
+entered_again sets name es place (entry, at, same) = record {
   more = [];
   grown = sym (append-nil es);
   fits = λ fits. fits;
-  set = λ fits. (entry, at, λ m. fit_at sets es place entry fits at m ∙ ap (λ n. sets n m) same);
+  set = λ fits. (entry, at, subst (λ n. StandsFor sets n (named_in entry.set)) same (fit_at sets es place entry fits at));
 }
 
 -- or it is told for the first time
@@ -114,3 +122,9 @@ entered_more sets named es new place at more is = record {
   fits = λ fits. subst (EntriesFit sets) (sym more) (fit_more sets es named is fits);
   set = λ fits. (named, (λ i. slice_get (more i) (at i)) ∙ get_last es named, is);
 }
+
+-- a set that is kept under a name is one that the name stands for
+pub stood : (sets : Sets) (name : Name) (es : List Entry) (place : ℕ) → EntriesFit sets es → IsEntryOf name es place → is_some (sets name) ≡ true
+stood sets name es place fits (entry, at, same) =
+    let it = fit_at sets es place entry fits at in
+    ap (λ n. is_some (sets n)) (sym same) ∙ ap is_some it.is

@@ -7,35 +7,37 @@ use Rattle.uset_steps.specs.declared.gathering.Gathering.{Gathering}
 use Rattle.uset_steps.specs.declared.later.Later.{Later}
 use Rattle.uset_steps.specs.declared.step.Operation.{Operation}
 use Rattle.uset_steps.specs.declared.step.Step.{Step}
-use Rattle.uset_steps.specs.Names.{Name, Sets}
-use Rattle.uset_steps.specs.Steps.{operated, step_done}
+use Rattle.uset_steps.specs.Names.{Sets}
+use Rattle.uset_steps.specs.Steps.{operated, IsEntryOf}
 use Rattle.uset_steps.specs.Later.{later_done, LaterFits, Gathers}
-use Rattle.uset_steps.specs.Gathering.{behind, BehindFits, gathering_in, Fits, Becomes, BecomesWith}
+use Rattle.uset_steps.specs.Gathering.{behind, entries_of, BehindFits, gathering_in, Fits, Becomes, BecomesWith}
 
 pub on_both : {A E : Type 0} (result : Result A E) {P Q R : Type 0} → (P → Q → R) → OnOk result P → OnOk result Q → OnOk result R
 on_both (Ok x) f h k = f h k
 on_both (Err e) f h k = tt
 
+pub on_ok : {A E : Type 0} (result : Result A E) {P Q : Type 0} → (P → Q) → OnOk result P → OnOk result Q
+on_ok (Ok x) f h = f h
+on_ok (Err e) f h = tt
+
 -- one step more was put off
 pub put_off : (old new : Gathering) (before after : Box Later Global) (does : Member → Bool → Bool) → old.later ≡ Some before → new.later ≡ Some after → new.gathered ≡ old.gathered →
-    ((m : Member) (b : Bool) → later_done after.value m b ≡ does m (later_done before.value m b)) → ((sets : Sets) → LaterFits sets before.value → LaterFits sets after.value) →
+    ((m : Member) (b : Bool) → later_done after.value m b ≡ does m (later_done before.value m b)) → ((sets : Sets) → LaterFits sets before.value → LaterFits sets after.value) → after.value.entries.items ≡ before.value.entries.items →
     Becomes old new (λ m. does m (gathering_in old m))
-put_off old new before after does was is same members fits = record {
+put_off old new before after does was is same members fits kept = record {
   has = λ m.
       (λ i. behind (is i) m (gathered_in (same i) m))
       ∙ (members m (gathered_in old.gathered m) ∙ ap (λ later. does m (behind later m (gathered_in old.gathered m))) (sym was));
   fits = λ sets h. subst (BehindFits sets) (sym is) (fits sets (subst (BehindFits sets) was h));
+  places = λ name place h. subst (λ es. IsEntryOf name es place.index) (ap entries_of was ∙ (sym kept ∙ sym (ap entries_of is))) h;
 }
 
 -- the set of a name was put off
-pub put_off_named : (sets : Sets) (operation : Operation) (name : Name) (set : Member → Bool) (old new : Gathering) (before after : Later) → ((m : Member) (b : Bool) → behind old.later m b ≡ later_done before m b) →
-    ((m : Member) → behind new.later m (gathered_in new.gathered m) ≡ later_done after m (gathered_in old.gathered m)) → (LaterFits sets after → Fits sets new) → ((m : Member) → set m ≡ sets name m) →
-    Gathers sets operation name before after → BecomesWith sets new (λ m. operated operation (set m) (gathering_in old m))
-put_off_named sets operation name set old new before after was is fits same g = record {
-  has = λ m.
-      is m
-      ∙ (g.members m (gathered_in old.gathered m)
-      ∙ (λ i. operated operation (sym (same m) i) (sym (was m (gathered_in old.gathered m)) i)));
+pub put_off_named : (sets : Sets) (operation : Operation) (set : Member → Bool) (old new : Gathering) (before after : Later) → ((m : Member) (b : Bool) → behind old.later m b ≡ later_done before m b) →
+    ((m : Member) → behind new.later m (gathered_in new.gathered m) ≡ later_done after m (gathered_in old.gathered m)) → (LaterFits sets after → Fits sets new) →
+    Gathers sets operation set before after → BecomesWith sets new (λ m. operated operation (set m) (gathering_in old m))
+put_off_named sets operation set old new before after was is fits g = record {
+  has = λ m. is m ∙ (g.members m (gathered_in old.gathered m) ∙ ap (operated operation (set m)) (sym (was m (gathered_in old.gathered m))));
   fits = fits g.fits;
 }
 

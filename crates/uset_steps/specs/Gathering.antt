@@ -1,11 +1,14 @@
 -- Sets in the making whose steps are put off.
-use Rattle.std.specs.Prelude.{◌≡◌, Bool, Option, Some, None, Box, if◌then◌else◌}
+use Rattle.std.specs.Prelude.{◌≡◌, Bool, List, [], Option, Some, None, Box, if◌then◌else◌}
 use Rattle.std.specs.Global.{Global}
 use Rattle.uset_grammar.specs.Tree.{Member, negation}
 use Rattle.uset_gather.specs.Gathered.{gathered_in}
 use Rattle.uset_steps.specs.declared.gathering.Gathering.{Gathering}
 use Rattle.uset_steps.specs.declared.later.Later.{Later}
-use Rattle.uset_steps.specs.Names.{Sets}
+use Rattle.uset_steps.specs.declared.gathering.Place.{Place}
+use Rattle.uset_steps.specs.declared.named_set.Named.{Named}
+use Rattle.uset_steps.specs.Names.{Name, Sets}
+use Rattle.uset_steps.specs.Steps.{IsEntryOf}
 use Rattle.uset_steps.specs.Later.{later_done, LaterFits}
 
 -- whether something is a member behind the steps that were put off, where there are some
@@ -29,10 +32,21 @@ closed negated m b = if negated then negation m b else b
 abbrev pub Fits : Sets → Gathering → Type 0
 Fits sets g = BehindFits sets g.later
 
--- What was gathered has these members, and fits each meaning of the names that it did before.
+-- the sets that are kept under names
+abbrev pub entries_of : Option (Box Later Global) → List Named
+entries_of None = []
+entries_of (Some later) = later.value.entries.items
+
+-- a set is kept under the name at this place
+abbrev pub IsPlaceOf : Gathering → Name → Place → Type 0
+IsPlaceOf g name place = IsEntryOf name (entries_of g.later) place.index
+
+-- What was gathered has these members; it fits each meaning of the names that it did before, and keeps the same sets at their
+-- places.
 pub record Becomes (old new : Gathering) (members : Member → Bool) : Type 0 where
   pub has : (m : Member) → gathering_in new m ≡ members m
   pub fits : (sets : Sets) → Fits sets old → Fits sets new
+  pub places : (name : Name) (place : Place) → IsPlaceOf old name place → IsPlaceOf new name place
 
 -- the same for the meaning of the names that is told
 pub record BecomesWith (sets : Sets) (new : Gathering) (members : Member → Bool) : Type 0 where

@@ -3,7 +3,7 @@ use Rattle.std.specs.Prelude.{◌≡◌, Bool, length}
 use Rattle.uset_grammar.specs.Tree.{Member}
 use Rattle.uset_steps.specs.declared.later.Later.{Later}
 use Rattle.uset_steps.specs.declared.step.Operation.{Operation}
-use Rattle.uset_steps.specs.Names.{Name, Sets}
+use Rattle.uset_steps.specs.Names.{Sets}
 use Rattle.uset_steps.specs.Steps.{operated, steps_done, EntriesFit, AreWithin}
 
 -- whether something is a member once the steps are done that were put off, by whether it was one
@@ -15,7 +15,7 @@ pub record LaterFits (sets : Sets) (later : Later) : Type 0 where
   pub entries : EntriesFit sets later.entries.items
   pub within : AreWithin (length later.entries.items) later.steps.items
 
--- the set of the name was gathered last
-pub record Gathers (sets : Sets) (operation : Operation) (name : Name) (old new : Later) : Type 0 where
-  pub members : (m : Member) (b : Bool) → later_done new m b ≡ operated operation (sets name m) (later_done old m b)
+-- the set was gathered last
+pub record Gathers (sets : Sets) (operation : Operation) (set : Member → Bool) (old new : Later) : Type 0 where
+  pub members : (m : Member) (b : Bool) → later_done new m b ≡ operated operation (set m) (later_done old m b)
   pub fits : LaterFits sets new

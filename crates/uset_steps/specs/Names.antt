@@ -1,5 +1,5 @@
 -- The names of sets, and the sets that they stand for.
-use Rattle.std.specs.Prelude.{◌≡◌, ℕ, Bool, List}
+use Rattle.std.specs.Prelude.{◌≡◌, ℕ, Bool, List, Option, Some}
 use Rattle.std.specs.String.{string_bytes}
 use Rattle.cp_invlist.specs.InversionList.{contains}
 use Rattle.uset_grammar.specs.Property.{Query}
@@ -27,10 +27,16 @@ named_in (Set set) m = in_set set.now m
 named_in (CodePoints source) m = in_source (contains (list_in source)) m
 named_in (Complement source) m = negation m (in_source (contains (list_in source)) m)
 
--- the set that each name stands for, by its members
+-- the set that each name stands for, by its members, where it stands for one
 abbrev pub Sets : Type 0
-Sets = Name → Member → Bool
+Sets = Name → Option (Member → Bool)
 
--- the set is the one that its name stands for
+-- the set is the one that the name stands for
+pub record StandsFor (sets : Sets) (name : Name) (set : Member → Bool) : Type 0 where
+  pub members : Member → Bool
+  pub is : sets name ≡ Some members
+  pub same : (m : Member) → set m ≡ members m
+
+-- the same of a set and its own name
 abbrev pub IsSetOf : Sets → Named → Type 0
-IsSetOf sets named = (m : Member) → named_in named.set m ≡ sets (name_seen named.name) m
+IsSetOf sets named = StandsFor sets (name_seen named.name) (named_in named.set)

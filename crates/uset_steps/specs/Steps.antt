@@ -9,7 +9,7 @@ use Rattle.uset_steps.specs.declared.step.Operation.{Operation}
 use Rattle.uset_steps.specs.declared.step.Operation.TheVariants.{Join, Remove, Retain}
 use Rattle.uset_steps.specs.declared.step.Step.{Step}
 use Rattle.uset_steps.specs.declared.step.Step.TheVariants.{Range, Text, Set, Named}
-use Rattle.uset_steps.specs.Names.{Name, Sets, name_seen, named_in, IsSetOf}
+use Rattle.uset_steps.specs.Names.{Name, Sets, name_seen, named_in, StandsFor, IsSetOf}
 
 -- whether something is a member once a set was joined, taken away or kept, by whether it was one and whether the set has it
 abbrev pub operated : Operation → Bool → Bool → Bool
@@ -66,7 +66,7 @@ pub record IsEntered (sets : Sets) (name : Name) (old new : List Entry) (place :
   pub more : List Entry
   pub grown : new ≡ old ++ more
   pub fits : EntriesFit sets old → EntriesFit sets new
-  pub set : EntriesFit sets old → (entry : Entry) × (slice_get new place ≡ Some entry) × ((m : Member) → named_in entry.set m ≡ sets name m)
+  pub set : EntriesFit sets old → (entry : Entry) × (slice_get new place ≡ Some entry) × StandsFor sets name (named_in entry.set)
 
 -- whether the operation says what becomes of all that its set lacks, and not of what it has
 abbrev pub retains : Operation → Bool

@@ -7,6 +7,7 @@ use cp_invlist::{CodePointRange, NoMemory};
 use std::alloc::Global;
 use std::mem::replace;
 use uset_gather::{Gathered, Operand};
+use uset_read::Query;
 
 /// What a bracket gathers. From the first large set with a name on, steps are put off: once the set is needed, a set that was
 /// named again and again is gathered no more than twice. So each step costs no more than its name does.
@@ -16,16 +17,23 @@ pub struct Gathering<'a> {
     later: Option<Box<Later<'a>>>,
 }
 
+/// Where a set that was named before is kept.
+#[derive(Clone, Copy)]
+pub struct Place {
+    index: usize,
+}
+
 impl<'a> Gathering<'a> {
-    ghost use Rattle.std.specs.Prelude.{◌≡◌, ◌≤◌, ◌||◌, false, None, IfOk, OnOk};
+    ghost use Rattle.std.specs.Prelude.{◌≡◌, ◌≤◌, ◌||◌, Bool, true, false, None, is_some, IfSome, IfOk, OnOk};
     ghost use Rattle.std.specs.Str.{chars};
     ghost use Rattle.std.specs.String.{string_bytes};
     ghost use Rattle.cp_strset.specs.StringList.{sole_of};
     ghost use Rattle.uset_grammar.specs.Tree.{Member, in_range};
     ghost use Rattle.uset_gather.specs.Gathered.{gathered_in, is_string};
-    ghost use Rattle.uset_steps.specs.Names.{Sets, IsSetOf, named_in};
+    ghost use Rattle.uset_read.specs.Queries.{query_seen};
+    ghost use Rattle.uset_steps.specs.Names.{Name as SeenName, property, Sets, StandsFor, IsSetOf, named_in};
     ghost use Rattle.uset_steps.specs.Steps.{operated};
-    ghost use Rattle.uset_steps.specs.Gathering.{gathering_in, closed, Fits, Becomes, BecomesWith};
+    ghost use Rattle.uset_steps.specs.Gathering.{gathering_in, closed, Fits, IsPlaceOf, Becomes, BecomesWith};
 
     /// Nothing yet.
     pub fn new(alloc: Global) -> Gathering<'a>
@@ -98,6 +106,31 @@ impl<'a> Gathering<'a> {
         later.put_off_named(alloc, operation, named)?;
         self.later = Some(later);
         Ok(())
+    }
+
+    /// Where the set of the property is kept. `None` where it isn't.
+    pub fn place_of(&self, alloc: Global, query: &Query) -> Result<Option<Place>, NoMemory>
+        ensures place { IfOk result (λ found. IfSome found (IsPlaceOf self.now (property (query_seen query.now)))) }
+        ensures set { IfOk result (λ found. IfSome found (λ place. (sets : Sets) → Fits sets self.now → is_some (sets (property (query_seen query.now))) ≡ true)) }
+    {
+        let Some(later) = &self.later else {
+            return Ok(None);
+        };
+        match later.place_of(alloc, query)? {
+            Some(index) => Ok(Some(Place { index })),
+            None => Ok(None),
+        }
+    }
+
+    /// Gathers the set that is kept at this place, as `gather_named` does the set that its name stands for.
+    pub fn gather_again(&mut self, operation: Operation, place: Place) -> Result<(), NoMemory>
+        ensures { OnOk result ((sets : Sets) (name : SeenName) (set : Member → Bool) → Fits sets self.old → IsPlaceOf self.old name place → StandsFor sets name set →
+            BecomesWith sets self.new (λ m. operated operation (set m) (gathering_in self.old m))) }
+    {
+        match &mut self.later {
+            Some(later) => later.put_off_again(operation, place.index),
+            None => Ok(()),
+        }
     }
 
     /// Moves out the set of what was gathered, or where it is negated that of the other code points.

@@ -1,12 +1,13 @@
 //! Steps that are put off, with the named sets that they gather.
 use crate::counting::counting;
-use crate::name::Name;
+use crate::name::{Name, query_text};
 use crate::named_set::Named;
 use crate::step::{Operation, Step};
 use cp_invlist::NoMemory;
 use std::alloc::Global;
 use std::collections::BTreeMap;
 use uset_gather::Gathered;
+use uset_read::Query;
 
 /// Steps that are put off, the first in front, and the sets that they name, each once.
 #[derive(Drop)]
@@ -21,7 +22,8 @@ impl<'a> Later<'a> {
     ghost use Rattle.std.specs.Prelude.{◌≡◌, Bool, true, [], IfSome, IfOk, OnOk};
     ghost use Rattle.uset_grammar.specs.Tree.{Member};
     ghost use Rattle.uset_gather.specs.Gathered.{gathered_in};
-    ghost use Rattle.uset_steps.specs.Names.{Sets, name_seen, IsSetOf};
+    ghost use Rattle.uset_read.specs.Queries.{query_seen};
+    ghost use Rattle.uset_steps.specs.Names.{Name as SeenName, property, Sets, name_seen, named_in, StandsFor, IsSetOf};
     ghost use Rattle.uset_steps.specs.Steps.{step_done, names_none, IsEntryOf, IsEntered};
     ghost use Rattle.uset_steps.specs.Later.{later_done, LaterFits, Gathers};
 
@@ -43,19 +45,29 @@ impl<'a> Later<'a> {
         requires { names_none step ≡ true }
         ensures members { OnOk result ((m : Member) (b : Bool) → later_done self.new m b ≡ step_done [] step m (later_done self.old m b)) }
         ensures names { OnOk result ((sets : Sets) → LaterFits sets self.old → LaterFits sets self.new) }
+        ensures entries { self.new.entries ≡ self.old.entries }
     {
         self.steps.push(step)?;
         Ok(())
     }
 
-    /// The place of the name's entry, where there is one.
-    fn place_of(&self, text: &str, name: &Name) -> Option<usize>
-        ensures { IfSome result (IsEntryOf (name_seen name.now) self.now.entries.items) }
+    /// The place and the name of the entry that a text of its name finds, where there is one.
+    fn find(&self, text: &str) -> Option<(usize, &Name)>
+        ensures { IfSome result (λ p. IsEntryOf (name_seen p.1.now) self.now.entries.items p.0) }
     {
         let place = *self.places.get(text)?;
-        match self.entries.get(place) {
-            Some(entry) if entry.name.is(name) => Some(place),
-            _ => None,
+        let entry = self.entries.get(place)?;
+        Some((place, &entry.name))
+    }
+
+    /// The place of the entry of a property, where there is one.
+    pub(crate) fn place_of(&self, alloc: Global, query: &Query) -> Result<Option<usize>, NoMemory>
+        ensures { IfOk result (λ place. IfSome place (IsEntryOf (property (query_seen query.now)) self.now.entries.items)) }
+    {
+        let text = query_text(alloc, query)?;
+        match self.find(&text) {
+            Some((place, name)) if name.asks(query) => Ok(Some(place)),
+            _ => Ok(None),
         }
     }
 
@@ -65,8 +77,9 @@ impl<'a> Later<'a> {
         ensures steps { self.new.steps ≡ self.old.steps }
     {
         let text = named.name.text(alloc)?;
-        if let Some(place) = self.place_of(&text, &named.name) {
-            return Ok(place);
+        match self.find(&text) {
+            Some((place, name)) if name.is(&named.name) => return Ok(place),
+            _ => {}
         }
         let place = self.entries.len();
         self.entries.push(named)?;
@@ -81,9 +94,22 @@ impl<'a> Later<'a> {
         operation: Operation,
         named: Named<'a>,
     ) -> Result<(), NoMemory>
-        ensures { OnOk result ((sets : Sets) → LaterFits sets self.old → IsSetOf sets named.entry → Gathers sets operation (name_seen named.entry.name) self.old self.new) }
+        ensures { OnOk result ((sets : Sets) → LaterFits sets self.old → IsSetOf sets named.entry → Gathers sets operation (named_in named.entry.set) self.old self.new) }
     {
         let place = self.enter(alloc, named)?;
+        self.steps.push(Step::Named(operation, place))?;
+        Ok(())
+    }
+
+    /// Puts off the gathering of the set at this place once more.
+    pub(crate) fn put_off_again(
+        &mut self,
+        operation: Operation,
+        place: usize,
+    ) -> Result<(), NoMemory>
+        ensures { OnOk result ((sets : Sets) (name : SeenName) (set : Member → Bool) → LaterFits sets self.old → IsEntryOf name self.old.entries.items place →
+            StandsFor sets name set → Gathers sets operation set self.old self.new) }
+    {
         self.steps.push(Step::Named(operation, place))?;
         Ok(())
     }

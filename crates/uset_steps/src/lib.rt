@@ -10,7 +10,7 @@ mod name;
 mod named_set;
 mod step;
 
-pub use gathering::Gathering;
+pub use gathering::{Gathering, Place};
 pub use name::Name;
 pub use named_set::{Named, NamedSet};
 pub use step::Operation;

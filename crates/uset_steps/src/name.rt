@@ -38,7 +38,7 @@ fn is_same_query(query: &Query, other: &Query) -> bool
 }
 
 /// The text of a question: what stands in the property, without white space, and `^` in front where it is negated.
-fn query_text(alloc: Global, query: &Query) -> Result<String, NoMemory> {
+pub(crate) fn query_text(alloc: Global, query: &Query) -> Result<String, NoMemory> {
     let sign = if query.negated { "^" } else { "" };
     let key = query.key.as_str();
     match &query.value {
@@ -50,7 +50,18 @@ fn query_text(alloc: Global, query: &Query) -> Result<String, NoMemory> {
 impl Name {
     ghost use Rattle.std.specs.Prelude.{◌≡◌};
     ghost use Rattle.std.specs.Bool.{OnTrue};
-    ghost use Rattle.uset_steps.specs.Names.{name_seen};
+    ghost use Rattle.uset_read.specs.Queries.{query_seen};
+    ghost use Rattle.uset_steps.specs.Names.{name_seen, property};
+
+    /// Whether it is that of the property which is asked.
+    pub(crate) fn asks(&self, query: &Query) -> bool
+        ensures { OnTrue result (name_seen self.now ≡ property (query_seen query.now)) }
+    {
+        match self {
+            Name::Property(asked) => is_same_query(asked, query),
+            Name::Variable(_) => false,
+        }
+    }
 
     /// Whether both are the same name.
     pub(crate) fn is(&self, other: &Name) -> bool
@@ -58,7 +69,7 @@ impl Name {
     {
         match (self, other) {
             (Name::Variable(name), Name::Variable(other)) => name.as_str() == other.as_str(),
-            (Name::Property(query), Name::Property(other)) => is_same_query(query, other),
+            (_, Name::Property(query)) => self.asks(query),
             _ => false,
         }
     }

@@ -10,5 +10,5 @@ returns c =
     let before = c.in-Some.later in
     on_both c.put_off.result (λ members fits.
     put_off c.args.self.now _ before (with_value before c.put_off.new.self) (λ m b. b || in_range c.args.range.start c.args.range.end m) c.in-Some.is refl refl
-    (λ m b. members m b ∙ ap (λ r. later_done before.value m b || in_range r.start r.end m) c.new.ensures) fits)
+    (λ m b. members m b ∙ ap (λ r. later_done before.value m b || in_range r.start r.end m) c.new.ensures) fits (ap (λ es. es.items) (rw c.deref_mut.ensures.value at c.put_off.ensures.entries)))
     (rw c.deref_mut.ensures.value at c.put_off.ensures.members) (rw c.deref_mut.ensures.value at c.put_off.ensures.names)

@@ -11,5 +11,5 @@ returns-in_ok-new-in-Some c =
     let before = c.in-Some.later in
     on_both c.put_off.result (λ members fits.
     put_off c.args.self.now _ before (with_value before c.put_off.new.self) (λ m b. operated c.args.operation (gathered_in c.args.set m) b) c.in-Some.is refl refl
-    (λ m b. members m b ∙ ap (λ set. operated c.args.operation (gathered_in set m) (later_done before.value m b)) c.in_ok-new-in-Some.ensures.ok) fits)
+    (λ m b. members m b ∙ ap (λ set. operated c.args.operation (gathered_in set m) (later_done before.value m b)) c.in_ok-new-in-Some.ensures.ok) fits (ap (λ es. es.items) (rw c.deref_mut.ensures.value at c.put_off.ensures.entries)))
     (rw c.deref_mut.ensures.value at c.put_off.ensures.members) (rw c.deref_mut.ensures.value at c.put_off.ensures.names)

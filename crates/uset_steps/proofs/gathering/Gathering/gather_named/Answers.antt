@@ -1,5 +1,5 @@
 use Rattle.std.proofs.Common.{◌≡◌, Some, refl, sym, ap, ◌∙◌}
-use Rattle.uset_steps.specs.Names.{name_seen, named_in}
+use Rattle.uset_steps.specs.Names.{named_in}
 use Rattle.uset_steps.proofs.GatheringLemmas.{Holds, held, held_none, put_off_named}
 use Rattle.uset_steps.proofs.gathering.Gathering.gather_named.Goals.{in-Some, in-None+in_ok-later-in-None}
 use Rattle.uset_steps.proofs.gathering.Gathering.gather_named.Goals as goal
@@ -13,5 +13,5 @@ returns c = λ sets fits is.
           held_none sets old.later c.match-take.later.value w.new.result (sym c.take.ensures.value ∙ w.in-None.is)
           (ap (λ later. later.value) w.later-is ∙ w.in_ok-later-in-None.ensures.ok) w.new.ensures.members (w.new.ensures.names sets)
     ] in
-    put_off_named sets c.args.operation (name_seen c.args.named.name) (named_in c.args.named.set) old _ c.match-take.later.value c.put_off_named.new.self before.same (λ m. refl) (λ f. f) is
+    put_off_named sets c.args.operation (named_in c.args.named.set) old _ c.match-take.later.value c.put_off_named.new.self before.same (λ m. refl) (λ f. f)
     ((rw c.deref_mut.ensures.value at c.in_ok-put_off_named.ensures) sets before.fits is)
