@@ -21,6 +21,8 @@ mod faults;
 #[cfg(test)]
 mod fixtures;
 #[cfg(test)]
+mod generated;
+#[cfg(test)]
 mod guide;
 #[cfg(test)]
 mod patterns;
