@@ -31,7 +31,7 @@ digit_forbidden : (c : ℕ) → is_hex c ≡ true → is_forbidden 51 c ≡ true
 unfolding is_hex
 digit_forbidden c h = grind (arith, nat_tests)
 
-leaves_by : (tables : Tables) → AreAllowed tables → (variable : Text → Option Value) (white_space start continue : Option (ℕ → Bool)) → tables.sets 51 ≡ white_space → (l : Language) →
+pub leaves_by : (tables : Tables) → AreAllowed tables → (variable : Text → Option Value) (white_space start continue : Option (ℕ → Bool)) → tables.sets 51 ≡ white_space → (l : Language) →
     (white_space >>= λ w. start >>= λ s. continue >>= λ c. Some (language_by w s c variable tables)) ≡ Some l → LeavesEscapes l.white_space
 leaves_by tables allows variable None start continue there l h = cc
 leaves_by tables allows variable (Some w) None continue there l h = cc

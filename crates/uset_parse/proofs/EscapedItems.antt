@@ -85,7 +85,7 @@ module _ (l : Language) (leaves : LeavesEscapes l.white_space) where
     pub part : (more rest : Text) (is : List Item) (s : Steps) → ReadsItems l more is rest → Body is s →
         (js : List Item) × ReadsItems l (written ++ more) js rest × Body js (steps s)
 
-  nothing_part : IsPart [] (λ s. s)
+  pub nothing_part : IsPart [] (λ s. s)
   nothing_part = record { part = λ more rest is s items body. (is, items, body) }
 
   pub both_parts : (a b : Text) (f g : Steps → Steps) → IsPart a f → IsPart b g → IsPart (a ++ b) (λ s. f (g s))
@@ -110,7 +110,7 @@ module _ (l : Language) (leaves : LeavesEscapes l.white_space) where
   one_part : (n : ℕ) → n ≤ 0x10_FFFF → IsPart (escaped n) (add n n)
   one_part n h = record { part = λ more rest is s items body. (chars (n ∷ []) ∷ is, reads (at_escape n more h) items, members body) }
 
-  two_part : (a b : ℕ) → a ≤ b → b ≤ 0x10_FFFF → IsPart (escaped a ++ 0x2D ∷ escaped b) (add a b)
+  pub two_part : (a b : ℕ) → a ≤ b → b ≤ 0x10_FFFF → IsPart (escaped a ++ 0x2D ∷ escaped b) (add a b)
   two_part a b order h = record {
     part = λ more rest is s items body. (
       chars (a ∷ []) ∷ minus ∷ chars (b ∷ []) ∷ is,

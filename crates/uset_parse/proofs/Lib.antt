@@ -4,3 +4,4 @@ pub mod EscapedItems
 pub mod PatternRead
 pub mod DatabasePatterns
 pub mod ReadBackLemmas
+mod BracketsRead

@@ -17,26 +17,26 @@ use Rattle.cp_invlist.specs.Ranges.{in_range}
 use Rattle.cp_invlist.specs.declared.ranges.CodePointRange.{CodePointRange}
 use Rattle.cp_strset.specs.PatternText.{escaped, range_text, string_text, pattern_text}
 use Rattle.cp_strset.specs.StringList.{holds}
-use Rattle.uset_grammar.specs.Text.{Text, skip, optional_code}
+use Rattle.uset_grammar.specs.Text.{Text, skip, behind, optional_code}
 use Rattle.uset_grammar.specs.Tree.{Member, point, string, Steps, done, bracket, has, gathers}
 use Rattle.uset_grammar.specs.Item.{Opening}
 use Rattle.uset_grammar.specs.Body.{empty}
 use Rattle.uset_grammar.specs.Language.{Language}
-use Rattle.uset_grammar.specs.Front.{sign, header, front, First, first, of_bracket, of_property}
+use Rattle.uset_grammar.specs.Front.{ahead, sign, header, opening, begins_unit, front, first, of_bracket, of_property}
 use Rattle.uset_grammar.specs.Grammar.{ReadsItems, ends, Reads, a_bracket}
 use Rattle.uset_parse.specs.ReadBack.{LeavesEscapes, IsRange, IsLongText, is_written, EscapesAreRead}
 use Rattle.uset_parse.proofs.EscapedItems.{add_ranges, add_strings, two_parts, scalar_below, ranges_part, strings_part, stays}
 
 -- the text is ASCII
 
-IsAscii-cons : (c : ℕ) (t : Text) → c < 128 → IsAscii t → IsAscii (c ∷ t)
+pub IsAscii-cons : (c : ℕ) (t : Text) → c < 128 → IsAscii t → IsAscii (c ∷ t)
 IsAscii-cons c t h k = at
   where
     at : (i : ℕ) → slice_index (c ∷ t) i < 128
     at zero = h
     at (suc i) = k i
 
-IsAscii-flat_map : {X : Type 0} (f : X → Text) (P : X → Type 0) (xs : List X) → ((x : X) → P x → IsAscii (f x)) → All P xs → IsAscii (flat_map f xs)
+pub IsAscii-flat_map : {X : Type 0} (f : X → Text) (P : X → Type 0) (xs : List X) → ((x : X) → P x → IsAscii (f x)) → All P xs → IsAscii (flat_map f xs)
 IsAscii-flat_map f P [] one h = IsAscii-nil
 IsAscii-flat_map f P (x ∷ xs) one h =
     IsAscii-append (f x) (flat_map f xs) (one x (All-head P x xs h)) (IsAscii-flat_map f P xs one (All-tail P x xs h))
@@ -48,13 +48,13 @@ IsAscii-hex : (ds : Text) → AllDigits 16 ds → IsAscii ds
 IsAscii-hex [] h = IsAscii-nil
 IsAscii-hex (c ∷ ds) h = IsAscii-cons c ds (digit_low c h.0) (IsAscii-hex ds h.1)
 
-one_ascii : (c : ℕ) → c < 128 → IsAscii (c ∷ [])
+pub one_ascii : (c : ℕ) → c < 128 → IsAscii (c ∷ [])
 one_ascii c h = IsAscii-cons c [] h IsAscii-nil
 
 backslash_ascii : IsAscii (codes "\\u{")
 backslash_ascii = IsAscii-cons 0x5C (codes "u{") (omega arith) (IsAscii-cons 0x75 (codes "{") (omega arith) (one_ascii 0x7B (omega arith)))
 
-IsAscii-escaped : (n : ℕ) → n ≤ 0x10_FFFF → IsAscii (escaped n)
+pub IsAscii-escaped : (n : ℕ) → n ≤ 0x10_FFFF → IsAscii (escaped n)
 IsAscii-escaped n h =
     let high : n < 16 ^ 64 = omega (arith, h) in
     let hex = IsAscii-hex (digits 16 false n) (digits_is_IsNumeral 16 false (omega arith) (omega arith) n high).0.1 in
@@ -115,38 +115,47 @@ module _ (bytes : List ℕ) where
 -- the bracket
 
 -- The text begins with a character that is no white space and says nothing of the bracket around it.
-record Opens (white_space : ℕ → Bool) (t : Text) : Type 0 where
-  head : ℕ
-  tail : Text
-  parts : t ≡ head ∷ tail
-  no_white : white_space head ≡ false
-  no_colon : (head == 0x3A) ≡ false
-  no_caret : (head == 0x5E) ≡ false
-  no_hyphen : (head == 0x2D) ≡ false
+pub record Opens (white_space : ℕ → Bool) (t : Text) : Type 0 where
+  pub head : ℕ
+  pub tail : Text
+  pub parts : t ≡ head ∷ tail
+  pub no_white : white_space head ≡ false
+  pub no_colon : (head == 0x3A) ≡ false
+  pub no_caret : (head == 0x5E) ≡ false
+  pub no_hyphen : (head == 0x2D) ≡ false
 
-abbrev plain_opening : Opening
+abbrev pub plain_opening : Opening
 plain_opening = record { negated = false; leading = false }
 
 module _ (l : Language) (leaves : LeavesEscapes l.white_space) where
-  bracket_opens : (t : Text) → Opens l.white_space t → first l (0x5B ∷ t) ≡ of_bracket plain_opening t
-  unfolding sign
-  bracket_opens t h =
+  -- what is said of a bracket by the text behind its `[`, with another answer where a `:` stands there
+  opens_plainly : {X : Type 0} (t : Text) → Opens l.white_space t → (say : Opening → Text → X) (other : X) →
+      cond (is_some (behind ":" t)) other (say (header l t).0 (header l t).1) ≡ say plain_opening t
+  opens_plainly {X} t h say other =
       let c = h.head in
       let u = h.tail in
-      ap (λ t. first l (0x5B ∷ t)) h.parts
-      ∙ ap (λ b. cond (is_some (cond b (Some u) None)) of_property (of_bracket (header l (c ∷ u)).0 (header l (c ∷ u)).1)) h.no_colon
+      ap (λ t. cond (is_some (behind ":" t)) other (say (header l t).0 (header l t).1)) h.parts
+      ∙ ap (λ b. cond (is_some (cond b (Some u) None)) other (say (header l (c ∷ u)).0 (header l (c ∷ u)).1)) h.no_colon
       ∙ ap (λ b. behind_caret (cond b (true, u) (false, c ∷ u))) h.no_caret
       ∙ ap (λ t. behind_white false (optional_code 0x2D t)) (stays l leaves c u h.no_white)
       ∙ ap (λ b. behind_white false (cond b (true, u) (false, c ∷ u))) h.no_hyphen
-      ∙ ap (of_bracket plain_opening) (sym h.parts)
+      ∙ ap (say plain_opening) (sym h.parts)
     where
-      behind_white : Bool → Bool × Text → First
-      behind_white negated hyphen = of_bracket (record { negated = negated; leading = hyphen.0 }) hyphen.1
+      behind_white : Bool → Bool × Text → X
+      behind_white negated hyphen = say (record { negated = negated; leading = hyphen.0 }) hyphen.1
 
-      behind_caret : Bool × Text → First
+      behind_caret : Bool × Text → X
       behind_caret caret = behind_white caret.0 (optional_code 0x2D (skip l.white_space caret.1))
 
-  backslash_opens : (t : Text) → Opens l.white_space (0x5C ∷ t)
+  pub bracket_opens : (t : Text) → Opens l.white_space t → first l (0x5B ∷ t) ≡ of_bracket plain_opening t
+  unfolding sign
+  bracket_opens t h = opens_plainly t h of_bracket of_property
+
+  pub bracket_opens_inside : (t : Text) → Opens l.white_space t → front l (ahead l (0x5B ∷ t)) ≡ opening plain_opening t
+  unfolding sign
+  bracket_opens_inside t h = ap (front l) (stays l leaves 0x5B t (leaves.no_sign 0x5B refl)) ∙ opens_plainly t h opening begins_unit
+
+  pub backslash_opens : (t : Text) → Opens l.white_space (0x5C ∷ t)
   backslash_opens t = record { head = 0x5C; tail = t; parts = refl; no_white = leaves.no_sign 0x5C refl; no_colon = refl; no_caret = refl; no_hyphen = refl }
 
   range_opens : (r : CodePointRange) (more : Text) → Opens l.white_space (range_text r ++ more)
@@ -174,7 +183,7 @@ module _ (l : Language) (leaves : LeavesEscapes l.white_space) where
       subst (Opens l.white_space) (sym (append_assoc (range_text r) (flat_map range_text rs) (flat_map string_text ss ++ 0x5D ∷ more)))
       (range_opens r (flat_map range_text rs ++ (flat_map string_text ss ++ 0x5D ∷ more)))
 
-  bracket_closes : (rest : Text) → ReadsItems l (0x5D ∷ rest) [] rest
+  pub bracket_closes : (rest : Text) → ReadsItems l (0x5D ∷ rest) [] rest
   unfolding sign
   bracket_closes rest = ends (ap (front l) (stays l leaves 0x5D rest (leaves.no_sign 0x5D refl)))
 

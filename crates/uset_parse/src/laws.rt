@@ -1,4 +1,5 @@
 //! Laws of the language, each the contract of a function that does nothing.
+ghost use Rattle.uset_parse.specs.Brackets.{BracketsAreAscii, BracketsAreRead, BracketsAreReadUnder};
 ghost use Rattle.uset_parse.specs.ReadBack.{EscapesAreRead, Inverse};
 
 use cp_invlist::laws::members_are_code_points;
@@ -12,3 +13,11 @@ pub fn inverse()
 {
     members_are_code_points();
 }
+
+/// A bracket of brackets, each around a range that is written in escapes, is read as the union of the ranges, whatever
+/// follows it.
+pub fn brackets()
+    ensures ascii { BracketsAreAscii }
+    ensures escapes { BracketsAreRead }
+    ensures tables { BracketsAreReadUnder }
+{}

@@ -19,11 +19,18 @@ const BINDINGS: &str = "let a char 61\nlet v str 61 62\nlet s set [a-z{bc}]\n";
 /// What these lines are answered with.
 const BOUND: &str = "bound a\nbound v\nbound s\n";
 
+/// The words of the command line.
+pub(crate) fn words_of(alloc: Global, texts: &[&str]) -> Result<Vec<String>, AllocError> {
+    let mut words = Vec::new(alloc);
+    for text in texts {
+        words.push(String::from_str(alloc, text)?)?;
+    }
+    Ok(words)
+}
+
 /// The one word `eval`.
 pub(crate) fn eval(alloc: Global) -> Result<Vec<String>, AllocError> {
-    let mut words = Vec::new(alloc);
-    words.push(String::from_str(alloc, "eval")?)?;
-    Ok(words)
+    words_of(alloc, &["eval"])
 }
 
 /// The lines, behind the tables, have the answers, and the run ends with the status of this number.

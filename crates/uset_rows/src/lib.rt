@@ -23,6 +23,8 @@ mod faults;
 #[cfg(test)]
 mod fixtures;
 #[cfg(test)]
+mod generated;
+#[cfg(test)]
 mod guide;
 #[cfg(test)]
 mod patterns;

@@ -1,16 +1,19 @@
 -- An input has one answer, and without a fault of source or sink the status is its, or memory was refused.
 use Rattle.std.proofs.Common.{◌≡◌, ℕ, Bool, true, false, cond, List, ◌++◌, Option, None, Some, IfSome, refl, ap, subst, inl, inr, arith}
 use Rattle.std.proofs.lemmas.Bool.{both_ways}
+use Rattle.std.specs.Str.{chars}
+use Rattle.text_lines.specs.Lines.{lines}
 use Rattle.prop_data.specs.TableText.{table_fault, tables_in}
-use Rattle.uset_tool.specs.Words.{Command, evaluate, count_tables, table_fault_text}
+use Rattle.uset_tool.specs.Words.{Command, evaluate, count_tables, generate, table_fault_text}
 use Rattle.uset_variables.specs.Variables.{no_variables}
 use Rattle.uset_tool.specs.declared.status.Status.{Status}
 use Rattle.uset_tool.specs.declared.status.Status.TheVariants.{Done, SomeErr, Usage, Tables, ReadFault, WriteFault, NoMemory, NotText, TooLong}
 use Rattle.uset_tool.specs.Device.{Rose, NoFault}
-use Rattle.uset_tool.specs.Run.{table_lines, script_lines, text_lines, Evaluates, faulty_tables, script, Counts, faulty_text, counted, Results, Answers, usage, too_long, not_text, evaluates, IsWhole, IsWritten, Writes, AppendsWhole, AppendsAnswer, IsSettled, IsAccepted, IsAnswered}
+use Rattle.uset_tool.specs.Generated.{pattern_of}
+use Rattle.uset_tool.specs.Run.{table_lines, script_lines, text_lines, Evaluates, faulty_tables, script, Counts, faulty_text, counted, Generates, faulty_database, generated, Results, Answers, usage, too_long, not_text, evaluates, IsWhole, IsWritten, Writes, AppendsWhole, AppendsAnswer, IsSettled, IsAccepted, IsAnswered}
 use Rattle.uset_tool.specs.Laws.{OneAnswer}
 use Rattle.uset_tool.proofs.Existence.{answer_exists}
-use Rattle.uset_tool.proofs.Once.{RunLaws, laws_of, script_once}
+use Rattle.uset_tool.proofs.Once.{RunLaws, laws_of, script_once, sizes_once}
 use Rattle.uset_tool.proofs.RunLemmas.{no_fault_here, of_command, one_command}
 
 evaluated_once : RunLaws → (input t u : List ℕ) (r s : Status) → Evaluates input t r → Evaluates input u s → (t ≡ u) × (r ≡ s)
@@ -27,9 +30,19 @@ counted_once input _ _ _ _ (faulty_text fault e) (counted none) = absurd (no_fau
 counted_once input _ _ _ _ (counted none) (faulty_text fault e) = absurd (no_fault_here _ fault none e)
 counted_once input _ _ _ _ (counted none) (counted same) = (refl, refl)
 
+generated_once : RunLaws → (n : ℕ) (input t u : List ℕ) (r s : Status) → Generates n input t r → Generates n input u s → (t ≡ u) × (r ≡ s)
+generated_once laws n input _ _ _ _ (faulty_database fault e) (faulty_database other f) = let same : fault ≡ other = cc in (ap table_fault_text same, refl)
+generated_once laws n input _ _ _ _ (faulty_database fault e) (generated none text err answer) = absurd (no_fault_here _ fault none e)
+generated_once laws n input _ _ _ _ (generated none text err answer) (faulty_database fault e) = absurd (no_fault_here _ fault none e)
+generated_once laws n input _ _ _ _ (generated none text err answer) (generated none_too other is_err answer_too) =
+    let one = laws.one_answer (tables_in (lines input)) (laws.allowed_sets (lines input) none) no_variables (chars (pattern_of n)) in
+    let once = sizes_once one laws.one_list_of_ranges text other err is_err answer answer_too in
+    (once.0, ap (λ b. cond b SomeErr Done) once.1)
+
 result_once : RunLaws → (command : Command) (input t u : List ℕ) (r s : Status) → Results command input t r → Results command input u s → (t ≡ u) × (r ≡ s)
 result_once laws evaluate input t u r s h k = evaluated_once laws input t u r s h k
 result_once laws count_tables input t u r s h k = counted_once input t u r s h k
+result_once laws (generate n) input t u r s h k = generated_once laws n input t u r s h k
 
 answered_once : RunLaws → (words : List (List ℕ)) (input t u : List ℕ) (r s : Status) → Answers words input t r → Answers words input u s → (t ≡ u) × (r ≡ s)
 answered_once laws words input _ _ _ _ (usage a) (usage b) = (refl, refl)
@@ -80,6 +93,8 @@ result_status evaluate input _ _ fine (faulty_tables fault e) = absurd (no_fault
 result_status evaluate input _ _ fine (script none text errs answer) = script_status errs
 result_status count_tables input _ _ fine (faulty_text fault e) = absurd (no_fault_here _ fault fine e)
 result_status count_tables input _ _ fine (counted none) = inl refl
+result_status (generate n) input _ _ fine (faulty_database fault e) = absurd (no_fault_here _ fault fine e)
+result_status (generate n) input _ _ fine (generated none text err answer) = script_status err
 
 accepted_status : (words : List (List ℕ)) (input t : List ℕ) (s : Status) → IsAccepted words input → Answers words input t s → IsAnswered s
 accepted_status words input _ _ ok (usage b) = absurd (both_ways _ b (of_command words ok.command ok.known))

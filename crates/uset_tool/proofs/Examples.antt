@@ -18,8 +18,9 @@ use Rattle.uset_grammar.specs.Outcome.{unexpected, internal}
 use Rattle.uset_grammar.specs.Answers.{absent}
 use Rattle.uset_tool.specs.Answer.{range_text, string_text, read_text, fault_text, bad_line_text, bound_text, is_bound_text, text_after_text, fault, a_character, free, bound_before as bound_earlier, ends, answers}
 use Rattle.uset_tool.specs.Script.{silent, pattern, binding, bad, script_line, character_of, character, string, set}
-use Rattle.uset_tool.specs.Words.{is_known, table_fault_text}
-use Rattle.uset_tool.specs.Run.{table_lines, script_lines, Answers, usage, Evaluates, faulty_tables, script}
+use Rattle.uset_tool.specs.Generated.{pattern_of, sizes_text, unread}
+use Rattle.uset_tool.specs.Words.{generate, count_of, command_of, is_known, table_fault_text}
+use Rattle.uset_tool.specs.Run.{table_lines, script_lines, Answers, usage, Evaluates, faulty_tables, script, Generates, generated}
 use Rattle.uset_tool.specs.declared.status.Status.TheVariants.{Usage, Tables, SomeErr}
 
 abbrev zero : CodePointRange
@@ -96,6 +97,36 @@ eval_is_known = refl
 
 tables_is_known : is_known (codes "tables" ∷ []) ≡ true
 tables_is_known = refl
+
+gen_is_known : is_known (codes "gen" ∷ codes "1" ∷ []) ≡ true
+unfolding count_of
+gen_is_known = refl
+
+gen_is_known_up_to_ten_thousand : command_of (codes "gen" ∷ codes "10000" ∷ []) ≡ Some (generate 10000)
+unfolding count_of
+gen_is_known_up_to_ten_thousand = refl
+
+nothing_is_generated : is_known (codes "gen" ∷ codes "0" ∷ []) ≡ false
+unfolding count_of
+nothing_is_generated = refl
+
+no_leading_zero : is_known (codes "gen" ∷ codes "01" ∷ []) ≡ false
+unfolding count_of
+no_leading_zero = refl
+
+one_too_many : is_known (codes "gen" ∷ codes "10001" ∷ []) ≡ false
+unfolding count_of
+one_too_many = refl
+
+no_sign : is_known (codes "gen" ∷ codes "+1" ∷ []) ≡ false
+unfolding count_of
+no_sign = refl
+
+no_number : is_known (codes "gen" ∷ []) ≡ false
+no_number = refl
+
+two_numbers : is_known (codes "gen" ∷ codes "1" ∷ codes "2" ∷ []) ≡ false
+two_numbers = refl
 
 two_words_are_unknown : is_known (codes "eval" ∷ codes "x" ∷ []) ≡ false
 two_words_are_unknown = refl
@@ -194,3 +225,20 @@ unfolding lacks_some_list is_sole line_of_one line_of_two is_header_word script_
 names_are_bound =
     script refl (codes "bound a\nerr a is bound\n") true (answers (codes "bound a\n") (codes "err a is bound\n") false true (free refl a_character)
     (answers (codes "err a is bound\n") [] true false (bound_earlier refl) ends))
+
+-- patterns that numbers tell, and their sizes
+of_one : pattern_of 1 ≡ codes "[[\\u{c67ea}-\\u{c67ea}]]"
+unfolding digits
+of_one = refl
+
+of_two : pattern_of 2 ≡ codes "[[\\u{8ccd1}-\\u{8ccd1}][\\u{214b5}-\\u{214b6}]]"
+unfolding digits
+of_two = refl
+
+sizes_of_two : sizes_text 44 (record { start = 0x214B5; end = 0x214B6 } ∷ record { start = 0x8CCD1; end = 0x8CCD1 } ∷ []) ≡ codes "bytes 44\nranges 2\npoints 3\n"
+unfolding digits
+sizes_of_two = refl
+
+no_syntax : Generates 1 (codes "end\n") (codes "err error: internal error\n") SomeErr
+unfolding lacks_some_list is_sole line_of_one line_of_two is_header_word encode
+no_syntax = generated refl (codes "err error: internal error\n") true (unread {kind = internal} {offset = None} (record { place = None; fault = absent; is = refl }))

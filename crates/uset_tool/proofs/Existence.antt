@@ -4,7 +4,7 @@ use Rattle.std.proofs.Common.{inl, inr, ◌≡◌, ℕ, ◌+◌, ◌<◌, ◌≤
 use Rattle.std.proofs.lemmas.Bool.{cases_Bool, cases_lt, eqb-true}
 use Rattle.std.proofs.lemmas.Bool.Decides.{nat_tests}
 use Rattle.std.proofs.lemmas.List.{length-append}
-use Rattle.std.proofs.lemmas.Str.{encodes-append, encodes-chars, scalars-chars, IsUtf8-from_is_utf8}
+use Rattle.std.proofs.lemmas.Str.{encodes-append, encodes-chars, scalars-chars, IsUtf8-from_is_utf8, IsUtf8-from_ascii}
 use Rattle.std.specs.List.{list_all}
 use Rattle.std.specs.Str.{IsUtf8, is_utf8, chars, all_scalars, bytes_eq}
 use lib.Utf8.{scalar}
@@ -28,9 +28,11 @@ use Rattle.uset_tool.specs.declared.status.Status.{Status}
 use Rattle.uset_tool.specs.declared.status.Status.TheVariants.{Done, SomeErr, Usage, Tables as Tables_status, NotText, TooLong}
 use Rattle.uset_tool.specs.Counts.{counts_text}
 use Rattle.uset_tool.specs.Device.{limit}
-use Rattle.uset_tool.specs.Words.{Command, evaluate, count_tables, command_of, table_fault_text, usage_text, not_text_text, too_long_text}
-use Rattle.uset_tool.specs.Run.{table_lines, script_lines, Evaluates, faulty_tables, script, Counts, faulty_text, counted, Results, Answers, usage, too_long, not_text, evaluates}
+use Rattle.uset_tool.specs.Generated.{pattern_of, sizes_text, SizesAnswer, measured, unread}
+use Rattle.uset_tool.specs.Words.{Command, evaluate, count_tables, generate, command_of, table_fault_text, usage_text, not_text_text, too_long_text}
+use Rattle.uset_tool.specs.Run.{table_lines, script_lines, Evaluates, faulty_tables, script, Counts, faulty_text, counted, Generates, faulty_database, generated, Results, Answers, usage, too_long, not_text, evaluates}
 use Rattle.uset_tool.proofs.Once.{RunLaws}
+use Rattle.uset_tool.proofs.GeneratedPatterns.{pattern_is_ascii}
 use Rattle.uset_tool.proofs.Listing.{maximal_ranges, strings_in_order}
 use Rattle.uset_tool.proofs.TextLines.{behind_ascii, parted, AreTexts, lines_are_texts, past_are_texts}
 
@@ -116,6 +118,11 @@ module _ (laws : RunLaws) (tables : Tables) (allowed : AreAllowed tables) (bound
 
   set_defined : (name : List ℕ) → Defined name
   set_defined name = let (a, is) = laws.one_answer tables allowed variables (chars source) in defined_by name a is
+
+-- a pattern that has an answer has one where it is measured
+sizes_answer : {l : Option Language} {source text : List ℕ} {err : Bool} → PatternAnswer l source text err → (t : List ℕ) × (e : Bool) × SizesAnswer l source t e
+sizes_answer (read n rs ss h place maximal strings) = (sizes_text n rs, false, measured n rs h place maximal)
+sizes_answer {source} (fault {kind} {offset} h) = (fault_text kind offset source, true, unread h)
 
 -- What a line of a script holds is text.
 
@@ -305,9 +312,21 @@ module _ (laws : RunLaws) where
       by (Some f) e = (table_fault_text f, Tables_status, faulty_text f e)
       by None e = (counts_text (tables_in (lines input)), Done, counted e)
 
+  generation : (n : ℕ) (input : List ℕ) → (text : List ℕ) × (status : Status) × Generates n input text status
+  generation n input = by (table_fault (lines input)) refl
+    where
+      by : (o : Option TableError) → table_fault (lines input) ≡ o → (text : List ℕ) × (status : Status) × Generates n input text status
+      by (Some f) e = (table_fault_text f, Tables_status, faulty_database f e)
+      by None e =
+          let text = IsUtf8-from_ascii (pattern_of n) (pattern_is_ascii laws.brackets_are_ascii n) in
+          let (some, err, answer) = pattern_answer laws (tables_in (lines input)) (laws.allowed_sets (lines input) e) (laws.bounded_sets (lines input)) no_variables (λ name v h. absurd (let g = h in cc)) (pattern_of n) text in
+          let (told, is_err, sized) = sizes_answer answer in
+          (told, cond is_err SomeErr Done, generated e told is_err sized)
+
   result : (command : Command) (input : List ℕ) → IsUtf8 input → (text : List ℕ) × (status : Status) × Results command input text status
   result evaluate input u = evaluation input u
   result count_tables input u = counts input
+  result (generate n) input u = generation n input
 
   -- words and an input have an answer
   pub answer_exists : (words : List (List ℕ)) (input : List ℕ) → (text : List ℕ) × (status : Status) × Answers words input text status

@@ -5,8 +5,10 @@ pub mod DeviceLemmas
 pub mod Listing
 pub mod TextLines
 pub mod Once
+pub mod GeneratedPatterns
 pub mod Existence
 pub mod RunLemmas
+pub mod GeneratedLemmas
 pub mod Complete
 mod LeftLemmas
 pub mod BindingLemmas

@@ -16,12 +16,14 @@ use Rattle.uset_grammar.specs.Place.{size}
 use Rattle.uset_grammar.specs.Answers.{Answer, ReadsUnder, IsFault, IsAnswer}
 use Rattle.uset_grammar.specs.Laws.{FiniteSets, RestsAreLast}
 use Rattle.uset_resolve.specs.Laws.{SourcesAreBounded}
+use Rattle.uset_parse.specs.Brackets.{BracketsAreAscii}
 use Rattle.uset_reader.specs.Laws.{OneAnswer}
 use Rattle.uset_reader.specs.Syntaxes.{language_of}
 use Rattle.uset_tool.specs.declared.sink.WriteError.{WriteError}
 use Rattle.uset_tool.specs.declared.sink.WriteError.TheVariants.{Failed, NoMemory}
 use Rattle.uset_tool.specs.Answered.{StopsWithin, StopsGathering, Gathers, AnswersScript}
 use Rattle.uset_tool.specs.Device.{Appends, IsProperFront, IsFront}
+use Rattle.uset_tool.specs.Generated.{sizes_text, SizesAnswer, measured, unread}
 use Rattle.uset_tool.specs.Script.{Definition, ScriptLine, silent, pattern, binding, bad, script_line}
 use Rattle.uset_tool.specs.Answer.{Variables, with_binding, PatternAnswer, read, fault, read_text, fault_text, text_after_text, DefinitionAnswer, a_character, a_string, a_set, text_after, no_set, BindingAnswer, bound_before, free, LineAnswer, ScriptAnswer, ends, answers}
 
@@ -35,6 +37,7 @@ pub record Laws (tables : Tables) : Type 0 where
 pub record RunLaws : Type 0 where
   pub one_answer : OneAnswer
   pub allowed_sets : SetsAreAllowed
+  pub brackets_are_ascii : BracketsAreAscii
   pub bounded_sets : SetsAreBounded
   pub bounded_sources : SourcesAreBounded
   pub finite_sets : FiniteSets
@@ -62,7 +65,7 @@ one_fault {kind} {other} {offset} {place} a is h k =
     let second = (is.faults other place).1 k in
     (cc, cc)
 
-not_both : {l : Option Language} {source : Text} {tree : Tree} {rest : Text} {kind : Kind} {offset : Option ℕ} (a : Answer) → IsAnswer l source a → ReadsUnder source tree rest l → IsFault l source kind offset → ⊥
+pub not_both : {l : Option Language} {source : Text} {tree : Tree} {rest : Text} {kind : Kind} {offset : Option ℕ} (a : Answer) → IsAnswer l source a → ReadsUnder source tree rest l → IsFault l source kind offset → ⊥
 not_both {tree} {rest} {kind} {offset} a is h k =
     let first = (is.reads tree rest).1 h in
     let second = (is.faults kind offset).1 k in
@@ -82,6 +85,21 @@ pattern_once laws variables source _ _ _ _ (read n rs ss h place maximal strings
 pattern_once laws variables source _ _ _ _ (fault k) (read n rs ss h place maximal strings) = let (answer, is) = laws.one_answer variables (chars source) in absurd (not_both answer is h k)
 pattern_once laws variables source _ _ _ _ (fault h) (fault k) =
     let (answer, is) = laws.one_answer variables (chars source) in
+    let one = one_fault answer is h k in
+    (ap₂ (λ kind offset. fault_text kind offset source) one.0 one.1, refl)
+
+-- a pattern that is measured has one answer
+pub sizes_once : {l : Option Language} {source : List ℕ} → (a : Answer) × IsAnswer l (chars source) a →
+    ((m : ℕ → Bool) (rs qs : List CodePointRange) → AreMaximalRanges m rs → AreMaximalRanges m qs → rs ≡ qs) →
+    (t u : List ℕ) (e f : Bool) → SizesAnswer l source t e → SizesAnswer l source u f → (t ≡ u) × (e ≡ f)
+sizes_once (answer, is) one_list _ _ _ _ (measured {tree} {rest} n rs h place maximal) (measured {tree = other} {rest = left} k qs h_too place_too maximal_too) =
+    let one = one_reading answer is h h_too in
+    let same_n : n ≡ k = omega (arith, ap size one.1) in
+    let same_ranges : rs ≡ qs = one_list (λ c. has tree (point c)) rs qs maximal (subst (λ t. AreMaximalRanges (λ c. has t (point c)) qs) (sym one.0) maximal_too) in
+    (λ i. sizes_text (same_n i) (same_ranges i), refl)
+sizes_once (answer, is) one_list _ _ _ _ (measured n rs h place maximal) (unread k) = absurd (not_both answer is h k)
+sizes_once (answer, is) one_list _ _ _ _ (unread k) (measured n rs h place maximal) = absurd (not_both answer is h k)
+sizes_once {source} (answer, is) one_list _ _ _ _ (unread h) (unread k) =
     let one = one_fault answer is h k in
     (ap₂ (λ kind offset. fault_text kind offset source) one.0 one.1, refl)
 

@@ -26,13 +26,13 @@ nothing_yet (Some before) text some =
     (before, refl, record { front = []; rest = text; parts = refl; proper = some; appended = sym (append-nil before) })
 
 -- nothing was appended, and memory was refused
-memory_refused : (A : List ℕ → Status → Type 0) (old : Option (List ℕ)) → AppendsAnswer A old old NoMemory
+pub memory_refused : (A : List ℕ → Status → Type 0) (old : Option (List ℕ)) → AppendsAnswer A old old NoMemory
 memory_refused A None = tt
 memory_refused A (Some before) =
     (before, refl, λ text status h. record { front = []; rest = text; parts = refl; appended = sym (append-nil before) })
 
 -- a text was said that is the one answer
-says_writes : (A : List ℕ → Status → Type 0) (old new : Option (List ℕ)) (text : List ℕ) (wanted result : Status) → Says old new text wanted result → A text wanted →
+pub says_writes : (A : List ℕ → Status → Type 0) (old new : Option (List ℕ)) (text : List ℕ) (wanted result : Status) → Says old new text wanted result → A text wanted →
     ((t : List ℕ) (s : Status) → A t s → t ≡ text) → (AppendsWhole A old new wanted → AppendsAnswer A old new wanted) → AppendsAnswer A old new result
 says_writes A old new text wanted _ (said appended) answer one whole = whole (text, answer, appended)
 says_writes A None new text wanted _ (failed stopped) answer one whole = tt
@@ -47,7 +47,7 @@ says_writes A (Some before) new text wanted _ (refused stopped) answer one whole
 pub no_fault_here : (o : Option TableError) (fault : TableError) → o ≡ None → o ≡ Some fault → ⊥
 no_fault_here o fault none e = cc
 
-abbrev fault_or : TableError → Option TableError → TableError
+abbrev pub fault_or : TableError → Option TableError → TableError
 fault_or d None = d
 fault_or d (Some fault) = fault
 

@@ -5,6 +5,7 @@ pub mod Lines
 pub mod Answer
 pub mod Counts
 pub mod Answered
+pub mod Generated
 pub mod Status
 pub mod Words
 pub mod Commands

@@ -12,11 +12,13 @@ use Rattle.uset_tool.specs.declared.status.Status.{Status}
 use Rattle.uset_tool.specs.declared.status.Status.TheVariants.{Done, SomeErr, Usage, Tables, ReadFault, WriteFault, NoMemory, NotText, TooLong}
 use Rattle.uset_tool.specs.declared.sink.WriteError.TheVariants.{Failed, NoMemory as OutOfMemory}
 use Rattle.uset_variables.specs.Variables.{no_variables}
+use Rattle.uset_reader.specs.Syntaxes.{language_of}
 use Rattle.uset_tool.specs.Answer.{ScriptAnswer}
 use Rattle.uset_tool.specs.Counts.{counts_text}
 use Rattle.uset_tool.specs.Answered.{AnswersScript}
+use Rattle.uset_tool.specs.Generated.{pattern_of, SizesAnswer}
 use Rattle.uset_tool.specs.Device.{limit, Appends, IsFront, IsProperFront, TookFront}
-use Rattle.uset_tool.specs.Words.{Command, evaluate, count_tables, command_of, is_known, table_fault_text, usage_text, not_text_text, too_long_text}
+use Rattle.uset_tool.specs.Words.{Command, evaluate, count_tables, generate, command_of, is_known, table_fault_text, usage_text, not_text_text, too_long_text}
 
 -- the lines of an input through its first line that is `end` alone: the table text
 abbrev pub table_lines : List ℕ → List (List ℕ)
@@ -39,10 +41,19 @@ pub data Counts (input : List ℕ) : List ℕ → Status → Type 0 where
   faulty_text : (fault : TableError) → table_fault (lines input) ≡ Some fault → Counts input (table_fault_text fault) Tables
   counted : table_fault (lines input) ≡ None → Counts input (counts_text (tables_in (lines input))) Done
 
+-- The sizes of the set of the pattern that a number tells, under no variables and an input that is a table text and nothing
+-- else.
+pub data Generates (n : ℕ) (input : List ℕ) : List ℕ → Status → Type 0 where
+  faulty_database : (fault : TableError) → table_fault (lines input) ≡ Some fault → Generates n input (table_fault_text fault) Tables
+  generated : table_fault (lines input) ≡ None → (text : List ℕ) (err : Bool) →
+      SizesAnswer (language_of no_variables (tables_in (lines input))) (pattern_of n) text err →
+      Generates n input text (if err then SomeErr else Done)
+
 -- what a command answers to an input that is text
 abbrev pub Results : Command → List ℕ → List ℕ → Status → Type 0
 Results evaluate input text status = Evaluates input text status
 Results count_tables input text status = Counts input text status
+Results (generate n) input text status = Generates n input text status
 
 -- The answer to the words and the input, and its status: of the words first, then of the length, then of UTF-8.
 pub data Answers (words : List (List ℕ)) (input : List ℕ) : List ℕ → Status → Type 0 where
@@ -120,6 +131,12 @@ SaysError LoadRefused old new result = (new ≡ old) × (result ≡ NoMemory)
 abbrev pub SaysCounts : Members → Option (List ℕ) → Option (List ℕ) → Status → Type 0
 SaysCounts tables old new result = Says old new (counts_text tables) Done result ⊎ ((new ≡ old) × (result ≡ NoMemory))
 
+-- the sizes, or the fault, of the pattern that a number tells were said, or nothing where memory was refused
+abbrev pub SaysSizes : Members → ℕ → Option (List ℕ) → Option (List ℕ) → Status → Type 0
+SaysSizes tables n old new result =
+    ((text : List ℕ) × (err : Bool) × SizesAnswer (language_of no_variables tables) (pattern_of n) text err × Says old new text (if err then SomeErr else Done) result)
+    ⊎ ((new ≡ old) × (result ≡ NoMemory))
+
 -- the answers to the lines of a script with a status
 abbrev pub ScriptWrites : Members → List (List ℕ) → Option (List ℕ) → Option (List ℕ) → Status → Type 0
 ScriptWrites tables ls old new Done = AnswersScript tables no_variables ls old new (Ok false)
@@ -153,6 +170,11 @@ IsSettled A result = (text : List ℕ) × (status : Status) × A text status × 
 abbrev pub text_lines : Command → List ℕ → List (List ℕ)
 text_lines evaluate input = table_lines input
 text_lines count_tables input = lines input
+text_lines (generate n) input = lines input
+
+-- where the words ask for the pattern that a number tells, one of the three tables of the syntax is absent
+abbrev pub LacksSyntax : List (List ℕ) → List ℕ → Type 0
+LacksSyntax words input = (n : ℕ) → command_of words ≡ Some (generate n) → language_of no_variables (tables_in (lines input)) ≡ None
 
 -- the words are known, and the input is within the limit, is text, and has a table text without a fault
 pub record IsAccepted (words : List (List ℕ)) (input : List ℕ) : Type 0 where

@@ -1,7 +1,9 @@
 -- The words after the program's name, and the texts that the program says.
-use Rattle.std.specs.Prelude.{ℕ, Bool, List, [], ◌∷◌, ◌++◌, codes, decimal, Option, Some, None, is_some, if◌then◌else◌}
+use Rattle.std.specs.Prelude.{ℕ, Bool, ◌&&◌, ◌||◌, ◌==◌, nat_lt, nat_le, List, [], ◌∷◌, ◌++◌, length, codes, decimal, Option, Some, None, is_some, option_map, option_and_then, if◌then◌else◌}
 use Rattle.std.specs.Str.{bytes_eq}
+use Prim.Native.Char.{code}
 use Rattle.prop_data.specs.declared.error.TableError.{TableError}
+use Rattle.prop_data.specs.Numbers.{number_onto}
 use Rattle.prop_data.specs.TableErrorKind.{kind_name}
 
 -- What the words ask for.
@@ -10,6 +12,19 @@ pub data Command : Type 0 where
   evaluate : Command
   -- the number of tables of each kind in a table text
   count_tables : Command
+  -- the sizes of the set of the pattern that a number tells, under a table text
+  generate : ℕ → Command
+
+-- the number is one that tells a pattern
+abbrev pub as_count : ℕ → Option ℕ
+as_count n = if nat_le 1 n && nat_le n 10000 then Some n else None
+
+-- one to five decimal digits, the first of them no `0`, that spell such a number
+unfoldable pub count_of : List ℕ → Option ℕ
+count_of [] = None
+count_of (d ∷ digits) =
+    if d == code "0" || nat_lt 5 (length (d ∷ digits)) then None
+    else option_and_then as_count (number_onto 10 0 (d ∷ digits))
 
 -- the one word is that of a command
 abbrev pub command_named : List ℕ → Option Command
@@ -21,7 +36,8 @@ command_named word =
 abbrev pub command_of : List (List ℕ) → Option Command
 command_of [] = None
 command_of (word ∷ []) = command_named word
-command_of (word ∷ other ∷ more) = None
+command_of (word ∷ number ∷ []) = if bytes_eq word (codes "gen") then option_map generate (count_of number) else None
+command_of (word ∷ number ∷ other ∷ more) = None
 
 -- the words are a known list
 abbrev pub is_known : List (List ℕ) → Bool

@@ -3,7 +3,9 @@
 
 mod answer;
 mod binding;
+mod count;
 mod counts;
+mod generator;
 mod input;
 pub mod laws;
 mod line;

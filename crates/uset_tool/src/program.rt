@@ -1,5 +1,5 @@
 //! A run of the program.
-ghost use Rattle.std.specs.Prelude.{◌≡◌, ◌≢◌, ◌≤◌, true, false, map, IfSome, codes};
+ghost use Rattle.std.specs.Prelude.{◌≡◌, ◌≢◌, ◌≤◌, true, false, map, IfSome, codes, if◌then◌else◌};
 ghost use Rattle.std.specs.String.{string_bytes};
 ghost use Rattle.uset_tool.specs.Device.{Rose, NoFault};
 ghost use Rattle.uset_tool.specs.Commands.{command_seen};
@@ -7,21 +7,25 @@ ghost use Rattle.uset_tool.specs.Words.{is_known, table_fault_text};
 ghost use Rattle.text_lines.specs.Lines.{lines};
 ghost use Rattle.prop_data.specs.Database.{tables_of};
 ghost use Rattle.prop_data.specs.Forbidden.{AreAllowed};
-ghost use Rattle.uset_tool.specs.Run.{Answers, Results, Evaluates, Counts, SaysCounts, Writes, AppendsAnswer, IsLeft, IsSettled, IsAccepted, IsAnswered, EndsAs, Says, SaysError, ScriptWrites, is_of_text};
+ghost use Rattle.uset_tool.specs.Run.{Answers, Results, Evaluates, Counts, SaysCounts, Generates, SaysSizes, LacksSyntax, Writes, AppendsAnswer, IsLeft, IsSettled, IsAccepted, IsAnswered, EndsAs, Says, SaysError, ScriptWrites, is_of_text};
 
+use crate::count::Count;
 use crate::counts::counts_text;
+use crate::generator::answer_generated;
 use crate::input::{InputError, read_input};
-use crate::laws::one_answer;
+use crate::laws::{generated, one_answer};
 use crate::script::answer_script;
 use crate::sink::{Sink, WriteError, write_all};
 use crate::source::Source;
 use crate::status::Status;
 use crate::table_fault::table_fault_text;
 use crate::words::{Command, find_command};
+use cp_invlist::laws::one_list_of_ranges;
 use prop_data::laws::allowed_sets;
 use prop_data::{LoadError, PropertyDatabase, TableError};
 use std::alloc::Global;
 use text_lines::split_behind;
+use uset_parse::laws::one_answer as one_answer_of_a_source;
 
 /// Writes a text, and gives the status that is wanted where all of it was written.
 fn say<K: Sink>(sink: &mut K, text: &str, wanted: Status) -> Status
@@ -73,6 +77,33 @@ fn say_counts<K: Sink>(alloc: Global, database: &PropertyDatabase, sink: &mut K)
     }
 }
 
+/// The status of an answer, by whether it is an `err` line.
+fn status_of(is_err: bool) -> Status
+    ensures { result ≡ (if is_err then Status.SomeErr else Status.Done) }
+{
+    if is_err {
+        return Status::SomeErr;
+    }
+    Status::Done
+}
+
+/// Says the sizes of the set of the pattern that the number tells, or its fault.
+fn say_sizes<K: Sink>(
+    alloc: Global,
+    count: Count,
+    database: &PropertyDatabase,
+    sink: &mut K,
+) -> Status
+    ensures says { SaysSizes (tables_of database.now) count.number (K.written sink.old) (K.written sink.new) result }
+    ensures failed { result ≡ Status.WriteFault → Rose (K.faults sink.old) (K.faults sink.new) }
+    ensures counted { K.faults sink.old ≤ K.faults sink.new }
+{
+    match answer_generated(alloc, count, database) {
+        Ok(answer) => say(sink, &answer.text, status_of(answer.is_err)),
+        Err(_) => Status::NoMemory,
+    }
+}
+
 /// Answers the lines of a script.
 fn answer<K: Sink>(alloc: Global, script: &str, database: &PropertyDatabase, sink: &mut K) -> Status
     requires { AreAllowed (tables_of database.now) }
@@ -116,6 +147,23 @@ fn count<K: Sink>(alloc: Global, input: &str, sink: &mut K) -> Status
     }
 }
 
+/// Answers an input that is text and a table text alone: the sizes of the set of the pattern that the number tells.
+fn generate<K: Sink>(alloc: Global, count: Count, input: &str, sink: &mut K) -> Status
+    ensures written { AppendsAnswer (Generates count.number input.now) (K.written sink.old) (K.written sink.new) result }
+    ensures status { is_of_text result ≡ true }
+    ensures failed { result ≡ Status.WriteFault → Rose (K.faults sink.old) (K.faults sink.new) }
+    ensures counted { K.faults sink.old ≤ K.faults sink.new }
+{
+    // The laws by which a pattern has one answer, so that what is written begins every answer.
+    allowed_sets();
+    one_answer_of_a_source();
+    one_list_of_ranges();
+    match PropertyDatabase::from_text(alloc, input) {
+        Ok(database) => say_sizes(alloc, count, &database, sink),
+        Err(error) => say_load_error(alloc, error, sink),
+    }
+}
+
 /// Answers an input that is text.
 fn answer_text<K: Sink>(alloc: Global, command: Command, input: &str, sink: &mut K) -> Status
     ensures written { AppendsAnswer (Results (command_seen command) input.now)
@@ -127,6 +175,7 @@ fn answer_text<K: Sink>(alloc: Global, command: Command, input: &str, sink: &mut
     match command {
         Command::Eval => eval(alloc, input, sink),
         Command::Tables => count(alloc, input, sink),
+        Command::Gen(number) => generate(alloc, number, input, sink),
     }
 }
 
@@ -165,10 +214,11 @@ fn answer_words<S: Source, K: Sink>(
 
 /// Runs the program: the words after its name, the bytes of the source, and the answer to the sink.
 /// The known lists of words are `eval`, where the input is a table text through its first line that is
-/// `end` alone and then a script, and `tables`, where it is a table text. At most 2^23 bytes are an input. What is
-/// written is the answer that the grammar and the tables give, as `written` says; `settled` and
-/// `complete` say that without a fault of the source or the sink no other end comes but want of
-/// memory.
+/// `end` alone and then a script, `tables`, where it is a table text, and `gen` with a number from 1 to 10000, where it
+/// is one too. At most 2^23 bytes are an input. What is written is the answer that the grammar and the tables give, as
+/// `written` says; `settled` and `complete` say that without a fault of the source or the sink no other end comes but
+/// want of memory. The pattern that `gen` makes is always read, as `generated` says, where the tables of the syntax are
+/// there.
 pub fn run<S: Source, K: Sink>(
     alloc: Global,
     words: &Vec<String>,
@@ -187,6 +237,10 @@ pub fn run<S: Source, K: Sink>(
     ensures read_fault { result ≡ Status.ReadFault → Rose (S.faults source.old) (S.faults source.new) }
     ensures write_fault { result ≡ Status.WriteFault → Rose (K.faults sink.old) (K.faults sink.new) }
 
+    // The pattern that a number tells has a fault only where a table of the syntax is absent.
+    ensures generated { IfSome (S.left source.old) (λ input.
+        result ≡ Status.SomeErr → LacksSyntax (map string_bytes words.now.items) input) }
+
     // Where no fault was counted, the status is that of the one answer, or memory was refused, whatever the sink tells.
     ensures settled { IfSome (S.left source.old) (λ input.
         NoFault (S.faults source.old) (S.faults source.new) → NoFault (K.faults sink.old) (K.faults sink.new) →
@@ -195,7 +249,10 @@ pub fn run<S: Source, K: Sink>(
         NoFault (S.faults source.old) (S.faults source.new) → NoFault (K.faults sink.old) (K.faults sink.new) →
         IsAccepted (map string_bytes words.now.items) input → IsAnswered result) }
 {
-    // The law by which an input has one answer.
+    // The laws by which an input has one answer, and the pattern that a number tells is read.
     one_answer();
+    generated();
+    allowed_sets();
+    one_answer_of_a_source();
     answer_words(alloc, words, source, sink)
 }

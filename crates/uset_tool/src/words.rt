@@ -4,6 +4,8 @@ ghost use Rattle.std.specs.String.{string_bytes};
 ghost use Rattle.uset_tool.specs.Words.{command_of};
 ghost use Rattle.uset_tool.specs.Commands.{command_seen};
 
+use crate::count::{Count, count_of};
+
 /// What the words ask for.
 #[derive(Clone, Copy, Drop)]
 pub(crate) enum Command {
@@ -11,6 +13,8 @@ pub(crate) enum Command {
     Eval,
     /// `tables`: the input is a table text, whose tables are counted.
     Tables,
+    /// `gen` and a number: the input is a table text, under which the pattern of the number is read and its set measured.
+    Gen(Count),
 }
 
 /// The command that the words are, where they are a known list.
@@ -21,6 +25,7 @@ pub(crate) fn find_command(words: &[String]) -> Option<Command>
     match words {
         [word] if word.as_str() == "eval" => Some(Command::Eval),
         [word] if word.as_str() == "tables" => Some(Command::Tables),
+        [word, number] if word.as_str() == "gen" => Some(Command::Gen(count_of(number)?)),
         _ => None,
     }
 }

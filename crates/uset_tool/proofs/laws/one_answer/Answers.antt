@@ -5,6 +5,7 @@ pub returns : goal.returns
 returns c = one_answer_law (record {
   one_answer = c.one_answer.ensures;
   allowed_sets = c.allowed_sets.ensures;
+  brackets_are_ascii = c.brackets.ensures.ascii;
   bounded_sets = c.bounded_sets.ensures;
   bounded_sources = c.bounded_sources.ensures;
   finite_sets = c.finite_sets.ensures.members;
