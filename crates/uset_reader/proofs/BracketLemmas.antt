@@ -20,12 +20,14 @@ use Rattle.uset_steps.specs.declared.gathering.Gathering.{Gathering}
 use Rattle.uset_steps.specs.declared.named_set.Named.{Named as NamedOperand}
 use Rattle.uset_steps.specs.declared.step.Operation.{Operation}
 use Rattle.uset_steps.specs.declared.step.Operation.TheVariants.{Join, Remove, Retain}
-use Rattle.uset_steps.specs.Names.{Sets, named_in, IsSetOf}
+use Rattle.uset_steps.specs.declared.gathering.Place.{Place}
+use Rattle.uset_steps.specs.Names.{Name, Sets, StandsFor, named_in, IsSetOf}
 use Rattle.uset_steps.specs.Steps.{operated}
-use Rattle.uset_steps.specs.Gathering.{gathering_in, closed as finished, Fits as NamesFit, Becomes as StepsBecome, BecomesWith as StepsBecomeWith}
+use Rattle.uset_steps.specs.Gathering.{gathering_in, closed as finished, IsPlaceOf, Fits as NamesFit, Becomes as StepsBecome, BecomesWith as StepsBecomeWith}
 use Rattle.uset_reader.specs.declared.item.Codes.{Codes}
-use Rattle.uset_reader.specs.declared.item.Item.TheVariants.{Several, Text as Spelled}
-use Rattle.uset_reader.specs.declared.item.Operand.TheVariants.{Inner, Named}
+use Rattle.uset_reader.specs.declared.item.Item.{Item as CodeItem}
+use Rattle.uset_reader.specs.declared.item.Item.TheVariants.{Minus, Ampersand, Dollar, Single, Several, Text as Spelled, Set}
+use Rattle.uset_reader.specs.declared.item.Operand.TheVariants.{Inner, Named, Again}
 use Rattle.uset_reader.specs.Named.{sets_of}
 use Rattle.uset_reader.specs.declared.bracket.Opening.{Opening as CodeOpening}
 use Rattle.uset_reader.specs.declared.bracket.OpenBracket.{OpenBracket as CodeBracket}
@@ -33,7 +35,7 @@ use Rattle.uset_reader.specs.declared.bracket.Taken.{Taken}
 use Rattle.uset_reader.specs.declared.bracket.Taken.TheVariants.{Fits, Reversed, Unfit}
 use Rattle.uset_reader.specs.declared.arrange.Arranged.{Arranged}
 use Rattle.uset_reader.specs.declared.arrange.Awaits.TheVariants.{Element}
-use Rattle.uset_reader.specs.Items.{number_of, awaits_seen, arranged_steps, Arranges, operated as operated_steps, own_steps}
+use Rattle.uset_reader.specs.Items.{number_of, IsTreeOf, awaits_seen, arranged_steps, Arranges, operated as operated_steps, own_steps}
 use Rattle.uset_reader.specs.Brackets.{opening_seen, KeepsFrame, Follows, Becomes, BecomesWith, GathersItem, GathersSet, Stands, begun, Took, Refused, Became, Refuses, Closed, EndedAs}
 
 -- a bracket that begins
@@ -57,6 +59,7 @@ pub becomes_more : (old between new : Gathering) (cs : List ℕ) (c : ℕ) → B
 becomes_more old between new cs c h k = record {
   follows = λ rest m. ap (λ s. gathers s m (gathering_in old m)) (each_more cs c rest) ∙ (h.follows (add c c rest) m ∙ k.follows rest m);
   fits = λ sets f. k.fits sets (h.fits sets f);
+  places = λ name place at. k.places name place (h.places name place at);
 }
 
 -- the next code point of a list
@@ -169,3 +172,22 @@ gathers_several operation codes old new h l tree fits is = record {
 -- a string
 pub gathers_text : (operation : Operation) (s : String Global) (old new : Gathering) → StepsBecome old new (λ m. gathering_in old m || is_string (string_bytes s) m) → GathersItem operation (Spelled s) old new
 gathers_text operation s old new h l tree fits is = record { follows = λ rest m. ap (gathers rest m) (sym (h.has m)); fits = h.fits (sets_of l) fits }
+
+-- a set that is kept was gathered again
+pub gathers_again : (operation : Operation) (place : Place) (old new : Gathering) →
+    ((sets : Sets) (name : Name) (set : Member → Bool) → NamesFit sets old → IsPlaceOf old name place → StandsFor sets name set → StepsBecomeWith sets new (λ m. operated operation (set m) (gathering_in old m))) →
+    GathersSet operation (Again place) old new
+gathers_again operation place old new h l tree fits (name, at, stands) =
+    let k = h (sets_of l) name (has tree) fits at stands in record { follows = operation_follows operation tree old new (has tree) k.has (λ m. refl); fits = k.fits }
+
+-- an item stays what it is where the same sets are kept at their places
+pub tree_still : (l : Language) (old new : Gathering) (item : CodeItem) (tree : Tree) → ((name : Name) (place : Place) → IsPlaceOf old name place → IsPlaceOf new name place) → IsTreeOf l old item tree → IsTreeOf l new item tree
+tree_still l old new (Set (Inner set)) tree places h = h
+tree_still l old new (Set (Named named)) tree places h = h
+tree_still l old new (Set (Again place)) tree places (name, at, stands) = (name, places name place at, stands)
+tree_still l old new Minus tree places h = tt
+tree_still l old new Ampersand tree places h = tt
+tree_still l old new Dollar tree places h = tt
+tree_still l old new (Single c) tree places h = tt
+tree_still l old new (Several codes) tree places h = tt
+tree_still l old new (Spelled t) tree places h = tt

@@ -36,6 +36,9 @@ use Rattle.uset_reader.specs.Fronts.{no_tree}
 use Rattle.uset_reader.specs.Brackets.{Stands, begun, IsBegun, IsItem, Takes, Closes}
 use Rattle.uset_reader.specs.declared.bracket.Opening.{Opening as CodeOpening}
 use Rattle.uset_gather.specs.declared.gathered.Gathered.{Gathered}
+use Rattle.uset_steps.specs.declared.gathering.Gathering.{Gathering}
+use Rattle.uset_steps.specs.Gathering.{Fits as NamesFit}
+use Rattle.uset_reader.specs.Named.{sets_of}
 use Rattle.uset_reader.specs.declared.item.Operand.TheVariants.{Inner}
 use Rattle.uset_reader.specs.declared.item.Item.TheVariants.{Set}
 use Rattle.uset_fault.specs.Errors.{kind_of, offset_in, kind_told, ToldAs, Tells}
@@ -178,11 +181,11 @@ module _ (s : Syntax) where
   not_last v r = refl
 
   pub takes_bound : (source : List ℕ) (b new : CodeBracket) (name text rest : List ℕ) (v : VariableValue) (item : CodeItem) (result : Result Progress ParseError) → encode_utf8_all (chars name) ≡ name →
-      bound s.variables.now name ≡ Some v → ((l : Language) → l.variable (chars name) ≡ Some (value_seen v) → IsItem l item (item_of (value_seen v))) → TakesAs source b item Variable text rest new result → TakesVariable l source b name text rest new result
+      bound s.variables.now name ≡ Some v → ((l : Language) (g : Gathering) → l.variable (chars name) ≡ Some (value_seen v) → IsItem l g item (item_of (value_seen v))) → TakesAs source b item Variable text rest new result → TakesVariable l source b name text rest new result
   takes_bound source b new name text rest v item result utf8 some is h units outer here behind o os stands around =
       subst (λ t. TurnedTo l t outer new result)
       (sym (ap (λ z. named_turn l units (chars source) o os (chars text) (chars rest) z) (bound_by name utf8 ∙ ap (option_map value_seen) some)))
-      (h l units of_variable_name (item_of (value_seen v)) outer refl (is l (bound_by name utf8 ∙ ap (option_map value_seen) some)) here behind o os stands around)
+      (h l units of_variable_name (item_of (value_seen v)) outer refl (is l b.gathered (bound_by name utf8 ∙ ap (option_map value_seen) some)) here behind o os stands around)
 
 -- UNITS
 module _ (places : PlacesAre) (awaited : AwaitedTells) (l : Language) (cursor : Cursor) (b : CodeBracket) (text : List ℕ) (several : Bool) (fits : several ≡ went (next (awaits_seen b.awaits) two)) where
@@ -197,41 +200,41 @@ module _ (places : PlacesAre) (awaited : AwaitedTells) (l : Language) (cursor : 
       ap (λ z. units.unit_at z (chars text)) (fit_is ∙ sym fits) ∙ units.only_unit several (chars text) x f long is
 
   -- a unit that isn't read
-  pub takes_stopped : (stop : Stop) (e : ParseError) → UnitStops l several text stop → IsStop cursor stop e → TakesUnit l (source_of cursor) b text b (Err e)
+  pub takes_stopped : (stop : Stop) (e : ParseError) → (NamesFit (sets_of l) b.gathered → UnitStops l several text stop) → IsStop cursor stop e → TakesUnit l (source_of cursor) b text b (Err e)
   takes_stopped (Fault kind rest) e stopped is units outer here f long o os stands around =
-      let found = stopped (units.unit_begins (chars text) f long) in
+      let found = stopped stands.fits (units.unit_begins (chars text) f long) in
       let t = asked units f long o stands (faulty (kind_seen kind) found.0) found.2 in
       let place = (places l units whole here.before (chars text)).0 here.is in
       let parts : whole ≡ (here.before ++ found.0) ++ chars rest.now = here.is ∙ (ap (λ z. here.before ++ z) found.1 ∙ sym (append_assoc here.before found.0 (chars rest.now))) in
       tells e (kind_seen kind) _ is.0
       (Some (at l units whole (chars text) ++ found.0), ap (λ z. unit_turn l units whole o os (chars text) z) t, is.1 (here.before ++ found.0) parts ∙ ap (λ z. offset_of (kind_seen kind) (Some (z ++ found.0))) (sym place))
   takes_stopped Ended e stopped is units outer here f long o os stands around =
-      let t = asked units f long o stands ended (stopped (units.unit_begins (chars text) f long)) in
+      let t = asked units f long o stands ended (stopped stands.fits (units.unit_begins (chars text) f long)) in
       tells e eof _ is.0 (None, ap (λ z. unit_turn l units whole o os (chars text) z) t, is.1)
   takes_stopped StopNoMemory e stopped is units outer here f long o os stands around = tells_nothing e _ is
 
-  module _ (item : CodeItem) (rest : List ℕ) (read : UnitIs l several text item rest) where
+  module _ (item : CodeItem) (rest : List ℕ) (read : NamesFit (sets_of l) b.gathered → UnitIs l b.gathered several text item rest) where
     taken_turn : (units : UnitReader l) → front l (chars text) ≡ begins_unit → is_short (chars text) ≡ false → (o : OpenBracket) (os : List OpenBracket) → Stands l b o → (x : Bool) →
-        ((i : Item) → IsItem l item i → is_last_property of_unit i (chars rest) ≡ x) → (i : Item) × IsItem l item i × (unit_turn l units whole o os (chars text) (units.unit_at (fit (o.items ++ two ∷ [])) (chars text))
+        ((i : Item) → IsItem l b.gathered item i → is_last_property of_unit i (chars rest) ≡ x) → (i : Item) × IsItem l b.gathered item i × (unit_turn l units whole o os (chars text) (units.unit_at (fit (o.items ++ two ∷ [])) (chars text))
         ≡ cond x (stops (rejected eof None)) (judged l units whole o os (chars text) of_unit i (chars rest) (fit (o.items ++ i ∷ []))))
     taken_turn units f long o os stands x last =
-        let found = read (units.unit_begins (chars text) f long) in
+        let found = read stands.fits (units.unit_begins (chars text) f long) in
         let i = stands_for l found.unit in
         let t = asked units f long o stands (got found.unit (chars rest)) found.outcome in
         (i, found.item_is, ap (λ z. unit_turn l units whole o os (chars text) z) t ∙ ap (λ z. cond z (stops (rejected eof None)) (judged l units whole o os (chars text) of_unit i (chars rest) (fit (o.items ++ i ∷ [])))) (last i found.item_is))
 
     -- a property with nothing behind it
-    pub takes_last : (e : ParseError) → ((i : Item) → IsItem l item i → is_last_property of_unit i (chars rest) ≡ true) → kind_told (kind_of e) ≡ Some eof → offset_in e ≡ None → TakesUnit l (source_of cursor) b text b (Err e)
+    pub takes_last : (e : ParseError) → ((i : Item) → IsItem l b.gathered item i → is_last_property of_unit i (chars rest) ≡ true) → kind_told (kind_of e) ≡ Some eof → offset_in e ≡ None → TakesUnit l (source_of cursor) b text b (Err e)
     takes_last e last is offset units outer here f long o os stands around =
         let t = taken_turn units f long o os stands true last in
         tells e eof _ is (None, t.2, offset)
 
     -- any other unit
-    pub takes_unit : (new : CodeBracket) (result : Result Progress ParseError) → RestsAreBehind l → ((i : Item) → IsItem l item i → is_last_property of_unit i (chars rest) ≡ false) →
+    pub takes_unit : (new : CodeBracket) (result : Result Progress ParseError) → RestsAreBehind l → ((i : Item) → IsItem l b.gathered item i → is_last_property of_unit i (chars rest) ≡ false) →
         TakesAs (source_of cursor) b item Written text rest new result → TakesUnit l (source_of cursor) b text new result
     takes_unit new result behind goes_on h units outer here f long o os stands around =
         let t = taken_turn units f long o os stands false goes_on in
-        let found = read (units.unit_begins (chars text) f long) in
+        let found = read stands.fits (units.unit_begins (chars text) f long) in
         let unit = (found.outcome.reads found.unit (chars rest)).0 refl in
         subst (λ z. TurnedTo l z outer new result) (sym t.2)
         (h l units of_unit t.0 outer (λ z. (let g = z in cc)) t.1 here (behind.units several (chars text) (chars rest) found.unit unit) o os stands around)
@@ -245,7 +248,7 @@ pub none_popped : (old new : List CodeBracket) (n : ℕ) → old ≡ new ++ [] �
 none_popped old new n parts rest none = parts ∙ (append-nil new ∙ (rest ∙ ap (λ m. take (m - 1) old) none))
 
 -- an item that wasn't taken doesn't fit
-pub misfits : (old new : CodeBracket) (item : CodeItem) (taken : Taken) → (taken ≡ Fits → ⊥) → Takes old item taken new → (l : Language) (o : OpenBracket) (i : Item) → Stands l old o → IsItem l item i → fit (o.items ++ i ∷ []) ≡ false
+pub misfits : (old new : CodeBracket) (item : CodeItem) (taken : Taken) → (taken ≡ Fits → ⊥) → Takes old item taken new → (l : Language) (o : OpenBracket) (i : Item) → Stands l old o → IsItem l old.gathered item i → fit (o.items ++ i ∷ []) ≡ false
 misfits old new item Fits n h l o i s is = absurd (n refl)
 misfits old new item (Reversed c) n h l o i s is = (h l o i s is).unfit
 misfits old new item Unfit n h l o i s is = (h l o i s is).unfit
@@ -324,7 +327,7 @@ module _ (source : List ℕ) (outer left : List CodeBracket) (b around new : Cod
     abbrev set_item : Item
     set_item = nested (tree_of o.header (shuts l o stands).steps)
 
-    is_set_item : IsItem l (Set (Inner made)) set_item
+    is_set_item : IsItem l around.gathered (Set (Inner made)) set_item
     is_set_item = record { tree = tree_of o.header (shuts l o stands).steps; same = λ m. sym ((shuts l o stands).members m); is = refl }
 
     closed_turn : (x : Bool) → fit (inside.next.items ++ set_item ∷ []) ≡ x →
@@ -348,7 +351,7 @@ module _ (source : List ℕ) (outer left : List CodeBracket) (b around new : Cod
       )
 
   -- its set doesn't fit outside
-  pub closes_misplaced : (unfit : (l : Language) (o : OpenBracket) (i : Item) → Stands l around o → IsItem l (Set (Inner made)) i → fit (o.items ++ i ∷ []) ≡ false) (e : ParseError) →
+  pub closes_misplaced : (unfit : (l : Language) (o : OpenBracket) (i : Item) → Stands l around o → IsItem l around.gathered (Set (Inner made)) i → fit (o.items ++ i ∷ []) ≡ false) (e : ParseError) →
       kind_told (kind_of e) ≡ Some (unexpected 0x5B) → offset_in e ≡ Some b.before → ClosesAs source outer b text rest.now left new (Err e)
   closes_misplaced unfit e is offset l units here o os stands around_h =
       let k = inside l units o os stands around_h in
@@ -399,10 +402,10 @@ module _ (s : Syntax) (cursor : Cursor) (outer : List CodeBracket) (b : CodeBrac
       stops_so spoken _ (rejected (unexpected 0x5E) (Some (at spoken units all_of_it (chars text)))) e outer b refl
       (rejects_at places spoken units cursor text e (unexpected 0x5E) here is (λ t. refl) offset))
 
-  pub turned_single : RestsAreBehind spoken → (item : CodeItem) (rest : List ℕ) (new : CodeBracket) (result : Result Progress ParseError) → ((m : Language) → IsTreeOf m item no_tree) →
+  pub turned_single : RestsAreBehind spoken → (item : CodeItem) (rest : List ℕ) (new : CodeBracket) (result : Result Progress ParseError) → ((m : Language) (g : Gathering) → IsTreeOf m g item no_tree) →
       front spoken (chars text) ≡ single (item_seen no_tree item) (chars rest) → TakesAs (source_of cursor) b item Written text rest new result →
       Turns spoken (source_of cursor) (left_of cursor) outer b outer new result
   turned_single behind item rest new result no_set f h =
       turned (single (item_seen no_tree item) (chars rest)) f outer new result (λ units here o os stands around.
-      h spoken units of_one_character (item_seen no_tree item) outer (λ z. (let g = z in cc)) (record { tree = no_tree; same = no_set spoken; is = refl }) here
+      h spoken units of_one_character (item_seen no_tree item) outer (λ z. (let g = z in cc)) (record { tree = no_tree; same = no_set spoken b.gathered; is = refl }) here
       (behind.singles (chars text) (chars rest) (item_seen no_tree item) f) o os stands around)

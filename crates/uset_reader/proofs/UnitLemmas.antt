@@ -16,10 +16,17 @@ use Rattle.uset_grammar.specs.EscapeSlips.{in_bracket, fits_in, so_many, allowed
 use Rattle.uset_grammar.specs.BracedString.{StringOutcome}
 use Rattle.uset_grammar.specs.Property.{Query, PropertyBegins, PropertyOutcome}
 use Rattle.uset_grammar.specs.Unit.{Meaning, an_escape, a_string, a_property, begins_property, UnitBegins, brace_begins, posix_begins, backslash_begins, UnitOutcome}
-use Rattle.uset_grammar.specs.Item.{chars as item_chars, text as item_text, text_item}
-use Rattle.uset_grammar.specs.Language.{Language, resolves, lacks, property_tree}
+use Rattle.uset_grammar.specs.Tree.{Member, given}
+use Rattle.uset_grammar.specs.Item.{chars as item_chars, text as item_text, nested, text_item}
+use Rattle.uset_grammar.specs.Language.{set as value_set, Language, resolves, lacks, property_tree}
 use Rattle.uset_grammar.specs.Laws.{KindsTell, UnitsOfKinds}
+use Rattle.cp_strset.specs.StringSet.{StringSet}
+use Rattle.uset_gather.specs.Gathered.{in_set}
+use Rattle.uset_steps.specs.declared.gathering.Gathering.{Gathering}
 use Rattle.uset_steps.specs.declared.named_set.Named.{Named as NamedOperand}
+use Rattle.uset_steps.specs.Names.{variable, name_seen, named_in}
+use Rattle.uset_reader.specs.declared.item.Operand.TheVariants.{Named}
+use Rattle.uset_reader.specs.Named.{bound_set, sets_of}
 use Rattle.uset_read.specs.declared.stop.Stop.{Stop}
 use Rattle.uset_read.specs.declared.stop.Stop.TheVariants.{Fault, Ended, NoMemory}
 use Rattle.uset_read.specs.declared.escape.Spelled.{Spelled as CodeSpelled}
@@ -29,7 +36,7 @@ use Rattle.uset_read.specs.Spelled.{spelled_seen, EscapeIs, EscapeStops}
 use Rattle.uset_read.specs.Pieces.{StringIs, StringStops}
 use Rattle.uset_read.specs.UnitRead.{StopsAt}
 use Rattle.uset_reader.specs.declared.syntax.Syntax.{Syntax}
-use Rattle.uset_reader.specs.declared.item.Operand.TheVariants.{Named}
+use Rattle.uset_reader.specs.declared.item.Operand.{Operand}
 use Rattle.uset_reader.specs.declared.item.Item.{Item as CodeItem}
 use Rattle.uset_reader.specs.declared.item.Item.TheVariants.{Single, Several, Text as Spelled_text, Set}
 use Rattle.uset_reader.specs.declared.item.Codes.{Codes}
@@ -38,7 +45,7 @@ use Rattle.uset_reader.specs.Items.{number_of}
 use Rattle.uset_reader.specs.Fronts.{no_tree}
 use Rattle.uset_reader.specs.Brackets.{IsItem}
 use Rattle.uset_reader.specs.Syntaxes.{language_seen}
-use Rattle.uset_reader.specs.Units.{begins_with, AreCodePoints, chars_of, IsString, IsEscape, IsProperty, OperandIs, OperandStops, UnitIs, UnitStops}
+use Rattle.uset_reader.specs.Units.{begins_with, AreCodePoints, chars_of, IsString, IsEscape, IsProperty, OperandIn, OperandStops, UnitIs, UnitStops}
 
 heads : {c d : ℕ} {t u : Text} → c ∷ t ≡ d ∷ u → c ≡ d
 heads h = cc
@@ -80,14 +87,14 @@ allowed_within several (Itself c) h = tt
 allowed_within several (Numbers first more) h = all_within several (first ∷ more.items) (and_first (list_all (fits_in (in_bracket several)) (first ∷ more.items)) (so_many (in_bracket several) (first ∷ more.items)) h)
 
 -- ITEMS
-pub single_item : (l : Language) (c : CodePoint) (n : ℕ) → number_of c ≡ n → IsItem l (Single c) (item_chars (n ∷ []))
-single_item l c n e = record { tree = no_tree; same = tt; is = ap (λ z. item_chars (z ∷ [])) (sym e) }
+pub single_item : (l : Language) (g : Gathering) (c : CodePoint) (n : ℕ) → number_of c ≡ n → IsItem l g (Single c) (item_chars (n ∷ []))
+single_item l g c n e = record { tree = no_tree; same = tt; is = ap (λ z. item_chars (z ∷ [])) (sym e) }
 
-pub one_item : (l : Language) (c : CodePoint) (n : ℕ) (more : List ℕ) → number_of c ≡ n → more ≡ [] → IsItem l (Single c) (item_chars (n ∷ more))
-one_item l c n more e none = subst (λ ns. IsItem l (Single c) (item_chars (n ∷ ns))) (sym none) (single_item l c n e)
+pub one_item : (l : Language) (g : Gathering) (c : CodePoint) (n : ℕ) (more : List ℕ) → number_of c ≡ n → more ≡ [] → IsItem l g (Single c) (item_chars (n ∷ more))
+one_item l g c n more e none = subst (λ ns. IsItem l g (Single c) (item_chars (n ∷ ns))) (sym none) (single_item l g c n e)
 
-pub several_item : (l : Language) (codes : Codes) → IsItem l (Several codes) (item_chars (codes.first ∷ codes.more.items))
-several_item l codes = record { tree = no_tree; same = tt; is = refl }
+pub several_item : (l : Language) (g : Gathering) (codes : Codes) → IsItem l g (Several codes) (item_chars (codes.first ∷ codes.more.items))
+several_item l g codes = record { tree = no_tree; same = tt; is = refl }
 
 empty_is : {A : Type 0} (xs : List A) → length xs ≡ 0 → xs ≡ []
 empty_is [] h = refl
@@ -106,19 +113,28 @@ other_text [] h = refl
 other_text (d ∷ []) h = absurd (let g = h in cc)
 other_text (d ∷ e ∷ t) h = refl
 
-pub sole_item : (l : Language) (c : CodePoint) (t : Text) (d : ℕ) → sole_of t ≡ Some d → number_of c ≡ d → IsItem l (Single c) (text_item t)
-sole_item l c t d h e = subst (IsItem l (Single c)) (sym (sole_text t d h)) (single_item l c d e)
+pub sole_item : (l : Language) (g : Gathering) (c : CodePoint) (t : Text) (d : ℕ) → sole_of t ≡ Some d → number_of c ≡ d → IsItem l g (Single c) (text_item t)
+sole_item l g c t d h e = subst (IsItem l g (Single c)) (sym (sole_text t d h)) (single_item l g c d e)
 
-pub string_item : (l : Language) (s : String Global) → sole_of (chars (string_bytes s)) ≡ None → IsItem l (Spelled_text s) (text_item (chars (string_bytes s)))
-string_item l s h = record { tree = no_tree; same = tt; is = other_text (chars (string_bytes s)) h }
+pub string_item : (l : Language) (g : Gathering) (s : String Global) → sole_of (chars (string_bytes s)) ≡ None → IsItem l g (Spelled_text s) (text_item (chars (string_bytes s)))
+string_item l g s h = record { tree = no_tree; same = tt; is = other_text (chars (string_bytes s)) h }
 
 pub none_kept : (o : Option ℕ) → not (is_some o) ≡ true → o ≡ None
 none_kept None h = refl
 none_kept (Some c) h = absurd (let g : false ≡ true = h in cc)
 
 -- a copy of a string
-pub copied_item : (l : Language) (s : String Global) (bytes : List ℕ) → string_bytes s ≡ bytes → IsItem l (Spelled_text s) (item_text (chars bytes))
-copied_item l s bytes e = record { tree = no_tree; same = tt; is = ap (λ bs. item_text (chars bs)) (sym e) }
+pub copied_item : (l : Language) (g : Gathering) (s : String Global) (bytes : List ℕ) → string_bytes s ≡ bytes → IsItem l g (Spelled_text s) (item_text (chars bytes))
+copied_item l g s bytes e = record { tree = no_tree; same = tt; is = ap (λ bs. item_text (chars bs)) (sym e) }
+
+-- a variable that is bound to a set
+pub set_item : (l : Language) (g : Gathering) (named : Box NamedOperand Global) (name : List ℕ) (set : StringSet) → name_seen named.value.name ≡ variable name → ((m : Member) → named_in named.value.set m ≡ in_set set m) →
+    l.variable (chars name) ≡ Some (value_set (in_set set)) → IsItem l g (Set (Named named)) (nested (given (in_set set)))
+set_item l g named name set called same bound = record {
+  tree = given (in_set set);
+  same = (λ m. sym (same m), record { members = in_set set; is = ap (sets_of l) called ∙ ap bound_set bound; same = same });
+  is = refl;
+}
 
 -- UNITS
 module _ (s : Syntax) (kinds : KindsTell) (several : Bool) (text : List ℕ) where
@@ -134,12 +150,12 @@ module _ (s : Syntax) (kinds : KindsTell) (several : Bool) (text : List ℕ) whe
   of_string : (inner : Text) → chars text ≡ 0x7B ∷ inner → (o : Outcome (List Spelled)) → StringOutcome l.white_space (chars text) o → Outcomes (chars text) (meaning a_string o)
   of_string inner e o h = subst (λ z. Outcomes z (meaning a_string o)) (sym e) (units.strings inner o (subst (λ z. StringOutcome l.white_space z o) e h))
 
-  pub string_read : IsString (chars text) → (string rest : List ℕ) (item : CodeItem) → StringIs s.white_space.now text string rest → IsItem l item (text_item (chars string)) → UnitIs l several text item rest
-  string_read begins string rest item h is b =
+  pub string_read : IsString (chars text) → (string rest : List ℕ) (item : CodeItem) → StringIs s.white_space.now text string rest → (g : Gathering) → IsItem l g item (text_item (chars string)) → UnitIs l g several text item rest
+  string_read begins string rest item h g is b =
       let found = h s.apart begins.inner begins.parts in record {
         unit = a_string found.0;
         outcome = of_string begins.inner begins.parts (got found.0 (chars rest)) found.1;
-        item_is = subst (λ t. IsItem l item (text_item t)) found.2 is;
+        item_is = subst (λ t. IsItem l g item (text_item t)) found.2 is;
       }
 
   pub string_stops : IsString (chars text) → (stop : Stop) → StringStops s.white_space.now text stop → UnitStops l several text stop
@@ -164,9 +180,9 @@ module _ (s : Syntax) (kinds : KindsTell) (several : Bool) (text : List ℕ) whe
       let found = h s.apart begins.inner begins.parts in
       allowed_within several spelled ((found.reads (spelled_seen spelled) (chars rest)).0 refl).fits
 
-  pub escape_read : IsEscape (chars text) → (spelled : CodeSpelled) (rest : List ℕ) (item : CodeItem) → EscapeIs s.white_space.now (Bracket several) text spelled rest → IsItem l item (chars_of spelled) →
-      UnitIs l several text item rest
-  escape_read begins spelled rest item h is b =
+  pub escape_read : IsEscape (chars text) → (spelled : CodeSpelled) (rest : List ℕ) (item : CodeItem) → EscapeIs s.white_space.now (Bracket several) text spelled rest → (g : Gathering) → IsItem l g item (chars_of spelled) →
+      UnitIs l g several text item rest
+  escape_read begins spelled rest item h g is b =
       let letter = letter_of begins.inner begins.parts begins.no_property b in record {
         unit = an_escape (spelled_seen spelled);
         outcome = of_escape letter.0 letter.1 letter.2 letter.3 (got (spelled_seen spelled) (chars rest)) (h s.apart begins.inner begins.parts);
@@ -196,8 +212,8 @@ module _ (s : Syntax) (kinds : KindsTell) (several : Bool) (text : List ℕ) whe
       by _ is (backslash_begins {d} {t}) =
           subst (λ z. Outcomes z (meaning a_property o)) (sym is) (units.perl_properties d t o (other.no_escape d t is) (subst (λ z. PropertyOutcome l.white_space (resolves l) (lacks l) z o) is h))
 
-  pub property_read : IsProperty (chars text) → (named : Box NamedOperand Global) (rest : List ℕ) → OperandIs l text named.value rest → UnitIs l several text (Set (Named named)) rest
-  property_read other named rest h b =
+  pub property_read : IsProperty (chars text) → (g : Gathering) (operand : Operand) (rest : List ℕ) → OperandIn l g text operand rest → UnitIs l g several text (Set operand) rest
+  property_read other g operand rest h b =
       let found = h (property_begins b other) in record {
         unit = a_property found.query;
         outcome = of_property b other (got found.query (chars rest)) found.outcome;

@@ -18,8 +18,9 @@ use Rattle.uset_reader.specs.declared.item.Item.{Item as CodeItem}
 use Rattle.uset_reader.specs.declared.item.Operand.{Operand}
 use Rattle.uset_steps.specs.declared.gathering.Gathering.{Gathering}
 use Rattle.uset_steps.specs.declared.step.Operation.{Operation}
-use Rattle.uset_steps.specs.Names.{Sets}
-use Rattle.uset_steps.specs.Gathering.{gathering_in, Fits as NamesFit}
+use Rattle.uset_steps.specs.declared.gathering.Place.{Place}
+use Rattle.uset_steps.specs.Names.{Name, Sets}
+use Rattle.uset_steps.specs.Gathering.{gathering_in, IsPlaceOf, Fits as NamesFit}
 use Rattle.uset_reader.specs.Named.{sets_of}
 use Rattle.uset_reader.specs.Items.{number_of, item_seen, IsTreeOf, IsOperand, awaits_seen, operated, own_steps}
 
@@ -30,10 +31,11 @@ opening_seen o = record { negated = o.negated; leading = o.leading }
 abbrev pub Follows : Gathering → (Steps → Steps) → Gathering → Type 0
 Follows old steps new = (rest : Steps) (m : Member) → gathers (steps rest) m (gathering_in old m) ≡ gathers rest m (gathering_in new m)
 
--- the same, and it fits each meaning of the names that the other fits
+-- the same, and it fits each meaning of the names that the other fits, and keeps the same sets at their places
 pub record Becomes (old : Gathering) (steps : Steps → Steps) (new : Gathering) : Type 0 where
   pub follows : Follows old steps new
   pub fits : (sets : Sets) → NamesFit sets old → NamesFit sets new
+  pub places : (name : Name) (place : Place) → IsPlaceOf old name place → IsPlaceOf new name place
 
 -- the same for the meaning that the language gives them
 pub record BecomesWith (l : Language) (old : Gathering) (steps : Steps → Steps) (new : Gathering) : Type 0 where
@@ -42,11 +44,11 @@ pub record BecomesWith (l : Language) (old : Gathering) (steps : Steps → Steps
 
 -- the set is what an item's own steps make of another, or an operation with an operand
 abbrev pub GathersItem : Operation → CodeItem → Gathering → Gathering → Type 0
-GathersItem operation item old new = (l : Language) (tree : Tree) → NamesFit (sets_of l) old → IsTreeOf l item tree →
+GathersItem operation item old new = (l : Language) (tree : Tree) → NamesFit (sets_of l) old → IsTreeOf l old item tree →
     BecomesWith l old (own_steps operation (item_seen tree item)) new
 
 abbrev pub GathersSet : Operation → Operand → Gathering → Gathering → Type 0
-GathersSet operation operand old new = (l : Language) (tree : Tree) → NamesFit (sets_of l) old → IsOperand l operand tree →
+GathersSet operation operand old new = (l : Language) (tree : Tree) → NamesFit (sets_of l) old → IsOperand l old operand tree →
     BecomesWith l old (operated operation tree) new
 
 -- What the code keeps of an open bracket: what it begins with and where, what is awaited behind its items, and what
@@ -77,9 +79,9 @@ abbrev pub begun : Text → CodeOpening → OpenBracket
 begun before opening = record { before = before; header = opening_seen opening; items = [] }
 
 -- an item of the grammar that the item of the code is
-pub record IsItem (l : Language) (item : CodeItem) (i : Item) : Type 0 where
+pub record IsItem (l : Language) (g : Gathering) (item : CodeItem) (i : Item) : Type 0 where
   pub tree : Tree
-  pub same : IsTreeOf l item tree
+  pub same : IsTreeOf l g item tree
   pub is : i ≡ item_seen tree item
 
 -- the item fits, and was taken
@@ -99,7 +101,7 @@ Became l old Unfit new o i = Refused o i None
 
 -- what became of the item, for every bracket that the code's stands for
 abbrev pub Takes : CodeBracket → CodeItem → Taken → CodeBracket → Type 0
-Takes old item taken new = (l : Language) (o : OpenBracket) (i : Item) → Stands l old o → IsItem l item i → Became l old taken new o i
+Takes old item taken new = (l : Language) (o : OpenBracket) (i : Item) → Stands l old o → IsItem l old.gathered item i → Became l old taken new o i
 
 -- a bracket without items that begins so
 abbrev pub IsBegun : CodeOpening → ℕ → CodeBracket → Type 0

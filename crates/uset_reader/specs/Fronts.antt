@@ -11,6 +11,7 @@ use Rattle.uset_reader.specs.declared.front.Front.{Front as CodeFront}
 use Rattle.uset_reader.specs.declared.front.Front.TheVariants.{Nothing, Closing, Opening, Single, Name, Unit as BeginsUnit, Caret}
 use Rattle.uset_reader.specs.declared.front.First.{First as CodeFirst}
 use Rattle.uset_reader.specs.declared.front.First.TheVariants.{TooShort, Stray, Bare, Variable, Bracket, Property}
+use Rattle.uset_steps.specs.declared.gathering.Gathering.{Gathering}
 use Rattle.uset_reader.specs.Items.{item_seen, IsTreeOf, IsProper}
 use Rattle.uset_reader.specs.Brackets.{opening_seen}
 
@@ -39,7 +40,7 @@ abbrev pub IsBehindFront : CodeFront → List ℕ → Type 0
 IsBehindFront Nothing text = Unit {0}
 IsBehindFront (Closing rest) text = length rest.now < length text
 IsBehindFront (Opening o inner) text = length inner.now < length text
-IsBehindFront (Single item rest) text = IsProper item × ((l : Language) → IsTreeOf l item no_tree) × length rest.now < length text
+IsBehindFront (Single item rest) text = IsProper item × ((l : Language) (g : Gathering) → IsTreeOf l g item no_tree) × length rest.now < length text
 IsBehindFront (Name name rest) text = length rest.now < length text
 IsBehindFront BeginsUnit text = Unit {0}
 IsBehindFront Caret text = Unit {0}

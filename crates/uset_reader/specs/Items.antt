@@ -14,10 +14,12 @@ use Rattle.uset_steps.specs.declared.named_set.Named.{Named as NamedOperand}
 use Rattle.uset_steps.specs.declared.named_set.NamedSet.{NamedSet}
 use Rattle.uset_steps.specs.declared.step.Operation.{Operation}
 use Rattle.uset_steps.specs.declared.step.Operation.TheVariants.{Join, Remove, Retain}
-use Rattle.uset_steps.specs.Names.{named_in, IsSetOf}
+use Rattle.uset_steps.specs.declared.gathering.Gathering.{Gathering}
+use Rattle.uset_steps.specs.Names.{Name, named_in, StandsFor, IsSetOf}
+use Rattle.uset_steps.specs.Gathering.{IsPlaceOf}
 use Rattle.uset_reader.specs.declared.code_point.CodePoint.{CodePoint}
 use Rattle.uset_reader.specs.declared.item.Operand.{Operand}
-use Rattle.uset_reader.specs.declared.item.Operand.TheVariants.{Inner, Named}
+use Rattle.uset_reader.specs.declared.item.Operand.TheVariants.{Inner, Named, Again}
 use Rattle.uset_reader.specs.declared.item.Item.{Item as CodeItem}
 use Rattle.uset_reader.specs.declared.item.Item.TheVariants.{Minus, Ampersand, Dollar, Single, Several, Text as Spelled, Set}
 use Rattle.uset_reader.specs.declared.arrange.Awaits.{Awaits as CodeAwaits}
@@ -47,20 +49,22 @@ IsNamed set tree = (m : Member) → has tree m ≡ named_in set m
 abbrev pub IsNamedOf : Language → NamedOperand → Tree → Type 0
 IsNamedOf l named tree = IsNamed named.set tree × IsSetOf (sets_of l) named
 
--- the tree has the members of the operand, which a name stands for where it has one
-abbrev pub IsOperand : Language → Operand → Tree → Type 0
-IsOperand l (Inner set) tree = (m : Member) → has tree m ≡ gathered_in set m
-IsOperand l (Named named) tree = IsNamedOf l named.value tree
+-- The tree has the members of the operand, which a name stands for where it has one. Where the operand tells a place, it is that of
+-- the name in what was gathered.
+abbrev pub IsOperand : Language → Gathering → Operand → Tree → Type 0
+IsOperand l g (Inner set) tree = (m : Member) → has tree m ≡ gathered_in set m
+IsOperand l g (Named named) tree = IsNamedOf l named.value tree
+IsOperand l g (Again place) tree = (name : Name) × IsPlaceOf g name place × StandsFor (sets_of l) name (has tree)
 
 -- where the item is a set, the tree has its members
-abbrev pub IsTreeOf : Language → CodeItem → Tree → Type 0
-IsTreeOf l (Set operand) tree = IsOperand l operand tree
-IsTreeOf l Minus tree = Unit {0}
-IsTreeOf l Ampersand tree = Unit {0}
-IsTreeOf l Dollar tree = Unit {0}
-IsTreeOf l (Single c) tree = Unit {0}
-IsTreeOf l (Several codes) tree = Unit {0}
-IsTreeOf l (Spelled t) tree = Unit {0}
+abbrev pub IsTreeOf : Language → Gathering → CodeItem → Tree → Type 0
+IsTreeOf l g (Set operand) tree = IsOperand l g operand tree
+IsTreeOf l g Minus tree = Unit {0}
+IsTreeOf l g Ampersand tree = Unit {0}
+IsTreeOf l g Dollar tree = Unit {0}
+IsTreeOf l g (Single c) tree = Unit {0}
+IsTreeOf l g (Several codes) tree = Unit {0}
+IsTreeOf l g (Spelled t) tree = Unit {0}
 
 -- a string isn't one character, and codes are code points
 abbrev pub IsProper : CodeItem → Type 0

@@ -81,7 +81,7 @@ IsUnfit cursor sort text rest error =
 
 abbrev pub TakesAs : List ℕ → CodeBracket → CodeItem → CodeSort → List ℕ → List ℕ → CodeBracket → Result Progress ParseError → Type 0
 TakesAs source b item sort text rest new result =
-    (l : Language) (units : UnitReader l) (s : Sort) (i : Item) (outer : List CodeBracket) → SortIs sort s → IsItem l item i →
+    (l : Language) (units : UnitReader l) (s : Sort) (i : Item) (outer : List CodeBracket) → SortIs sort s → IsItem l b.gathered item i →
     Before source text → IsBehind (chars text) (chars rest) →
     ForAll l outer b (λ o os. TurnedTo l (judged l units (chars source) o os (chars text) s i (chars rest) (fit (o.items ++ i ∷ []))) outer new result)
 

@@ -17,7 +17,16 @@ use Rattle.uset_read.specs.UnitRead.{StopsAt}
 use Rattle.uset_reader.specs.declared.item.Item.{Item as CodeItem}
 use Rattle.uset_reader.specs.declared.unit.UnitKind.{UnitKind}
 use Rattle.uset_reader.specs.declared.unit.UnitKind.TheVariants.{String as AString, Escape as AnEscape, Property as AProperty}
-use Rattle.uset_reader.specs.Items.{IsNamedOf}
+use Rattle.uset_steps.specs.declared.gathering.Gathering.{Gathering}
+use Rattle.uset_steps.specs.Gathering.{Fits as NamesFit}
+use Rattle.uset_read.specs.declared.property.Form.{Form}
+use Rattle.uset_read.specs.declared.property.Query.{Query as CodeQuery}
+use Rattle.uset_read.specs.Queries.{PropertyIs}
+use Rattle.uset_reader.specs.declared.syntax.Syntax.{Syntax}
+use Rattle.uset_reader.specs.Syntaxes.{language_seen}
+use Rattle.uset_reader.specs.Named.{sets_of}
+use Rattle.uset_reader.specs.declared.item.Operand.{Operand}
+use Rattle.uset_reader.specs.Items.{IsOperand, IsNamedOf}
 use Rattle.uset_reader.specs.Brackets.{IsItem}
 
 -- the property at the front of the bytes has this set, with a name for it
@@ -29,24 +38,45 @@ pub record IsRead (l : Language) (text : List ℕ) (named : Named) (rest : List 
 abbrev pub OperandIs : Language → List ℕ → Named → List ℕ → Type 0
 OperandIs l text named rest = PropertyBegins (chars text) → IsRead l text named rest
 
+-- The property there has this set in a bracket, which may keep it at a place already.
+pub record IsReadOperand (l : Language) (g : Gathering) (text : List ℕ) (operand : Operand) (rest : List ℕ) : Type 0 where
+  pub query : Query
+  pub outcome : PropertyOutcome l.white_space (resolves l) (lacks l) (chars text) (got query (chars rest))
+  pub members : IsOperand l g operand (property_tree l query)
+
+abbrev pub OperandIn : Language → Gathering → List ℕ → Operand → List ℕ → Type 0
+OperandIn l g text operand rest = PropertyBegins (chars text) → IsReadOperand l g text operand rest
+
 -- the property there stops so
 abbrev pub OperandStops : Language → List ℕ → Stop → Type 0
 OperandStops l text stop =
     PropertyBegins (chars text) → StopsAt (PropertyOutcome l.white_space (resolves l) (lacks l) (chars text)) (chars text) stop
 
+-- the same in a bracket, whose names stand for the sets that it keeps
+abbrev pub OperandStopsIn : Language → Gathering → List ℕ → Stop → Type 0
+OperandStopsIn l g text stop = NamesFit (sets_of l) g → OperandStops l text stop
+
+-- every property that asks this in front of its mark stops so
+abbrev pub StopsBehind : Syntax → Form → CodeQuery → List ℕ → Stop → Type 0
+StopsBehind s form query mark stop = (text : List ℕ) → PropertyIs s.white_space.now text form query mark → OperandStops (language_seen s) text stop
+
 -- the unit at the front of the bytes is this item
-pub record IsReadUnit (l : Language) (several : Bool) (text : List ℕ) (item : CodeItem) (rest : List ℕ) : Type 0 where
+pub record IsReadUnit (l : Language) (g : Gathering) (several : Bool) (text : List ℕ) (item : CodeItem) (rest : List ℕ) : Type 0 where
   pub unit : Meaning
   pub outcome : UnitOutcome l.white_space several (resolves l) (lacks l) (chars text) (got unit (chars rest))
-  pub item_is : IsItem l item (stands_for l unit)
+  pub item_is : IsItem l g item (stands_for l unit)
 
-abbrev pub UnitIs : Language → Bool → List ℕ → CodeItem → List ℕ → Type 0
-UnitIs l several text item rest = UnitBegins (chars text) → IsReadUnit l several text item rest
+abbrev pub UnitIs : Language → Gathering → Bool → List ℕ → CodeItem → List ℕ → Type 0
+UnitIs l g several text item rest = UnitBegins (chars text) → IsReadUnit l g several text item rest
 
 abbrev pub UnitStops : Language → Bool → List ℕ → Stop → Type 0
 UnitStops l several text stop =
     UnitBegins (chars text) →
     StopsAt (UnitOutcome l.white_space several (resolves l) (lacks l) (chars text)) (chars text) stop
+
+-- the same in a bracket, whose names stand for the sets that it keeps
+abbrev pub UnitStopsIn : Language → Gathering → Bool → List ℕ → Stop → Type 0
+UnitStopsIn l g several text stop = NamesFit (sets_of l) g → UnitStops l several text stop
 
 -- the first character passes the test
 abbrev pub begins_with : (ℕ → Bool) → Text → Bool

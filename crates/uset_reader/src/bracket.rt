@@ -37,7 +37,7 @@ pub(crate) struct Opening {
 /// A bracket whose closing `]` is still to come.
 #[derive(Drop)]
 pub(crate) struct OpenBracket<'a> {
-    gathered: Gathering<'a>,
+    pub(crate) gathered: Gathering<'a>,
     opening: Opening,
     pub(crate) awaits: Awaits,
     /// The number of bytes of the source before the bracket.
@@ -174,6 +174,7 @@ impl<'a> OpenBracket<'a> {
                 let named = Box::into_inner(named);
                 self.gathered.gather_named(alloc, operation, named)
             }
+            Operand::Again(place) => self.gathered.gather_again(operation, place),
         }
     }
 

@@ -3,7 +3,7 @@ ghost use Rattle.std.specs.Prelude.{◌≢◌, []};
 
 use crate::code_point::CodePoint;
 use uset_gather::Gathered;
-use uset_steps::Named;
+use uset_steps::{Named, Place};
 
 /// The code points of an escape of several numbers: the first, and those behind it.
 #[derive(Drop)]
@@ -20,6 +20,8 @@ pub(crate) enum Operand<'a> {
     Inner(Gathered),
     /// A property, or a variable that is bound to a set, with its name.
     Named(Box<Named<'a>>),
+    /// A property that was named before in the bracket, which keeps it at this place.
+    Again(Place),
 }
 
 /// An item of a bracket.

@@ -1,19 +1,22 @@
 //! Properties that are read and resolved (UTS 18, 1.2; UAX 44, 5.9).
-ghost use Rattle.std.specs.Prelude.{◌≡◌, ◌≤◌, ◌<◌, length, IfOk, IfErr};
+ghost use Rattle.std.specs.Prelude.{◌≡◌, ◌≤◌, ◌<◌, ℕ, List, length, IfOk, IfErr};
 ghost use Rattle.prop_data.specs.Database.{tables_of};
-ghost use Rattle.uset_read.specs.Queries.{query_seen};
+ghost use Rattle.uset_read.specs.Queries.{query_seen, PropertyIs};
 ghost use Rattle.uset_read.specs.Stops.{left_at};
 ghost use Rattle.uset_reader.specs.Resolution.{ResolvesTo, IsSetOfProperty};
-ghost use Rattle.uset_reader.specs.Units.{OperandIs, OperandStops};
+ghost use Rattle.uset_steps.specs.Gathering.{Fits};
+ghost use Rattle.uset_reader.specs.Named.{sets_of};
+ghost use Rattle.uset_reader.specs.Units.{OperandIs, OperandIn, OperandStops, OperandStopsIn, StopsBehind};
 ghost use Rattle.uset_reader.specs.Syntaxes.{language_seen};
 
+use crate::item::Operand;
 use crate::syntax::Syntax;
 use cp_invlist::NoMemory;
 use prop_data::PropertyDatabase;
 use std::alloc::Global;
-use uset_read::{Kind, Query, Stop, close_property, read_property};
+use uset_read::{Form, Kind, Query, Stop, close_property, read_property};
 use uset_resolve::{Resolution, resolve};
-use uset_steps::{Name, Named, NamedSet};
+use uset_steps::{Gathering, Name, Named, NamedSet};
 
 /// What a property asks for.
 fn resolve_query<'a>(
@@ -41,8 +44,32 @@ fn set_of<'v>(resolution: Resolution<'v>, negated: bool) -> Result<NamedSet<'v>,
     }
 }
 
-/// Reads the property at the front of the text, which begins with `[:` or a backslash. The key is resolved before what
-/// closes the property is looked at.
+/// The property that asks this, with its set, and what stands behind what closes it, in front of which the mark is. The key is
+/// resolved before what closes the property is looked at.
+fn resolve_named<'v, 'a>(
+    alloc: Global,
+    syntax: &Syntax<'v>,
+    form: Form,
+    query: Query,
+    mark: &'a str,
+) -> Result<(Named<'v>, &'a str), Stop<'a>>
+    ensures read { IfOk result (λ p. (text : List ℕ) → PropertyIs syntax.now.white_space.now text form query mark.now → OperandIs (language_seen syntax.now) text p.0 p.1.now) }
+    ensures stopped { IfErr result (StopsBehind syntax.now form query mark.now) }
+    ensures place { IfErr result (λ stop. left_at stop ≤ length mark.now) }
+    ensures shorter { IfOk result (λ p. length p.1.now < length mark.now) }
+{
+    let resolution = resolve_query(alloc, syntax.database, &query)?;
+    match set_of(resolution, query.negated) {
+        Ok(set) => {
+            let rest = close_property(form, mark)?;
+            let name = Name::Property(query);
+            Ok((Named { name, set }, rest))
+        }
+        Err(kind) => Err(Stop::Fault(kind, mark)),
+    }
+}
+
+/// Reads the property at the front of the text, which begins with `[:` or a backslash.
 pub(crate) fn read_named<'v, 'a>(
     alloc: Global,
     syntax: &Syntax<'v>,
@@ -54,13 +81,33 @@ pub(crate) fn read_named<'v, 'a>(
     ensures shorter { IfOk result (λ p. length p.1.now < length text.now) }
 {
     let (form, query, mark) = read_property(alloc, syntax.white_space, text)?;
-    let resolution = resolve_query(alloc, syntax.database, &query)?;
-    match set_of(resolution, query.negated) {
-        Ok(set) => {
-            let rest = close_property(form, mark)?;
-            let name = Name::Property(query);
-            Ok((Named { name, set }, rest))
-        }
-        Err(kind) => Err(Stop::Fault(kind, mark)),
+    resolve_named(alloc, syntax, form, query, mark)
+}
+
+/// The set in a place of its own.
+fn boxed<'v>(alloc: Global, named: Named<'v>) -> Result<Box<Named<'v>>, NoMemory>
+    ensures { IfOk result (λ b. b.value ≡ named.entry) }
+{
+    Ok(Box::new(alloc, named)?)
+}
+
+/// The same in a bracket. A property that the bracket keeps is not resolved again.
+pub(crate) fn read_operand<'v, 'a>(
+    alloc: Global,
+    syntax: &Syntax<'v>,
+    gathered: &Gathering<'v>,
+    text: &'a str,
+) -> Result<(Operand<'v>, &'a str), Stop<'a>>
+    ensures read { IfOk result (λ p. Fits (sets_of (language_seen syntax.now)) gathered.now → OperandIn (language_seen syntax.now) gathered.now text.now p.0 p.1.now) }
+    ensures stopped { IfErr result (OperandStopsIn (language_seen syntax.now) gathered.now text.now) }
+    ensures place { IfErr result (λ stop. left_at stop ≤ length text.now) }
+    ensures shorter { IfOk result (λ p. length p.1.now < length text.now) }
+{
+    let (form, query, mark) = read_property(alloc, syntax.white_space, text)?;
+    if let Some(place) = gathered.place_of(alloc, &query)? {
+        let rest = close_property(form, mark)?;
+        return Ok((Operand::Again(place), rest));
     }
+    let (named, rest) = resolve_named(alloc, syntax, form, query, mark)?;
+    Ok((Operand::Named(boxed(alloc, named)?), rest))
 }

@@ -8,6 +8,7 @@ ghost use Rattle.uset_grammar.specs.Item.{Item as GrammarItem};
 ghost use Rattle.uset_grammar.specs.Language.{Language, item_of};
 ghost use Rattle.uset_grammar.specs.Grammar.{of_unit};
 ghost use Rattle.uset_grammar.specs.Reached.{is_last_property};
+ghost use Rattle.uset_steps.specs.declared.gathering.Gathering.{Gathering};
 ghost use Rattle.uset_reader.specs.Brackets.{IsItem};
 ghost use Rattle.uset_variables.specs.Values.{is_kept, value_seen};
 ghost use Rattle.uset_reader.specs.Turns.{TurnsAt, IsShorter, IsUnfit, TakesAs, TakesVariable, TakesUnit, Opens, ClosesAs};
@@ -95,7 +96,7 @@ fn variable_item<'v>(
     value: &'v VariableValue,
 ) -> Result<Item<'v>, NoMemory>
     requires { is_kept value.now ≡ true }
-    ensures item { IfOk result (λ item. (l : Language) → l.variable (chars name.now) ≡ Some (value_seen value.now) → IsItem l item (item_of (value_seen value.now))) }
+    ensures item { IfOk result (λ item. (l : Language) (g : Gathering) → l.variable (chars name.now) ≡ Some (value_seen value.now) → IsItem l g item (item_of (value_seen value.now))) }
     ensures proper { IfOk result IsProper }
 {
     match value {
@@ -134,7 +135,7 @@ fn take_variable<'v, 'a>(
 
 /// Whether the unit is a property with nothing behind it.
 fn is_last_property(item: &Item<'_>, rest: &str) -> bool
-    ensures { (l : Language) (i : GrammarItem) → IsItem l item.now i → result ≡ is_last_property of_unit i (chars rest.now) }
+    ensures { (l : Language) (g : Gathering) (i : GrammarItem) → IsItem l g item.now i → result ≡ is_last_property of_unit i (chars rest.now) }
 {
     match item {
         Item::Set(_) => split_first(rest).is_none(),
@@ -156,7 +157,8 @@ fn take_unit<'v, 'a>(
 {
     laws::arranging();
     laws::turns();
-    let (item, rest) = match read_unit(alloc, syntax, bracket.fits_several(), text) {
+    let several = bracket.fits_several();
+    let (item, rest) = match read_unit(alloc, syntax, several, &bracket.gathered, text) {
         Ok(read) => read,
         Err(stop) => return Err(stopped(cursor, stop)),
     };

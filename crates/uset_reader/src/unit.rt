@@ -7,20 +7,22 @@ ghost use Rattle.uset_grammar.specs.Language.{Language};
 ghost use Rattle.uset_grammar.specs.Unit.{begins_property};
 ghost use Rattle.uset_read.specs.Stops.{left_at};
 ghost use Rattle.uset_reader.specs.Items.{IsProper};
+ghost use Rattle.uset_steps.specs.declared.gathering.Gathering.{Gathering};
+ghost use Rattle.uset_steps.specs.Gathering.{Fits};
+ghost use Rattle.uset_reader.specs.Named.{sets_of};
 ghost use Rattle.uset_reader.specs.Brackets.{IsItem};
 ghost use Rattle.uset_reader.specs.Syntaxes.{language_seen};
-ghost use Rattle.uset_reader.specs.Units.{begins_with, AreCodePoints, chars_of, IsString, IsEscape, IsProperty, IsOfKind, UnitIs, UnitStops};
+ghost use Rattle.uset_reader.specs.Units.{begins_with, AreCodePoints, chars_of, IsString, IsEscape, IsProperty, IsOfKind, UnitIs, UnitStops, UnitStopsIn};
 
 use crate::code_point::CodePoint;
-use crate::item::{Codes, Item, Operand};
-use crate::property::read_named;
+use crate::item::{Codes, Item};
+use crate::property::read_operand;
 use crate::syntax::Syntax;
-use cp_invlist::NoMemory;
 use cp_strset::sole_char;
 use std::alloc::Global;
 use uset_grammar::laws::kinds_of_units;
 use uset_read::{Around, Spelled, Stop, read_escape, read_string, split_first};
-use uset_steps::Named;
+use uset_steps::Gathering;
 
 /// What a unit is.
 #[derive(Clone, Copy)]
@@ -33,7 +35,7 @@ enum UnitKind {
 /// The item that an escape stands for.
 fn escape_item<'v>(spelled: Spelled) -> Item<'v>
     requires { AreCodePoints spelled }
-    ensures item { (l : Language) → IsItem l result (chars_of spelled) }
+    ensures item { (l : Language) (g : Gathering) → IsItem l g result (chars_of spelled) }
     ensures proper { IsProper result }
 {
     match spelled {
@@ -49,7 +51,7 @@ fn escape_item<'v>(spelled: Spelled) -> Item<'v>
 
 /// The item of a text: its one character, where it has exactly one, else a string.
 pub(crate) fn item_of_text<'v>(text: String) -> Item<'v>
-    ensures item { (l : Language) → IsItem l result (text_item (chars (string_bytes text))) }
+    ensures item { (l : Language) (g : Gathering) → IsItem l g result (text_item (chars (string_bytes text))) }
     ensures proper { IsProper result }
 {
     match sole_char(&text) {
@@ -76,7 +78,7 @@ fn read_text<'v, 'a>(
     text: &'a str,
 ) -> Result<(Item<'v>, &'a str), Stop<'a>>
     requires { IsString (chars text.now) }
-    ensures read { IfOk result (λ p. UnitIs (language_seen syntax.now) several text.now p.0 p.1.now) }
+    ensures read { IfOk result (λ p. (g : Gathering) → UnitIs (language_seen syntax.now) g several text.now p.0 p.1.now) }
     ensures proper { IfOk result (λ p. IsProper p.0) }
     ensures stopped { IfErr result (UnitStops (language_seen syntax.now) several text.now) }
     ensures place { IfErr result (λ stop. left_at stop ≤ length text.now) }
@@ -95,7 +97,7 @@ fn read_escaped<'v, 'a>(
     text: &'a str,
 ) -> Result<(Item<'v>, &'a str), Stop<'a>>
     requires { IsEscape (chars text.now) }
-    ensures read { IfOk result (λ p. UnitIs (language_seen syntax.now) several text.now p.0 p.1.now) }
+    ensures read { IfOk result (λ p. (g : Gathering) → UnitIs (language_seen syntax.now) g several text.now p.0 p.1.now) }
     ensures proper { IfOk result (λ p. IsProper p.0) }
     ensures stopped { IfErr result (UnitStops (language_seen syntax.now) several text.now) }
     ensures place { IfErr result (λ stop. left_at stop ≤ length text.now) }
@@ -107,30 +109,24 @@ fn read_escaped<'v, 'a>(
     Ok((escape_item(spelled), rest))
 }
 
-/// The set in a place of its own.
-fn boxed<'v>(alloc: Global, named: Named<'v>) -> Result<Box<Named<'v>>, NoMemory>
-    ensures { IfOk result (λ b. b.value ≡ named.entry) }
-{
-    Ok(Box::new(alloc, named)?)
-}
-
 /// Reads the property at the front of the text.
 fn read_set<'v, 'a>(
     alloc: Global,
     syntax: &Syntax<'v>,
     several: bool,
+    gathered: &Gathering<'v>,
     text: &'a str,
 ) -> Result<(Item<'v>, &'a str), Stop<'a>>
     requires { IsProperty (chars text.now) }
-    ensures read { IfOk result (λ p. UnitIs (language_seen syntax.now) several text.now p.0 p.1.now) }
+    ensures read { IfOk result (λ p. Fits (sets_of (language_seen syntax.now)) gathered.now → UnitIs (language_seen syntax.now) gathered.now several text.now p.0 p.1.now) }
     ensures proper { IfOk result (λ p. IsProper p.0) }
-    ensures stopped { IfErr result (UnitStops (language_seen syntax.now) several text.now) }
+    ensures stopped { IfErr result (UnitStopsIn (language_seen syntax.now) gathered.now several text.now) }
     ensures place { IfErr result (λ stop. left_at stop ≤ length text.now) }
     ensures shorter { IfOk result (λ p. length p.1.now < length text.now) }
 {
     kinds_of_units();
-    let (named, rest) = read_named(alloc, syntax, text)?;
-    Ok((Item::Set(Operand::Named(boxed(alloc, named)?)), rest))
+    let (operand, rest) = read_operand(alloc, syntax, gathered, text)?;
+    Ok((Item::Set(operand), rest))
 }
 
 /// What the unit at the front of the text is, which begins as one.
@@ -145,22 +141,23 @@ fn unit_kind(text: &str) -> UnitKind
 }
 
 /// Reads the escape, the string or the property at the front of the text, which begins as one. `several` says whether
-/// an escape of several numbers fits there.
+/// an escape of several numbers fits there, and `gathered` is what the bracket has gathered.
 pub(crate) fn read_unit<'v, 'a>(
     alloc: Global,
     syntax: &Syntax<'v>,
     several: bool,
+    gathered: &Gathering<'v>,
     text: &'a str,
 ) -> Result<(Item<'v>, &'a str), Stop<'a>>
-    ensures read { IfOk result (λ p. UnitIs (language_seen syntax.now) several text.now p.0 p.1.now) }
+    ensures read { IfOk result (λ p. Fits (sets_of (language_seen syntax.now)) gathered.now → UnitIs (language_seen syntax.now) gathered.now several text.now p.0 p.1.now) }
     ensures proper { IfOk result (λ p. IsProper p.0) }
-    ensures stopped { IfErr result (UnitStops (language_seen syntax.now) several text.now) }
+    ensures stopped { IfErr result (UnitStopsIn (language_seen syntax.now) gathered.now several text.now) }
     ensures place { IfErr result (λ stop. left_at stop ≤ length text.now) }
     ensures shorter { IfOk result (λ p. length p.1.now < length text.now) }
 {
     match unit_kind(text) {
         UnitKind::String => read_text(alloc, syntax, several, text),
         UnitKind::Escape => read_escaped(alloc, syntax, several, text),
-        UnitKind::Property => read_set(alloc, syntax, several, text),
+        UnitKind::Property => read_set(alloc, syntax, several, gathered, text),
     }
 }

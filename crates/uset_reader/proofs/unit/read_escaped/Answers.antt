@@ -13,6 +13,6 @@ escape_item-requires c =
     escape_within c.args.syntax.now c.kinds_of_units.ensures c.args.several c.args.text.now c.requires c.in_ok-spelled.spelled c.in_ok-spelled.rest.now c.in_ok-spelled.ensures.read
 
 pub returns-clause-read : goal.returns-clause-read
-returns-clause-read c =
+returns-clause-read c = λ g.
     escape_read c.args.syntax.now c.kinds_of_units.ensures c.args.several c.args.text.now c.requires c.in_ok-spelled.spelled c.in_ok-spelled.rest.now c.escape_item.result
-    c.in_ok-spelled.ensures.read (c.escape_item.ensures.item (language_seen c.args.syntax.now))
+    c.in_ok-spelled.ensures.read g (c.escape_item.ensures.item (language_seen c.args.syntax.now) g)

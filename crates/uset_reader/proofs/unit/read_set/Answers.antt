@@ -1,12 +1,15 @@
-use Rattle.std.proofs.Common.{rules}
+use Rattle.uset_reader.specs.Syntaxes.{language_seen}
+use Rattle.uset_reader.specs.Units.{UnitStopsIn}
 use Rattle.uset_reader.proofs.UnitLemmas.{property_read, property_stops}
+use Rattle.uset_reader.proofs.PropertyLemmas.{answered_err}
 use Rattle.uset_reader.proofs.unit.read_set.Goals as goal
 
-pub returns-in_err-named-clause-stopped : goal.returns-in_err-named-clause-stopped
-returns-in_err-named-clause-stopped c =
-    let h = property_stops c.args.syntax.now c.kinds_of_units.ensures c.args.several c.args.text.now c.requires c.in_err-named.field-0.0 c.in_err-named.ensures.stopped in
-    search rules
+pub returns-in_err-operand-clause-stopped : goal.returns-in_err-operand-clause-stopped
+returns-in_err-operand-clause-stopped c =
+    let s = c.args.syntax.now in
+    answered_err c.from_residual.result c.in_err-operand.field-0.0 (UnitStopsIn (language_seen s) c.args.gathered.now c.args.several c.args.text.now)
+    c.from_residual.ensures (λ fits. property_stops s c.kinds_of_units.ensures c.args.several c.args.text.now c.requires c.in_err-operand.field-0.0 (c.in_err-operand.ensures.stopped fits))
 
 pub returns-clause-read : goal.returns-clause-read
-returns-clause-read c =
-    property_read c.args.syntax.now c.kinds_of_units.ensures c.args.several c.args.text.now c.requires c.in_ok-boxed.field-0 c.in_ok-named.rest.now (rw (← c.in_ok-boxed.ensures) at c.in_ok-named.ensures.read)
+returns-clause-read c = λ fits.
+    property_read c.args.syntax.now c.kinds_of_units.ensures c.args.several c.args.text.now c.requires c.args.gathered.now c.in_ok-operand.operand c.in_ok-operand.rest.now (c.in_ok-operand.ensures.read fits)

@@ -10,6 +10,6 @@ returns-in_err-string-clause-stopped c =
     search rules
 
 pub returns-clause-read : goal.returns-clause-read
-returns-clause-read c =
+returns-clause-read c = λ g.
     string_read c.args.syntax.now c.kinds_of_units.ensures c.args.several c.args.text.now c.requires (string_bytes c.in_ok-string.string) c.in_ok-string.rest.now c.item_of_text.result
-    c.in_ok-string.ensures.read (c.item_of_text.ensures.item (language_seen c.args.syntax.now))
+    c.in_ok-string.ensures.read g (c.item_of_text.ensures.item (language_seen c.args.syntax.now) g)

@@ -2,7 +2,7 @@ use Rattle.std.proofs.Common.{refl, ◌∙◌}
 use Rattle.uset_grammar.specs.Arranging.{next}
 use Rattle.uset_reader.specs.Named.{sets_of}
 use Rattle.uset_reader.specs.Items.{item_seen, awaits_seen, range_steps, own_steps}
-use Rattle.uset_reader.proofs.BracketLemmas.{took, refused, not_arranged, becomes_then}
+use Rattle.uset_reader.proofs.BracketLemmas.{took, refused, not_arranged, becomes_then, tree_still}
 use Rattle.uset_reader.proofs.bracket.OpenBracket.take.Goals as goal
 
 pub returns-in_default : goal.returns-in_default
@@ -18,4 +18,5 @@ returns c = λ l o i s item.
     let is = item_seen item.tree c.args.item in
     rw item.is (took l c.arranging.ensures old _ o is arranged (next (awaits_seen old.awaits) is) refl (c.in-Some.ensures.arranged item.tree) refl
     (c.gather.ensures.same.opening ∙ c.add_front.ensures.same.opening) (c.gather.ensures.same.before ∙ c.add_front.ensures.same.before)
-    (becomes_then l old.gathered c.add_front.new.self.gathered c.gather.new.self.gathered (range_steps arranged.adds) (own_steps arranged.operation is) c.in_ok-add_front.ensures.becomes (c.in_ok-gather.ensures.becomes l item.tree (c.in_ok-add_front.ensures.becomes.fits (sets_of l) s.fits) item.same)) s)
+    (becomes_then l old.gathered c.add_front.new.self.gathered c.gather.new.self.gathered (range_steps arranged.adds) (own_steps arranged.operation is) c.in_ok-add_front.ensures.becomes (c.in_ok-gather.ensures.becomes l item.tree (c.in_ok-add_front.ensures.becomes.fits (sets_of l) s.fits)
+    (tree_still l old.gathered c.add_front.new.self.gathered c.args.item item.tree c.in_ok-add_front.ensures.becomes.places item.same))) s)
