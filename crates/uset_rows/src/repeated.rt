@@ -66,3 +66,21 @@ fn a_set_that_is_named_again_counts_where_it_stands(rt: HostRuntime) -> Result<(
     }
     assert_denotes(&rt, alloc, "[^$v-$v$v]", COMPLEMENT)
 }
+
+/// Patterns over the set that end with a property which they named before and don't close, each with what is wrong.
+const UNCLOSED: [(&str, &str); 3] = [
+    ("[$v\\p{L}\\p{L", "unexpected end of input"),
+    ("[$v[:L:][:L:", "unexpected end of input"),
+    ("[$v[:L:]-[:L:x", "unexpected character 'x'"),
+];
+
+#[test]
+fn a_property_that_is_named_again_is_closed_as_the_first_time(rt: HostRuntime) -> Result<(), Fail> {
+    let alloc = rt.alloc();
+    for (pattern, words) in UNCLOSED {
+        let lines = format!(in alloc; "{LARGE}\npat {pattern}")?;
+        let answer = format!(in alloc; "bound v\nerr {pattern}← error: {words}\n")?;
+        assert_answer(&rt, alloc, &lines, &answer, 1)?;
+    }
+    Ok(())
+}
