@@ -1,7 +1,7 @@
 -- The open brackets of the code as those of the grammar, and what becomes of an item.
-use Rattle.std.specs.Prelude.{◌≡◌, ℕ, Bool, true, false, [], ◌∷◌, ◌++◌, Option, Some, None, if◌then◌else◌}
+use Rattle.std.specs.Prelude.{◌≡◌, ℕ, Bool, true, false, [], ◌∷◌, ◌++◌, Option, Some, None}
 use Rattle.uset_grammar.specs.Text.{Text}
-use Rattle.uset_grammar.specs.Tree.{Tree, Member, has, Steps, gathers, leading_hyphen, negation}
+use Rattle.uset_grammar.specs.Tree.{Tree, Member, has, Steps, gathers, leading_hyphen}
 use Rattle.uset_grammar.specs.Item.{Item, Opening, tree_of}
 use Rattle.uset_grammar.specs.Arranging.{Awaits, element, stuck, on, next, went, run, fit, arrange}
 use Rattle.uset_grammar.specs.Reached.{OpenBracket, with_item}

@@ -1,10 +1,10 @@
 -- What one turn of the reader does, as the grammar's turn does it.
-use Rattle.std.specs.Prelude.{◌≡◌, ◌<◌, ℕ, false, length, List, [], ◌∷◌, ◌++◌, reverse, Option, None, Result, Ok, Err}
+use Rattle.std.specs.Prelude.{◌≡◌, ◌<◌, ℕ, false, length, List, [], ◌∷◌, ◌++◌, reverse, Option, Some, None, Result, Ok, Err}
 use Rattle.std.specs.Str.{chars}
 use Rattle.uset_grammar.specs.Text.{Text, IsBehind}
 use Rattle.uset_grammar.specs.Tree.{Tree, Member, has}
 use Rattle.uset_grammar.specs.Item.{Item}
-use Rattle.uset_grammar.specs.Language.{Language}
+use Rattle.uset_grammar.specs.Language.{Language, item_of}
 use Rattle.uset_grammar.specs.Grammar.{Sort, of_variable_name}
 use Rattle.uset_grammar.specs.Reached.{OpenBracket, is_short}
 use Rattle.uset_grammar.specs.Front.{front, begins_unit}
@@ -12,6 +12,9 @@ use Rattle.uset_grammar.specs.Arranging.{fit, arrange}
 use Rattle.uset_grammar.specs.Place.{offset_of}
 use Rattle.uset_grammar.specs.Turn.{Verdict, accepted, rejected, Turn, goes, stops, UnitReader, at, two, refusal, judged, named_turn, unit_turn, closed, turn}
 use Rattle.uset_gather.specs.Gathered.{gathered_in}
+use Rattle.uset_steps.specs.declared.gathering.Gathering.{Gathering}
+use Rattle.uset_variables.specs.declared.value.VariableValue.{VariableValue}
+use Rattle.uset_variables.specs.Values.{value_seen}
 use Rattle.uset_reader.specs.declared.bracket.OpenBracket.{OpenBracket as CodeBracket}
 use Rattle.uset_fault.specs.declared.error.ParseError.{ParseError}
 use Rattle.uset_reader.specs.declared.turn.Progress.{Progress}
@@ -84,6 +87,10 @@ TakesAs source b item sort text rest new result =
     (l : Language) (units : UnitReader l) (s : Sort) (i : Item) (outer : List CodeBracket) → SortIs sort s → IsItem l b.gathered item i →
     Before source text → IsBehind (chars text) (chars rest) →
     ForAll l outer b (λ o os. TurnedTo l (judged l units (chars source) o os (chars text) s i (chars rest) (fit (o.items ++ i ∷ []))) outer new result)
+
+-- the item is the one that a variable of this name stands for, where it is bound to this value
+abbrev pub IsVariable : List ℕ → VariableValue → CodeItem → Type 0
+IsVariable name value item = (l : Language) (g : Gathering) → l.variable (chars name) ≡ Some (value_seen value) → IsItem l g item (item_of (value_seen value))
 
 abbrev pub TakesVariable : Language → List ℕ → CodeBracket → List ℕ → List ℕ → List ℕ → CodeBracket → Result Progress ParseError → Type 0
 TakesVariable l source b name text rest new result =

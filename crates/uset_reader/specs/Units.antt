@@ -47,6 +47,10 @@ pub record IsReadOperand (l : Language) (g : Gathering) (text : List ℕ) (opera
 abbrev pub OperandIn : Language → Gathering → List ℕ → Operand → List ℕ → Type 0
 OperandIn l g text operand rest = PropertyBegins (chars text) → IsReadOperand l g text operand rest
 
+-- the same, where the bracket's names stand for the sets that it keeps
+abbrev pub OperandInFitting : Language → Gathering → List ℕ → Operand → List ℕ → Type 0
+OperandInFitting l g text operand rest = NamesFit (sets_of l) g → OperandIn l g text operand rest
+
 -- the property there stops so
 abbrev pub OperandStops : Language → List ℕ → Stop → Type 0
 OperandStops l text stop =
@@ -55,6 +59,10 @@ OperandStops l text stop =
 -- the same in a bracket, whose names stand for the sets that it keeps
 abbrev pub OperandStopsIn : Language → Gathering → List ℕ → Stop → Type 0
 OperandStopsIn l g text stop = NamesFit (sets_of l) g → OperandStops l text stop
+
+-- every property that asks this in front of its mark is this one, up to this rest
+abbrev pub NamedBehind : Syntax → Form → CodeQuery → List ℕ → Named → List ℕ → Type 0
+NamedBehind s form query mark named rest = (text : List ℕ) → PropertyIs s.white_space.now text form query mark → OperandIs (language_seen s) text named rest
 
 -- every property that asks this in front of its mark stops so
 abbrev pub StopsBehind : Syntax → Form → CodeQuery → List ℕ → Stop → Type 0
@@ -68,6 +76,10 @@ pub record IsReadUnit (l : Language) (g : Gathering) (several : Bool) (text : Li
 
 abbrev pub UnitIs : Language → Gathering → Bool → List ℕ → CodeItem → List ℕ → Type 0
 UnitIs l g several text item rest = UnitBegins (chars text) → IsReadUnit l g several text item rest
+
+-- the same, where the bracket's names stand for the sets that it keeps
+abbrev pub UnitInFitting : Language → Gathering → Bool → List ℕ → CodeItem → List ℕ → Type 0
+UnitInFitting l g several text item rest = NamesFit (sets_of l) g → UnitIs l g several text item rest
 
 abbrev pub UnitStops : Language → Bool → List ℕ → Stop → Type 0
 UnitStops l several text stop =

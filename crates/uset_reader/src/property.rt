@@ -1,12 +1,10 @@
 //! Properties that are read and resolved (UTS 18, 1.2; UAX 44, 5.9).
-ghost use Rattle.std.specs.Prelude.{◌≡◌, ◌≤◌, ◌<◌, ℕ, List, length, IfOk, IfErr};
+ghost use Rattle.std.specs.Prelude.{◌≡◌, ◌≤◌, ◌<◌, length, IfOk, IfErr};
 ghost use Rattle.prop_data.specs.Database.{tables_of};
-ghost use Rattle.uset_read.specs.Queries.{query_seen, PropertyIs};
+ghost use Rattle.uset_read.specs.Queries.{query_seen};
 ghost use Rattle.uset_read.specs.Stops.{left_at};
 ghost use Rattle.uset_reader.specs.Resolution.{ResolvesTo, IsSetOfProperty};
-ghost use Rattle.uset_steps.specs.Gathering.{Fits};
-ghost use Rattle.uset_reader.specs.Named.{sets_of};
-ghost use Rattle.uset_reader.specs.Units.{OperandIs, OperandIn, OperandStops, OperandStopsIn, StopsBehind};
+ghost use Rattle.uset_reader.specs.Units.{OperandIs, OperandInFitting, OperandStops, OperandStopsIn, NamedBehind, StopsBehind};
 ghost use Rattle.uset_reader.specs.Syntaxes.{language_seen};
 
 use crate::item::Operand;
@@ -53,7 +51,7 @@ fn resolve_named<'v, 'a>(
     query: Query,
     mark: &'a str,
 ) -> Result<(Named<'v>, &'a str), Stop<'a>>
-    ensures read { IfOk result (λ p. (text : List ℕ) → PropertyIs syntax.now.white_space.now text form query mark.now → OperandIs (language_seen syntax.now) text p.0 p.1.now) }
+    ensures read { IfOk result (λ p. NamedBehind syntax.now form query mark.now p.0 p.1.now) }
     ensures stopped { IfErr result (StopsBehind syntax.now form query mark.now) }
     ensures place { IfErr result (λ stop. left_at stop ≤ length mark.now) }
     ensures shorter { IfOk result (λ p. length p.1.now < length mark.now) }
@@ -98,7 +96,7 @@ pub(crate) fn read_operand<'v, 'a>(
     gathered: &Gathering<'v>,
     text: &'a str,
 ) -> Result<(Operand<'v>, &'a str), Stop<'a>>
-    ensures read { IfOk result (λ p. Fits (sets_of (language_seen syntax.now)) gathered.now → OperandIn (language_seen syntax.now) gathered.now text.now p.0 p.1.now) }
+    ensures read { IfOk result (λ p. OperandInFitting (language_seen syntax.now) gathered.now text.now p.0 p.1.now) }
     ensures stopped { IfErr result (OperandStopsIn (language_seen syntax.now) gathered.now text.now) }
     ensures place { IfErr result (λ stop. left_at stop ≤ length text.now) }
     ensures shorter { IfOk result (λ p. length p.1.now < length text.now) }

@@ -1,17 +1,17 @@
 //! One turn of the reader: what stands in front in the innermost bracket.
-ghost use Rattle.std.specs.Prelude.{◌≡◌, ◌≤◌, ◌<◌, length, IfOk, Some, true};
+ghost use Rattle.std.specs.Prelude.{◌≡◌, ◌≤◌, ◌<◌, length, IfOk, true};
 ghost use Rattle.std.specs.Str.{chars};
 ghost use Rattle.uset_read.specs.Cursors.{source_of, left_of};
 ghost use Rattle.uset_reader.specs.Items.{IsProper};
 ghost use Rattle.uset_reader.specs.Syntaxes.{language_seen};
 ghost use Rattle.uset_grammar.specs.Item.{Item as GrammarItem};
-ghost use Rattle.uset_grammar.specs.Language.{Language, item_of};
+ghost use Rattle.uset_grammar.specs.Language.{Language};
 ghost use Rattle.uset_grammar.specs.Grammar.{of_unit};
 ghost use Rattle.uset_grammar.specs.Reached.{is_last_property};
 ghost use Rattle.uset_steps.specs.declared.gathering.Gathering.{Gathering};
 ghost use Rattle.uset_reader.specs.Brackets.{IsItem};
 ghost use Rattle.uset_variables.specs.Values.{is_kept, value_seen};
-ghost use Rattle.uset_reader.specs.Turns.{TurnsAt, IsShorter, IsUnfit, TakesAs, TakesVariable, TakesUnit, Opens, ClosesAs};
+ghost use Rattle.uset_reader.specs.Turns.{IsVariable, TurnsAt, IsShorter, IsUnfit, TakesAs, TakesVariable, TakesUnit, Opens, ClosesAs};
 
 use crate::bracket::{OpenBracket, Opening, Taken};
 use crate::code_point::CodePoint;
@@ -96,7 +96,7 @@ fn variable_item<'v>(
     value: &'v VariableValue,
 ) -> Result<Item<'v>, NoMemory>
     requires { is_kept value.now ≡ true }
-    ensures item { IfOk result (λ item. (l : Language) (g : Gathering) → l.variable (chars name.now) ≡ Some (value_seen value.now) → IsItem l g item (item_of (value_seen value.now))) }
+    ensures item { IfOk result (IsVariable name.now value.now) }
     ensures proper { IfOk result IsProper }
 {
     match value {

@@ -8,11 +8,9 @@ ghost use Rattle.uset_grammar.specs.Unit.{begins_property};
 ghost use Rattle.uset_read.specs.Stops.{left_at};
 ghost use Rattle.uset_reader.specs.Items.{IsProper};
 ghost use Rattle.uset_steps.specs.declared.gathering.Gathering.{Gathering};
-ghost use Rattle.uset_steps.specs.Gathering.{Fits};
-ghost use Rattle.uset_reader.specs.Named.{sets_of};
 ghost use Rattle.uset_reader.specs.Brackets.{IsItem};
 ghost use Rattle.uset_reader.specs.Syntaxes.{language_seen};
-ghost use Rattle.uset_reader.specs.Units.{begins_with, AreCodePoints, chars_of, IsString, IsEscape, IsProperty, IsOfKind, UnitIs, UnitStops, UnitStopsIn};
+ghost use Rattle.uset_reader.specs.Units.{begins_with, AreCodePoints, chars_of, IsString, IsEscape, IsProperty, IsOfKind, UnitIs, UnitInFitting, UnitStops, UnitStopsIn};
 
 use crate::code_point::CodePoint;
 use crate::item::{Codes, Item};
@@ -118,7 +116,7 @@ fn read_set<'v, 'a>(
     text: &'a str,
 ) -> Result<(Item<'v>, &'a str), Stop<'a>>
     requires { IsProperty (chars text.now) }
-    ensures read { IfOk result (λ p. Fits (sets_of (language_seen syntax.now)) gathered.now → UnitIs (language_seen syntax.now) gathered.now several text.now p.0 p.1.now) }
+    ensures read { IfOk result (λ p. UnitInFitting (language_seen syntax.now) gathered.now several text.now p.0 p.1.now) }
     ensures proper { IfOk result (λ p. IsProper p.0) }
     ensures stopped { IfErr result (UnitStopsIn (language_seen syntax.now) gathered.now several text.now) }
     ensures place { IfErr result (λ stop. left_at stop ≤ length text.now) }
@@ -149,7 +147,7 @@ pub(crate) fn read_unit<'v, 'a>(
     gathered: &Gathering<'v>,
     text: &'a str,
 ) -> Result<(Item<'v>, &'a str), Stop<'a>>
-    ensures read { IfOk result (λ p. Fits (sets_of (language_seen syntax.now)) gathered.now → UnitIs (language_seen syntax.now) gathered.now several text.now p.0 p.1.now) }
+    ensures read { IfOk result (λ p. UnitInFitting (language_seen syntax.now) gathered.now several text.now p.0 p.1.now) }
     ensures proper { IfOk result (λ p. IsProper p.0) }
     ensures stopped { IfErr result (UnitStopsIn (language_seen syntax.now) gathered.now several text.now) }
     ensures place { IfErr result (λ stop. left_at stop ≤ length text.now) }

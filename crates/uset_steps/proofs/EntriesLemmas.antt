@@ -1,5 +1,5 @@
 -- Entries that fit their names, and steps over more entries.
-use Rattle.std.proofs.Common.{◌≡◌, ℕ, zero, suc, ◌<◌, ◌≤◌, ◌+◌, Bool, true, false, List, [], ◌∷◌, ◌++◌, length, Option, Some, None, is_some, refl, sym, ap, ◌∙◌, subst, arith}
+use Rattle.std.proofs.Common.{◌≡◌, ℕ, zero, suc, ◌<◌, ◌≤◌, Bool, true, false, List, [], ◌∷◌, ◌++◌, length, Option, Some, None, is_some, refl, sym, ap, ◌∙◌, subst, arith}
 use Rattle.std.specs.Prelude.{slice_get}
 use Rattle.std.proofs.lemmas.List.{append-nil, length-append}
 use Rattle.std.proofs.lemmas.Option.{slice_get_within}
@@ -11,7 +11,7 @@ use Rattle.uset_steps.specs.declared.step.Step.{Step}
 use Rattle.uset_steps.specs.declared.step.Step.TheVariants.{Range, Text, Set, Named}
 use Rattle.uset_steps.specs.Names.{Name, Sets, name_seen, named_in, StandsFor, IsSetOf}
 use Rattle.uset_steps.specs.Steps.{operated, entered, step_done, steps_done, EntriesFit, IsWithin, AreWithin, names_none, IsEntryOf, IsEntered}
-use Rattle.uset_steps.specs.Later.{later_done, LaterFits, Gathers}
+use Rattle.uset_steps.specs.Later.{LaterFits, Gathers}
 use Rattle.uset_steps.proofs.StepsLemmas.{done_more}
 
 get_grown : (es more : List Entry) (i : ℕ) → i < length es → slice_get (es ++ more) i ≡ slice_get es i

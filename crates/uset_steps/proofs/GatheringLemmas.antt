@@ -1,12 +1,11 @@
 -- Sets in the making that put a step off.
-use Rattle.std.proofs.Common.{◌≡◌, Bool, Option, Some, None, Result, Ok, Err, OnOk, Box, refl, sym, ap, ◌∙◌, subst}
+use Rattle.std.proofs.Common.{◌≡◌, Bool, Option, Some, None, Result, Ok, Err, OnOk, Box, sym, ap, ◌∙◌, subst}
 use Rattle.std.specs.Global.{Global}
 use Rattle.uset_grammar.specs.Tree.{Member}
 use Rattle.uset_gather.specs.Gathered.{gathered_in}
 use Rattle.uset_steps.specs.declared.gathering.Gathering.{Gathering}
 use Rattle.uset_steps.specs.declared.later.Later.{Later}
 use Rattle.uset_steps.specs.declared.step.Operation.{Operation}
-use Rattle.uset_steps.specs.declared.step.Step.{Step}
 use Rattle.uset_steps.specs.Names.{Sets}
 use Rattle.uset_steps.specs.Steps.{operated, IsEntryOf}
 use Rattle.uset_steps.specs.Later.{later_done, LaterFits, Gathers}

@@ -1,5 +1,5 @@
 -- Sets in the making whose steps are put off.
-use Rattle.std.specs.Prelude.{◌≡◌, Bool, List, [], Option, Some, None, Box, if◌then◌else◌}
+use Rattle.std.specs.Prelude.{◌≡◌, Bool, true, List, [], Option, Some, None, is_some, Box, if◌then◌else◌}
 use Rattle.std.specs.Global.{Global}
 use Rattle.uset_grammar.specs.Tree.{Member, negation}
 use Rattle.uset_gather.specs.Gathered.{gathered_in}
@@ -7,8 +7,9 @@ use Rattle.uset_steps.specs.declared.gathering.Gathering.{Gathering}
 use Rattle.uset_steps.specs.declared.later.Later.{Later}
 use Rattle.uset_steps.specs.declared.gathering.Place.{Place}
 use Rattle.uset_steps.specs.declared.named_set.Named.{Named}
-use Rattle.uset_steps.specs.Names.{Name, Sets}
-use Rattle.uset_steps.specs.Steps.{IsEntryOf}
+use Rattle.uset_steps.specs.declared.step.Operation.{Operation}
+use Rattle.uset_steps.specs.Names.{Name, Sets, StandsFor}
+use Rattle.uset_steps.specs.Steps.{operated, IsEntryOf}
 use Rattle.uset_steps.specs.Later.{later_done, LaterFits}
 
 -- whether something is a member behind the steps that were put off, where there are some
@@ -52,3 +53,12 @@ pub record Becomes (old new : Gathering) (members : Member → Bool) : Type 0 wh
 pub record BecomesWith (sets : Sets) (new : Gathering) (members : Member → Bool) : Type 0 where
   pub has : (m : Member) → gathering_in new m ≡ members m
   pub fits : Fits sets new
+
+-- The name stands for a set, where each set that is kept is the one that its name stands for.
+abbrev pub IsKept : Gathering → Name → Type 0
+IsKept g name = (sets : Sets) → Fits sets g → is_some (sets name) ≡ true
+
+-- The set that is kept at the place was gathered, which is the one that its name stands for.
+abbrev pub GathersKept : Operation → Place → Gathering → Gathering → Type 0
+GathersKept operation place old new = (sets : Sets) (name : Name) (set : Member → Bool) → Fits sets old → IsPlaceOf old name place → StandsFor sets name set →
+    BecomesWith sets new (λ m. operated operation (set m) (gathering_in old m))

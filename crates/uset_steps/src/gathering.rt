@@ -24,16 +24,16 @@ pub struct Place {
 }
 
 impl<'a> Gathering<'a> {
-    ghost use Rattle.std.specs.Prelude.{◌≡◌, ◌≤◌, ◌||◌, Bool, true, false, None, is_some, IfSome, IfOk, OnOk};
+    ghost use Rattle.std.specs.Prelude.{◌≡◌, ◌≤◌, ◌||◌, false, None, IfSome, IfOk, OnOk};
     ghost use Rattle.std.specs.Str.{chars};
     ghost use Rattle.std.specs.String.{string_bytes};
     ghost use Rattle.cp_strset.specs.StringList.{sole_of};
     ghost use Rattle.uset_grammar.specs.Tree.{Member, in_range};
     ghost use Rattle.uset_gather.specs.Gathered.{gathered_in, is_string};
     ghost use Rattle.uset_read.specs.Queries.{query_seen};
-    ghost use Rattle.uset_steps.specs.Names.{Name as SeenName, property, Sets, StandsFor, IsSetOf, named_in};
+    ghost use Rattle.uset_steps.specs.Names.{property, Sets, IsSetOf, named_in};
     ghost use Rattle.uset_steps.specs.Steps.{operated};
-    ghost use Rattle.uset_steps.specs.Gathering.{gathering_in, closed, Fits, IsPlaceOf, Becomes, BecomesWith};
+    ghost use Rattle.uset_steps.specs.Gathering.{gathering_in, closed, Fits, IsPlaceOf, IsKept, GathersKept, Becomes, BecomesWith};
 
     /// Nothing yet.
     pub fn new(alloc: Global) -> Gathering<'a>
@@ -111,7 +111,7 @@ impl<'a> Gathering<'a> {
     /// Where the set of the property is kept. `None` where it isn't.
     pub fn place_of(&self, alloc: Global, query: &Query) -> Result<Option<Place>, NoMemory>
         ensures place { IfOk result (λ found. IfSome found (IsPlaceOf self.now (property (query_seen query.now)))) }
-        ensures set { IfOk result (λ found. IfSome found (λ place. (sets : Sets) → Fits sets self.now → is_some (sets (property (query_seen query.now))) ≡ true)) }
+        ensures set { IfOk result (λ found. IfSome found (λ place. IsKept self.now (property (query_seen query.now)))) }
     {
         let Some(later) = &self.later else {
             return Ok(None);
@@ -124,8 +124,7 @@ impl<'a> Gathering<'a> {
 
     /// Gathers the set that is kept at this place, as `gather_named` does the set that its name stands for.
     pub fn gather_again(&mut self, operation: Operation, place: Place) -> Result<(), NoMemory>
-        ensures { OnOk result ((sets : Sets) (name : SeenName) (set : Member → Bool) → Fits sets self.old → IsPlaceOf self.old name place → StandsFor sets name set →
-            BecomesWith sets self.new (λ m. operated operation (set m) (gathering_in self.old m))) }
+        ensures { OnOk result (GathersKept operation place self.old self.new) }
     {
         match &mut self.later {
             Some(later) => later.put_off_again(operation, place.index),

@@ -1,14 +1,14 @@
-use Rattle.std.proofs.Common.{◌≡◌, ℕ, Bool, true, ◌++◌, ap, sym, ◌∙◌, reverse}
+use Rattle.std.proofs.Common.{◌++◌, ap, sym, ◌∙◌, reverse}
 use Rattle.std.proofs.lemmas.Bool.{OnTrue_at}
-use Rattle.uset_steps.specs.Steps.{steps_done, is_about}
-use Rattle.uset_steps.specs.Seen.{IsSeen}
+use Rattle.uset_steps.specs.Steps.{steps_done}
+use Rattle.uset_steps.specs.Seen.{IsSeen, IsRepeated}
 use Rattle.uset_steps.proofs.StepsLemmas.{passed_over, about_again}
 use Rattle.uset_steps.proofs.counting.counting.Goals as goal
 
 pub loop-step-preserved : goal.loop-step-preserved
 loop-step-preserved c =
     let kept = c.loop-step.kept.items in
-    let before : (outside : Bool) × (place : ℕ) × (is_about outside place c.in-Some.step ≡ true) × IsSeen c.loop-step.seen outside place = OnTrue_at c.if-not-note.false c.note.ensures.before in (
+    let before : IsRepeated c.loop-step.seen c.in-Some.step = OnTrue_at c.if-not-note.false c.note.ensures.before in (
       λ es m b.
           passed_over es c.pop.new.self.items kept c.in-Some.step before.0 before.1 m b before.2 (c.loop-step.invariant.1 before.0 before.1 before.3)
           ∙ (ap (λ ss. steps_done es (ss ++ reverse kept) m b) (sym c.in-Some.ensures.items) ∙ c.loop-step.invariant.0 es m b),

@@ -1,6 +1,6 @@
-use Rattle.std.proofs.Common.{refl, ap, sym, subst}
+use Rattle.std.proofs.Common.{refl, ap, subst}
 use Rattle.uset_steps.specs.Steps.{IsEntryOf}
-use Rattle.uset_steps.specs.Gathering.{entries_of, BehindFits}
+use Rattle.uset_steps.specs.Gathering.{entries_of}
 use Rattle.uset_steps.proofs.GatheringLemmas.{on_ok, held, put_off_named}
 use Rattle.uset_steps.proofs.gathering.Gathering.gather_again.Goals as goal
 

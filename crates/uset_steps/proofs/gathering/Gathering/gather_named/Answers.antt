@@ -1,4 +1,4 @@
-use Rattle.std.proofs.Common.{◌≡◌, Some, refl, sym, ap, ◌∙◌}
+use Rattle.std.proofs.Common.{Some, refl, sym, ap, ◌∙◌}
 use Rattle.uset_steps.specs.Names.{named_in}
 use Rattle.uset_steps.proofs.GatheringLemmas.{Holds, held, held_none, put_off_named}
 use Rattle.uset_steps.proofs.gathering.Gathering.gather_named.Goals.{in-Some, in-None+in_ok-later-in-None}

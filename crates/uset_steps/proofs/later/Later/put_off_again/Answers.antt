@@ -1,4 +1,3 @@
-use Rattle.std.proofs.Common.{[], ◌∷◌, ◌++◌}
 use Rattle.uset_steps.proofs.EntriesLemmas.{gathers, entered_again}
 use Rattle.uset_steps.proofs.later.Later.put_off_again.Goals as goal
 
