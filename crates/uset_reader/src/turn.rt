@@ -10,7 +10,7 @@ ghost use Rattle.uset_grammar.specs.Grammar.{of_unit};
 ghost use Rattle.uset_grammar.specs.Reached.{is_last_property};
 ghost use Rattle.uset_steps.specs.declared.gathering.Gathering.{Gathering};
 ghost use Rattle.uset_reader.specs.Brackets.{IsItem};
-ghost use Rattle.uset_variables.specs.Values.{is_kept, value_seen};
+ghost use Rattle.uset_variables.specs.Values.{is_kept};
 ghost use Rattle.uset_reader.specs.Turns.{IsVariable, TurnsAt, IsShorter, IsUnfit, TakesAs, TakesVariable, TakesUnit, Opens, ClosesAs};
 
 use crate::bracket::{OpenBracket, Opening, Taken};

@@ -1,5 +1,5 @@
 -- Which entries are named in the steps behind a place.
-use Rattle.std.specs.Prelude.{◌≡◌, ℕ, Bool, true, false, Some, slice_get}
+use Rattle.std.specs.Prelude.{◌≡◌, ◌⊎◌, ℕ, Bool, true, false, Some, slice_get}
 use Rattle.uset_steps.specs.declared.counting.Seen.{Seen}
 use Rattle.uset_steps.specs.declared.step.Step.{Step}
 use Rattle.uset_steps.specs.Steps.{is_about}
@@ -12,3 +12,7 @@ IsSeen seen true place = slice_get seen.outside.items place ≡ Some true
 -- a step behind is about the same entry, on the same side
 abbrev pub IsRepeated : Seen → Step → Type 0
 IsRepeated seen step = (outside : Bool) × (place : ℕ) × (is_about outside place step ≡ true) × IsSeen seen outside place
+
+-- no more is marked than before, but for what the step is about
+abbrev pub MarksOnly : Seen → Step → Seen → Type 0
+MarksOnly old step new = (outside : Bool) (place : ℕ) → IsSeen new outside place → IsSeen old outside place ⊎ (is_about outside place step ≡ true)

@@ -68,6 +68,10 @@ pub record IsEntered (sets : Sets) (name : Name) (old new : List Entry) (place :
   pub fits : EntriesFit sets old → EntriesFit sets new
   pub set : EntriesFit sets old → (entry : Entry) × (slice_get new place ≡ Some entry) × StandsFor sets name (named_in entry.set)
 
+-- the named set has an entry, whatever its name stands for where that is this set
+abbrev pub Enters : Entry → List Entry → List Entry → ℕ → Type 0
+Enters named old new place = (sets : Sets) → IsSetOf sets named → IsEntered sets (name_seen named.name) old new place
+
 -- whether the operation says what becomes of all that its set lacks, and not of what it has
 abbrev pub retains : Operation → Bool
 retains Join = false

@@ -31,10 +31,9 @@ fn mark(flags: &mut Vec<bool>, place: usize) -> bool
 }
 
 impl Seen {
-    ghost use Rattle.std.specs.Prelude.{◌≡◌, ◌⊎◌, ℕ, Bool, true, false, IfOk};
+    ghost use Rattle.std.specs.Prelude.{◌≡◌, ℕ, Bool, true, false, IfOk};
     ghost use Rattle.std.specs.Bool.{OnTrue};
-    ghost use Rattle.uset_steps.specs.Steps.{is_about};
-    ghost use Rattle.uset_steps.specs.Seen.{IsSeen, IsRepeated};
+    ghost use Rattle.uset_steps.specs.Seen.{IsSeen, IsRepeated, MarksOnly};
 
     /// None of so many entries.
     fn new(alloc: Global, entries: usize) -> Result<Seen, NoMemory>
@@ -49,7 +48,7 @@ impl Seen {
     /// Marks what the step names. The answer is true where a step behind names the same, so that this one has no effect.
     fn note(&mut self, step: &Step) -> bool
         ensures before { OnTrue result (IsRepeated self.old step.now) }
-        ensures marked { (outside : Bool) (place : ℕ) → IsSeen self.new outside place → IsSeen self.old outside place ⊎ (is_about outside place step.now ≡ true) }
+        ensures marked { MarksOnly self.old step.now self.new }
     {
         match step {
             Step::Named(Operation::Retain, place) => mark(&mut self.outside, *place),

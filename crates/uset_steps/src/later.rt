@@ -23,9 +23,9 @@ impl<'a> Later<'a> {
     ghost use Rattle.uset_grammar.specs.Tree.{Member};
     ghost use Rattle.uset_gather.specs.Gathered.{gathered_in};
     ghost use Rattle.uset_read.specs.Queries.{query_seen};
-    ghost use Rattle.uset_steps.specs.Names.{Name as SeenName, property, Sets, name_seen, named_in, StandsFor, IsSetOf};
-    ghost use Rattle.uset_steps.specs.Steps.{step_done, names_none, IsEntryOf, IsEntered};
-    ghost use Rattle.uset_steps.specs.Later.{later_done, LaterFits, Gathers};
+    ghost use Rattle.uset_steps.specs.Names.{property, Sets, name_seen};
+    ghost use Rattle.uset_steps.specs.Steps.{step_done, names_none, IsEntryOf, Enters};
+    ghost use Rattle.uset_steps.specs.Later.{later_done, LaterFits, GathersNamed, GathersAgain};
 
     /// None yet.
     pub(crate) fn new(alloc: Global) -> Later<'a>
@@ -73,7 +73,7 @@ impl<'a> Later<'a> {
 
     /// The place of the name's entry, which is made where there is none.
     fn enter(&mut self, alloc: Global, named: Named<'a>) -> Result<usize, NoMemory>
-        ensures entered { IfOk result (λ place. (sets : Sets) → IsSetOf sets named.entry → IsEntered sets (name_seen named.entry.name) self.old.entries.items self.new.entries.items place) }
+        ensures entered { IfOk result (Enters named.entry self.old.entries.items self.new.entries.items) }
         ensures steps { self.new.steps ≡ self.old.steps }
     {
         let text = named.name.text(alloc)?;
@@ -94,7 +94,7 @@ impl<'a> Later<'a> {
         operation: Operation,
         named: Named<'a>,
     ) -> Result<(), NoMemory>
-        ensures { OnOk result ((sets : Sets) → LaterFits sets self.old → IsSetOf sets named.entry → Gathers sets operation (named_in named.entry.set) self.old self.new) }
+        ensures { OnOk result (GathersNamed operation named.entry self.old self.new) }
     {
         let place = self.enter(alloc, named)?;
         self.steps.push(Step::Named(operation, place))?;
@@ -107,8 +107,7 @@ impl<'a> Later<'a> {
         operation: Operation,
         place: usize,
     ) -> Result<(), NoMemory>
-        ensures { OnOk result ((sets : Sets) (name : SeenName) (set : Member → Bool) → LaterFits sets self.old → IsEntryOf name self.old.entries.items place →
-            StandsFor sets name set → Gathers sets operation set self.old self.new) }
+        ensures { OnOk result (GathersAgain operation place self.old self.new) }
     {
         self.steps.push(Step::Named(operation, place))?;
         Ok(())
