@@ -14,6 +14,9 @@ from growth import TABLES, element, seconds, string
 # How often a set is named.
 TIMES = (1_000, 10_000, 100_000, 1_000_000)
 
+# The most bytes that the program takes.
+MOST_BYTES = 1 << 23
+
 # In how many brackets it is named.
 BRACKETS = (1, 10, 100)
 
@@ -45,7 +48,10 @@ def named_again(program, before, sets):
         start, _ = seconds(program, before + f"pat [{name}]\n")
         for how, once in AGAIN:
             for times in TIMES:
-                taken, _ = seconds(program, before + f"pat [{name}{once(name) * times}]\n")
+                text = before + f"pat [{name}{once(name) * times}]\n"
+                if len(text.encode("utf-8")) > MOST_BYTES:
+                    continue
+                taken, _ = seconds(program, text)
                 net = max(taken - start, 0.0)
                 print(f"| {label} | {how} | {times:,} | {net * 1e3:.1f} | {net * 1e9 / times:.0f} |", flush=True)
 
