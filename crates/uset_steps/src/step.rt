@@ -34,7 +34,7 @@ pub(crate) enum Step {
 }
 
 /// Gathers the operand.
-#[inline]
+#[inline(always)]
 pub(crate) fn gather(
     alloc: Global,
     gathered: &mut Gathered,
