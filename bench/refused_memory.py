@@ -19,10 +19,20 @@ from hostile import ANSWER, SCRIPT, TOP, tables
 # The number of the request that is refused. A run makes fewer.
 REFUSED = 5_000
 
+# The code points of a set that a bracket puts off, each a range of its own.
+LARGE = [f"{code:X}" for code in range(0x100, 0x140, 2)]
+
 # A name, the word, what stands behind the tables, the answer and its status.
 RUNS = [
     ("variables", "eval", SCRIPT, ANSWER, 1),
     ("strings", "eval", "pat [{ab}[[{bc}{de}x]&[{bc}x-z]][a-c{}]-[{ab}]]\n", "ok 43 0061-0063 0078 {} {0062_0063}\n", 0),
+    (
+        "sets named again",
+        "eval",
+        f"let v set [\\u{{{' '.join(LARGE)}}}{{xy}}]\npat [$v[b{{pq}}]-\\p{{L}}&$v\\p{{L}}[c]-$v]\n",
+        "bound v\nok 31 0041-005A 0061-007A\n",
+        0,
+    ),
     ("tables", "tables", "", "set 4\nmap 3\nnames 3\nlong 1\nshort 1\nscx 1\next 1\nemoji 1\n", 0),
 ]
 
