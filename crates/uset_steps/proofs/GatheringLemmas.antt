@@ -1,5 +1,5 @@
 -- Sets in the making that put a step off.
-use Rattle.std.proofs.Common.{◌≡◌, Bool, Option, Some, None, Result, Ok, Err, OnOk, Box, sym, ap, ◌∙◌, subst}
+use Rattle.std.proofs.Common.{◌≡◌, Bool, false, is_some, Option, Some, None, Result, Ok, Err, OnOk, Box, refl, sym, ap, ◌∙◌, subst}
 use Rattle.std.specs.Global.{Global}
 use Rattle.uset_grammar.specs.Tree.{Member}
 use Rattle.uset_gather.specs.Gathered.{gathered_in}
@@ -9,7 +9,7 @@ use Rattle.uset_steps.specs.declared.step.Operation.{Operation}
 use Rattle.uset_steps.specs.Names.{Sets}
 use Rattle.uset_steps.specs.Steps.{operated, IsEntryOf}
 use Rattle.uset_steps.specs.Later.{later_done, LaterFits, Gathers}
-use Rattle.uset_steps.specs.Gathering.{behind, entries_of, BehindFits, gathering_in, Fits, Becomes, BecomesWith}
+use Rattle.uset_steps.specs.Gathering.{behind, entries_of, BehindFits, gathering_in, Fits, KeepsPlaces, Becomes, BecomesWith}
 
 pub on_both : {A E : Type 0} (result : Result A E) {P Q R : Type 0} → (P → Q → R) → OnOk result P → OnOk result Q → OnOk result R
 on_both (Ok x) f h k = f h k
@@ -21,14 +21,24 @@ on_ok (Err e) f h = tt
 
 -- one step more was put off
 pub put_off : (old new : Gathering) (before after : Box Later Global) (does : Member → Bool → Bool) → old.later ≡ Some before → new.later ≡ Some after → new.gathered ≡ old.gathered →
-    ((m : Member) (b : Bool) → later_done after.value m b ≡ does m (later_done before.value m b)) → ((sets : Sets) → LaterFits sets before.value → LaterFits sets after.value) → after.value.entries.items ≡ before.value.entries.items →
+    ((m : Member) (b : Bool) → later_done after.value m b ≡ does m (later_done before.value m b)) → ((sets : Sets) → LaterFits sets before.value → LaterFits sets after.value) →
     Becomes old new (λ m. does m (gathering_in old m))
-put_off old new before after does was is same members fits kept = record {
+put_off old new before after does was is same members fits = record {
   has = λ m.
       (λ i. behind (is i) m (gathered_in (same i) m))
       ∙ (members m (gathered_in old.gathered m) ∙ ap (λ later. does m (behind later m (gathered_in old.gathered m))) (sym was));
   fits = λ sets h. subst (BehindFits sets) (sym is) (fits sets (subst (BehindFits sets) was h));
-  places = λ name place h. subst (λ es. IsEntryOf name es place.index) (ap entries_of was ∙ (sym kept ∙ sym (ap entries_of is))) h;
+}
+
+-- and all sets are kept where they were
+pub same_places : (old new : Gathering) (before after : Box Later Global) → old.later ≡ Some before → new.later ≡ Some after → after.value.entries.items ≡ before.value.entries.items → KeepsPlaces old new
+same_places old new before after was is kept name place h = subst (λ es. IsEntryOf name es place.index) (ap entries_of was ∙ (sym kept ∙ sym (ap entries_of is))) h
+
+-- members were gathered behind others
+pub becomes_then : (old between new : Gathering) (does : Member → Bool → Bool) → Becomes old between (gathering_in old) → Becomes between new (λ m. does m (gathering_in between m)) → Becomes old new (λ m. does m (gathering_in old m))
+becomes_then old between new does h k = record {
+  has = λ m. k.has m ∙ ap (does m) (h.has m);
+  fits = λ sets f. k.fits sets (h.fits sets f);
 }
 
 -- the set of a name was put off
@@ -39,6 +49,16 @@ put_off_named sets operation set old new before after was is fits g = record {
   has = λ m. is m ∙ (g.members m (gathered_in old.gathered m) ∙ ap (operated operation (set m)) (sym (was m (gathered_in old.gathered m))));
   fits = fits g.fits;
 }
+
+-- nothing was put off
+pub none_behind : (o : Option (Box Later Global)) → is_some o ≡ false → (m : Member) (b : Bool) → behind o m b ≡ b
+none_behind None h m b = refl
+none_behind (Some later) h m b = absurd (let e = h in cc)
+
+-- a set was gathered behind what was settled
+pub then_with : (sets : Sets) (operation : Operation) (set : Member → Bool) (old between new : Gathering) → Becomes old between (gathering_in old) → BecomesWith sets new (λ m. operated operation (set m) (gathering_in between m)) →
+    BecomesWith sets new (λ m. operated operation (set m) (gathering_in old m))
+then_with sets operation set old between new h k = record { has = λ m. k.has m ∙ ap (operated operation (set m)) (h.has m); fits = k.fits }
 
 -- These steps are the ones that were put off, or there were none.
 pub record Holds (sets : Sets) (o : Option (Box Later Global)) (later : Later) : Type 0 where

@@ -42,12 +42,18 @@ entries_of (Some later) = later.value.entries.items
 abbrev pub IsPlaceOf : Gathering → Name → Place → Type 0
 IsPlaceOf g name place = IsEntryOf name (entries_of g.later) place.index
 
--- What was gathered has these members; it fits each meaning of the names that it did before, and keeps the same sets at their
--- places.
+-- the same sets are kept at their places
+abbrev pub KeepsPlaces : Gathering → Gathering → Type 0
+KeepsPlaces old new = (name : Name) (place : Place) → IsPlaceOf old name place → IsPlaceOf new name place
+
+-- What was gathered has these members, and fits each meaning of the names that it did before.
 pub record Becomes (old new : Gathering) (members : Member → Bool) : Type 0 where
   pub has : (m : Member) → gathering_in new m ≡ members m
   pub fits : (sets : Sets) → Fits sets old → Fits sets new
-  pub places : (name : Name) (place : Place) → IsPlaceOf old name place → IsPlaceOf new name place
+
+-- the same members were gathered
+abbrev pub Settles : Gathering → Gathering → Type 0
+Settles old new = Becomes old new (gathering_in old)
 
 -- the same for the meaning of the names that is told
 pub record BecomesWith (sets : Sets) (new : Gathering) (members : Member → Bool) : Type 0 where

@@ -33,7 +33,7 @@ impl<'a> Gathering<'a> {
     ghost use Rattle.uset_read.specs.Queries.{query_seen};
     ghost use Rattle.uset_steps.specs.Names.{property, Sets, IsSetOf, named_in};
     ghost use Rattle.uset_steps.specs.Steps.{operated};
-    ghost use Rattle.uset_steps.specs.Gathering.{gathering_in, closed, Fits, IsPlaceOf, IsKept, GathersKept, Becomes, BecomesWith};
+    ghost use Rattle.uset_steps.specs.Gathering.{gathering_in, closed, Fits, IsPlaceOf, IsKept, GathersKept, KeepsPlaces, Settles, Becomes, BecomesWith};
 
     /// Nothing yet.
     pub fn new(alloc: Global) -> Gathering<'a>
@@ -50,7 +50,8 @@ impl<'a> Gathering<'a> {
     #[inline]
     pub fn add_range(&mut self, range: CodePointRange) -> Result<(), NoMemory>
         requires { range.end ≤ 0x10_FFFF }
-        ensures { OnOk result (Becomes self.old self.new (λ m. gathering_in self.old m || in_range range.start range.end m)) }
+        ensures becomes { OnOk result (Becomes self.old self.new (λ m. gathering_in self.old m || in_range range.start range.end m)) }
+        ensures places { OnOk result (KeepsPlaces self.old self.new) }
     {
         let Some(later) = &mut self.later else {
             return self.gathered.add_range(range);
@@ -69,6 +70,30 @@ impl<'a> Gathering<'a> {
         }
     }
 
+    /// Does the steps that were put off.
+    #[cold]
+    fn settle(&mut self, alloc: Global) -> Result<(), NoMemory>
+        ensures settles { OnOk result (Settles self.old self.new) }
+        ensures done { OnOk result (self.new.later ≡ None) }
+    {
+        if let Some(later) = self.later.take() {
+            let gathered = replace(&mut self.gathered, Gathered::new(alloc));
+            self.gathered = Box::into_inner(later).done(alloc, gathered)?;
+        }
+        Ok(())
+    }
+
+    /// Does the steps that were put off where they keep too much.
+    #[inline]
+    fn make_way(&mut self, alloc: Global) -> Result<(), NoMemory>
+        ensures { OnOk result (Settles self.old self.new) }
+    {
+        match &self.later {
+            Some(later) if later.is_full() => self.settle(alloc),
+            _ => Ok(()),
+        }
+    }
+
     /// Gathers what another bracket gathered.
     #[inline]
     pub fn gather(
@@ -79,8 +104,9 @@ impl<'a> Gathering<'a> {
     ) -> Result<(), NoMemory>
         ensures { OnOk result (Becomes self.old self.new (λ m. operated operation (gathered_in set m) (gathering_in self.old m))) }
     {
+        self.make_way(alloc)?;
         match &mut self.later {
-            Some(later) => later.put_off(Step::Set(operation, Box::new(alloc, set)?)),
+            Some(later) => later.put_off_set(alloc, operation, set),
             None => gather(alloc, &mut self.gathered, operation, Operand::Gathered(set)),
         }
     }
@@ -96,6 +122,7 @@ impl<'a> Gathering<'a> {
         ensures { OnOk result ((sets : Sets) → Fits sets self.old → IsSetOf sets named.entry →
             BecomesWith sets self.new (λ m. operated operation (named_in named.entry.set m) (gathering_in self.old m))) }
     {
+        self.make_way(alloc)?;
         let mut later = match self.later.take() {
             Some(later) => later,
             None if named.set.is_large() => Box::new(alloc, Later::new(alloc))?,
@@ -137,9 +164,8 @@ impl<'a> Gathering<'a> {
     pub fn close(&mut self, alloc: Global, negated: bool) -> Result<Gathered, NoMemory>
         ensures { IfOk result (λ set. (m : Member) → gathered_in set m ≡ closed negated m (gathering_in self.old m)) }
     {
-        if let Some(later) = self.later.take() {
-            let gathered = replace(&mut self.gathered, Gathered::new(alloc));
-            self.gathered = Box::into_inner(later).done(alloc, gathered)?;
+        if self.later.is_some() {
+            self.settle(alloc)?;
         }
         if negated {
             self.gathered.negate(alloc);

@@ -9,6 +9,13 @@ use std::collections::BTreeMap;
 use uset_gather::Gathered;
 use uset_read::Query;
 
+/// What an entry or a step takes beside the ranges of its set, in ranges.
+const SHARE: usize = 32;
+
+/// From so many ranges on the steps are done before more are put off: one property has names without number, since names that are
+/// spelled otherwise may be one, and each has a set of its own here.
+const FULL: usize = 1 << 20;
+
 /// Steps that are put off, the first in front, and the sets that they name, each once.
 #[derive(Drop)]
 pub(crate) struct Later<'a> {
@@ -16,6 +23,8 @@ pub(crate) struct Later<'a> {
     places: BTreeMap<String, usize>,
     entries: Vec<Named<'a>>,
     steps: Vec<Step>,
+    /// About how much memory is kept, in ranges.
+    kept: usize,
 }
 
 impl<'a> Later<'a> {
@@ -24,7 +33,7 @@ impl<'a> Later<'a> {
     ghost use Rattle.uset_gather.specs.Gathered.{gathered_in};
     ghost use Rattle.uset_read.specs.Queries.{query_seen};
     ghost use Rattle.uset_steps.specs.Names.{property, Sets, name_seen};
-    ghost use Rattle.uset_steps.specs.Steps.{step_done, names_none, IsEntryOf, Enters};
+    ghost use Rattle.uset_steps.specs.Steps.{operated, step_done, names_none, IsEntryOf, Enters};
     ghost use Rattle.uset_steps.specs.Later.{later_done, LaterFits, GathersNamed, GathersAgain};
 
     /// None yet.
@@ -36,6 +45,7 @@ impl<'a> Later<'a> {
             places: BTreeMap::new(alloc),
             entries: Vec::new(alloc),
             steps: Vec::new(alloc),
+            kept: 0,
         }
     }
 
@@ -49,6 +59,27 @@ impl<'a> Later<'a> {
     {
         self.steps.push(step)?;
         Ok(())
+    }
+
+    /// Puts off the gathering of what another bracket gathered.
+    #[cold]
+    pub(crate) fn put_off_set(
+        &mut self,
+        alloc: Global,
+        operation: Operation,
+        set: Gathered,
+    ) -> Result<(), NoMemory>
+        ensures members { OnOk result ((m : Member) (b : Bool) →
+            later_done self.new m b ≡ operated operation (gathered_in set m) (later_done self.old m b)) }
+        ensures names { OnOk result ((sets : Sets) → LaterFits sets self.old → LaterFits sets self.new) }
+    {
+        self.kept = self.kept.saturating_add(SHARE);
+        self.put_off(Step::Set(operation, Box::new(alloc, set)?))
+    }
+
+    /// Whether so much is kept that the steps are better done.
+    pub(crate) fn is_full(&self) -> bool {
+        self.kept >= FULL
     }
 
     /// The place and the name of the entry that a text of its name finds, where there is one.
@@ -82,6 +113,8 @@ impl<'a> Later<'a> {
             _ => {}
         }
         let place = self.entries.len();
+        let kept = named.set.own_ranges().saturating_add(SHARE);
+        self.kept = self.kept.saturating_add(kept);
         self.entries.push(named)?;
         self.places.insert(text, place)?;
         Ok(place)

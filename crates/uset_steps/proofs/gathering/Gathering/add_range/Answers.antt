@@ -1,14 +1,19 @@
-use Rattle.std.proofs.Common.{◌||◌, refl, ap, ◌∙◌}
+use Rattle.std.proofs.Common.{Some, ◌||◌, refl, ap, ◌∙◌}
 use Rattle.std.specs.Box.{with_value}
 use Rattle.uset_grammar.specs.Tree.{in_range}
 use Rattle.uset_steps.specs.Later.{later_done}
-use Rattle.uset_steps.proofs.GatheringLemmas.{on_both, put_off}
+use Rattle.uset_steps.proofs.GatheringLemmas.{on_ok, on_both, put_off, same_places}
 use Rattle.uset_steps.proofs.gathering.Gathering.add_range.Goals as goal
 
-pub returns : goal.returns
-returns c =
+pub returns-clause-becomes : goal.returns-clause-becomes
+returns-clause-becomes c =
     let before = c.in-Some.later in
     on_both c.put_off.result (λ members fits.
     put_off c.args.self.now _ before (with_value before c.put_off.new.self) (λ m b. b || in_range c.args.range.start c.args.range.end m) c.in-Some.is refl refl
-    (λ m b. members m b ∙ ap (λ r. later_done before.value m b || in_range r.start r.end m) c.new.ensures) fits (ap (λ es. es.items) (rw c.deref_mut.ensures.value at c.put_off.ensures.entries)))
+    (λ m b. members m b ∙ ap (λ r. later_done before.value m b || in_range r.start r.end m) c.new.ensures) fits)
     (rw c.deref_mut.ensures.value at c.put_off.ensures.members) (rw c.deref_mut.ensures.value at c.put_off.ensures.names)
+
+pub returns-clause-places : goal.returns-clause-places
+returns-clause-places c =
+    on_ok c.put_off.result (λ h. same_places c.args.self.now (record { gathered = c.args.self.now.gathered; later = Some (with_value c.in-Some.later c.put_off.new.self) }) c.in-Some.later (with_value c.in-Some.later c.put_off.new.self) c.in-Some.is refl (ap (λ es. es.items) (rw c.deref_mut.ensures.value at c.put_off.ensures.entries)))
+    c.put_off.ensures.names

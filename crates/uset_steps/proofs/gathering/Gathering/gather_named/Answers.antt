@@ -1,17 +1,19 @@
 use Rattle.std.proofs.Common.{Some, refl, sym, ap, ◌∙◌}
 use Rattle.uset_steps.specs.Names.{named_in}
-use Rattle.uset_steps.proofs.GatheringLemmas.{Holds, held, held_none, put_off_named}
+use Rattle.uset_steps.proofs.GatheringLemmas.{Holds, held, held_none, put_off_named, then_with}
 use Rattle.uset_steps.proofs.gathering.Gathering.gather_named.Goals.{in-Some, in-None+in_ok-later-in-None}
 use Rattle.uset_steps.proofs.gathering.Gathering.gather_named.Goals as goal
 
 pub returns : goal.returns
 returns c = λ sets fits is.
-    let old = c.args.self.now in
+    let old = c.make_way.new.self in
+    let settled = c.in_ok-make_way.ensures in
+    let still = settled.fits sets fits in
     let before : Holds sets old.later c.match-take.later.value = elim c.match-take.branch [
-      | in-Some w ↦ held sets old.later c.match-take.later (sym c.take.ensures.value ∙ (w.in-Some.is ∙ ap Some (sym w.later-is))) fits
+      | in-Some w ↦ held sets old.later c.match-take.later (sym c.take.ensures.value ∙ (w.in-Some.is ∙ ap Some (sym w.later-is))) still
       | in-None+in_ok-later-in-None w ↦
           held_none sets old.later c.match-take.later.value w.new.result (sym c.take.ensures.value ∙ w.in-None.is)
           (ap (λ later. later.value) w.later-is ∙ w.in_ok-later-in-None.ensures.ok) w.new.ensures.members (w.new.ensures.names sets)
     ] in
-    put_off_named sets c.args.operation (named_in c.args.named.set) old _ c.match-take.later.value c.put_off_named.new.self before.same (λ m. refl) (λ f. f)
-    ((rw c.deref_mut.ensures.value at c.in_ok-put_off_named.ensures) sets before.fits is)
+    then_with sets c.args.operation (named_in c.args.named.set) c.args.self.now old _ settled (put_off_named sets c.args.operation (named_in c.args.named.set) old _ c.match-take.later.value c.put_off_named.new.self before.same (λ m. refl) (λ f. f)
+    ((rw c.deref_mut.ensures.value at c.in_ok-put_off_named.ensures) sets before.fits is))
