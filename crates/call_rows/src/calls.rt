@@ -1,4 +1,5 @@
 //! The four calls that read a source.
+use crate::fixtures::with_tables;
 use cp_invlist::CodePointInversionList;
 use cp_strset::CodePointInversionListAndStringList;
 use prop_data::PropertyDatabase;
@@ -142,6 +143,14 @@ fn the_reader_below_the_calls_reads_a_pattern(rt: HostRuntime) -> Result<(), Fai
     Ok(())
 }
 
+/// The kind and the place of the fault, if the answer is one.
+fn fault_of(answer: Answer) -> Option<(ParseErrorKind, Option<usize>)> {
+    match answer {
+        Ok(_) => None,
+        Err(error) => Some((error.kind(), error.offset())),
+    }
+}
+
 /// The kind and the place of the fault, if the source has one under the tables.
 fn fault_under(
     alloc: Global,
@@ -151,15 +160,13 @@ fn fault_under(
 ) -> Result<Option<(ParseErrorKind, Option<usize>)>, Fail> {
     let database = PropertyDatabase::from_text(alloc, tables)?;
     let map = variables(alloc)?;
-    match ask(alloc, call, source, &map, &database) {
-        Ok(_) => Ok(None),
-        Err(error) => Ok(Some((error.kind(), error.offset()))),
-    }
+    Ok(fault_of(ask(alloc, call, source, &map, &database)))
 }
 
 #[test]
 fn each_call_refuses_a_pattern(rt: HostRuntime) -> Result<(), Fail> {
     let unknown = ParseErrorKind::UnknownVariable;
+    let unexpected = ParseErrorKind::UnexpectedVariable;
     let internal = ParseErrorKind::Internal;
     let reversed = ParseErrorKind::UnexpectedChar('a');
     for (tables, call, source, kind, offset) in [
@@ -167,13 +174,60 @@ fn each_call_refuses_a_pattern(rt: HostRuntime) -> Result<(), Fail> {
         (SYNTAX, Call::Plain, "[", ParseErrorKind::Eof, None),
         (SYNTAX, Call::Unstable, "[ä$vä]", unknown, Some(4)),
         (SYNTAX, Call::WithVariables, "[ä$vä-$a]", reversed, Some(9)),
+        (SYNTAX, Call::WithVariables, "[a-$v]", unexpected, Some(4)),
+        ("end\n", Call::Plain, "[", internal, None),
         ("end\n", Call::Unstable, "[", internal, None),
+        ("end\n", Call::WithVariables, "[$a]", internal, None),
         ("end\n", Call::UnstableWithVariables, "[$a]", internal, None),
     ] {
         let found = fault_under(rt.alloc(), tables, call, source)?;
         assert_eq!(rt; found, Some((kind, offset)), "at {source}");
     }
     Ok(())
+}
+
+/// Sources with a fault where no name is bound: its kind, and its place in bytes.
+const FAULTS: &[(&str, ParseErrorKind, Option<usize>)] = &[
+    ("[z-y]", ParseErrorKind::UnexpectedChar('y'), Some(3)),
+    ("ä", ParseErrorKind::UnexpectedChar('ä'), Some(0)),
+    ("[a", ParseErrorKind::Eof, None),
+    ("[{\\uD800}]", ParseErrorKind::InvalidEscape, Some(2)),
+    ("[\\N{DASH}]", ParseErrorKind::Unimplemented, Some(2)),
+    ("[$zz]", ParseErrorKind::UnknownVariable, Some(3)),
+    ("[:zz:]", ParseErrorKind::UnknownProperty, Some(3)),
+    ("[:blk=x:]", ParseErrorKind::Internal, Some(6)),
+];
+
+/// Asserts that the call refuses each source for its fault.
+fn assert_faults(
+    rt: &impl Abort,
+    alloc: Global,
+    call: Call,
+    variables: &VariableMap,
+    database: &PropertyDatabase,
+) {
+    for (source, kind, offset) in FAULTS {
+        let found = fault_of(ask(alloc, call, source, variables, database));
+        assert_eq!(rt; found, Some((*kind, *offset)), "at {source}");
+    }
+}
+
+#[test]
+fn each_call_gives_the_fault_of_a_source(rt: HostRuntime) -> Result<(), Fail> {
+    let none = VariableMap::new(rt.alloc());
+    with_tables(rt.alloc(), SYNTAX, |database| {
+        assert_faults(&rt, rt.alloc(), Call::Plain, &none, database);
+        assert_faults(&rt, rt.alloc(), Call::Unstable, &none, database);
+        assert_faults(&rt, rt.alloc(), Call::WithVariables, &none, database);
+        assert_faults(
+            &rt,
+            rt.alloc(),
+            Call::UnstableWithVariables,
+            &none,
+            database,
+        );
+        Ok(())
+    })
 }
 
 #[test]

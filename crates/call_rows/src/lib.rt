@@ -1,5 +1,6 @@
-//! Tests of the readers of units, of faults, of variables and of the calls that read a source. They stand here so that a
-//! change of a test proves no reader anew, and no reader is proved a second time with its tests.
+//! Tests of the readers of units, of what brackets gather and properties resolve to, of faults, of variables and of the calls
+//! that read a source. They stand here so that a change of a test proves no reader anew, and no reader is proved a second
+//! time with its tests.
 #![tactic(auto)]
 
 #[cfg(test)]
@@ -7,7 +8,13 @@ mod calls;
 #[cfg(test)]
 mod example;
 #[cfg(test)]
+mod fixtures;
+#[cfg(test)]
+mod gathered;
+#[cfg(test)]
 mod patterns;
+#[cfg(test)]
+mod resolved;
 #[cfg(test)]
 mod shown;
 #[cfg(test)]

@@ -1,4 +1,5 @@
 //! Sets written as patterns, and read back.
+use crate::fixtures::set_of;
 use cp_invlist::CodePointInversionList;
 use cp_strset::CodePointInversionListAndStringList;
 use prop_data::PropertyDatabase;
@@ -21,20 +22,6 @@ fn is_read_back(
         Ok((read, length)) => Ok(read == *set && length == text.len()),
         Err(_) => Ok(false),
     }
-}
-
-/// A set by its inversion list and its strings.
-fn set_of(
-    alloc: Global,
-    list: &[u32],
-    texts: &[&str],
-) -> Result<CodePointInversionListAndStringList, Fail> {
-    let code_points = CodePointInversionList::try_from_inversion_list(alloc, list)?;
-    let mut strings = Vec::new(alloc);
-    for text in texts {
-        strings.push(String::from_str(alloc, text)?)?;
-    }
-    Ok(CodePointInversionListAndStringList::try_from(code_points, strings)?)
 }
 
 /// The pattern of a set, and whether it is read back.

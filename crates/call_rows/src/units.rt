@@ -43,6 +43,16 @@ fn escapes_are_read(rt: HostRuntime) -> Result<(), Fail> {
     Ok(())
 }
 
+/// The character of an unexpected character, and a letter for each other kind.
+fn letter_of(kind: Kind) -> char {
+    match kind {
+        Kind::UnexpectedChar(c) => c,
+        Kind::Unimplemented => 'U',
+        Kind::InvalidEscape => 'E',
+        Kind::UnknownProperty | Kind::Internal => '?',
+    }
+}
+
 #[test]
 fn a_fault_of_an_escape_has_one_place(rt: HostRuntime) -> Result<(), Fail> {
     let alloc = rt.alloc();
@@ -61,13 +71,7 @@ fn a_fault_of_an_escape_has_one_place(rt: HostRuntime) -> Result<(), Fail> {
         let cursor = Cursor::new(source);
         match read_escape(alloc, &white_space, around, cursor.rest()) {
             Err(Stop::Fault(found, rest)) => {
-                let letter = match found {
-                    Kind::UnexpectedChar(c) => c,
-                    Kind::Unimplemented => 'U',
-                    Kind::InvalidEscape => 'E',
-                    Kind::UnknownProperty | Kind::Internal => '?',
-                };
-                assert_eq!(rt; letter, kind, "at {source}");
+                assert_eq!(rt; letter_of(found), kind, "at {source}");
                 assert_eq!(rt; cursor.at(rest).offset(), offset, "at {source}");
             }
             _ => assert!(rt; false, "at {source}"),
@@ -106,13 +110,28 @@ fn strings_are_read(rt: HostRuntime) -> Result<(), Fail> {
         assert_eq!(rt; string.as_str(), characters, "at {text}");
         assert_eq!(rt; behind, rest, "at {text}");
     }
-    for (text, offset) in [("{\\uD800}", 1), ("{a\\x{61 D800g}", 8), ("{{\\udFFF ]", 2)] {
-        let cursor = Cursor::new(text);
+    Ok(())
+}
+
+#[test]
+fn a_fault_of_a_string_has_one_place(rt: HostRuntime) -> Result<(), Fail> {
+    let alloc = rt.alloc();
+    let white_space = CodePointInversionList::try_from_inversion_list(alloc, &SPACES)?;
+    for (source, kind, offset) in [
+        ("{\\uD800}", 'E', 1),
+        ("{a\\x{61 D800g}", 'E', 8),
+        ("{a\\x{61 62g}", 'g', 10),
+        ("{{\\udFFF ]", 'E', 2),
+        ("{ab\\N{DASH}}", 'U', 4),
+        ("{\\u{65}\\xag}", 'g', 10),
+    ] {
+        let cursor = Cursor::new(source);
         match read_string(alloc, &white_space, cursor.rest()) {
-            Err(Stop::Fault(Kind::InvalidEscape, rest)) => {
-                assert_eq!(rt; cursor.at(rest).offset(), offset, "at {text}");
+            Err(Stop::Fault(found, rest)) => {
+                assert_eq!(rt; letter_of(found), kind, "at {source}");
+                assert_eq!(rt; cursor.at(rest).offset(), offset, "at {source}");
             }
-            _ => assert!(rt; false, "at {text}"),
+            _ => assert!(rt; false, "at {source}"),
         }
     }
     assert!(rt; matches!(read_string(alloc, &white_space, "{a"), Err(Stop::Ended)));
@@ -170,16 +189,33 @@ fn properties_are_read(rt: HostRuntime) -> Result<(), Fail> {
         Ok((_, query, _)) => assert_eq!(rt; query.key.as_str(), "AHex"),
         Err(_) => assert!(rt; false),
     }
-    assert!(rt; matches!(close_property(Form::Posix, ":]x"), Ok("x")));
-    assert!(rt;
-        matches!(
-            close_property(Form::Posix, ": ]"),
-            Err(Stop::Fault(_, " ]"))
-        )
-    );
-    assert!(rt; matches!(close_property(Form::Posix, ":"), Err(Stop::Ended)));
-    assert!(rt; matches!(close_property(Form::Perl, "}x"), Ok("x")));
     Ok(())
+}
+
+/// The character that can't close the property, if there is one, and the text behind what closes it or from that character
+/// on. `None` where the text ends.
+fn closed(form: Form, text: &str) -> Option<(Option<char>, &str)> {
+    match close_property(form, text) {
+        Ok(rest) => Some((None, rest)),
+        Err(Stop::Fault(kind, rest)) => Some((Some(letter_of(kind)), rest)),
+        Err(_) => None,
+    }
+}
+
+#[test]
+fn properties_are_closed(rt: HostRuntime) {
+    for (form, text, expected) in [
+        (Form::Posix, ":]x", Some((None, "x"))),
+        (Form::Posix, ": ]", Some((Some(' '), " ]"))),
+        (Form::Posix, "}]", Some((Some('}'), "}]"))),
+        (Form::Posix, ":", None),
+        (Form::Posix, "", None),
+        (Form::Perl, "}x", Some((None, "x"))),
+        (Form::Perl, ":]", Some((Some(':'), ":]"))),
+        (Form::Perl, "", None),
+    ] {
+        assert_eq!(rt; closed(form, text), expected, "at {text}");
+    }
 }
 
 #[test]

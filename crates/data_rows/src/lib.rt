@@ -15,6 +15,8 @@ mod maps;
 #[cfg(test)]
 mod names;
 #[cfg(test)]
+mod names_built;
+#[cfg(test)]
 mod names_tables;
 #[cfg(test)]
 mod nearest;

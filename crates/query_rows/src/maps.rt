@@ -1,10 +1,13 @@
 //! Maps from code points to general categories, and to what these are converted to.
 use crate::fixtures::{EMPTY, EVERY_KIND, absent, range, with_tables};
 use cp_invlist::CodePointRange;
-use cp_trie::CodePointMapRange;
+use cp_trie::{CodePointMapRange, ConvertError};
 use prop_data::{MapTable, PropertyDatabase, TableName};
 use prop_query::{CodePointMapData, CodePointMapDataBorrowed, CodePointSetData};
-use prop_values::{Block, GeneralCategory, GeneralCategoryGroup};
+use prop_values::{
+    Block, CanonicalCombiningClass, EnumeratedProperty, GeneralCategory, GeneralCategoryGroup,
+    Script,
+};
 use std::alloc::Global;
 use std::process::Abort;
 use std::test::Fail;
@@ -178,5 +181,29 @@ fn a_database_without_a_map_says_so(rt: HostRuntime) -> Result<(), Fail> {
     with_tables(rt.alloc(), EMPTY, |database| {
         assert_absent(&rt, rt.alloc(), database);
         Ok(())
+    })
+}
+
+/// A map with the class 230 in its second run, and one whose value past 10FFFF alone is that of no general category.
+const UNCONVERTED: &str = "map Canonical_Combining_Class 0\n300-314 230\nmap Script 0\nend";
+
+/// Asserts which run keeps the map of a property from a conversion to general categories.
+fn assert_unconverted<T: EnumeratedProperty>(
+    rt: &impl Abort,
+    alloc: Global,
+    database: &PropertyDatabase,
+    index: usize,
+) -> Result<(), Fail> {
+    let map = CodePointMapData::<T>::new(alloc, database)?;
+    let refusal = map.try_into_converted::<GeneralCategory>(alloc).err();
+    assert_eq!(rt; refusal, Some(ConvertError::Value { index }));
+    Ok(())
+}
+
+#[test]
+fn a_map_with_the_number_of_no_category_is_not_converted(rt: HostRuntime) -> Result<(), Fail> {
+    with_tables(rt.alloc(), UNCONVERTED, |database| {
+        assert_unconverted::<CanonicalCombiningClass>(&rt, rt.alloc(), database, 1)?;
+        assert_unconverted::<Script>(&rt, rt.alloc(), database, 1)
     })
 }

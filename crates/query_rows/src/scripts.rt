@@ -17,14 +17,14 @@ fn script(number: u16) -> Script {
     Script::from_icu4c_value(number)
 }
 
-/// Whether the set has the scripts of these numbers, in this order.
+/// Whether the set has the scripts of these numbers, in this order, and none behind them.
 fn has_all(set: ScriptExtensionsSet<'_>, numbers: &[u16]) -> bool {
     for (index, number) in numbers.iter().enumerate() {
         if set.array_get(index) != Some(script(*number)) {
             return false;
         }
     }
-    set.array_len() == numbers.len()
+    set.array_len() == numbers.len() && set.array_get(numbers.len()).is_none()
 }
 
 /// The numbers of the scripts that come from the back, the front, the back and the front.

@@ -3,7 +3,7 @@ use crate::fixtures::{TABLES, eval};
 use std::alloc::Global;
 use std::io::{self, Cursor, Error, ErrorKind, Read, Write};
 use std::test::Fail;
-use uset_tool::{Sink, Source, Status, StdSink, StdSource, SureSink, SureSource, run};
+use uset_tool::{MemorySink, Sink, Source, Status, StdSink, StdSource, SureSink, SureSource, run};
 
 /// A reader that gives one byte at its first call, and fails at its second.
 #[derive(Drop)]
@@ -117,6 +117,17 @@ fn a_reader_of_std_is_a_source(rt: HostRuntime) -> Result<(), Fail> {
 fn a_writer_of_std_is_a_sink(rt: HostRuntime) -> Result<(), Fail> {
     let mut sink = StdSink::new(Vec::new(rt.alloc()));
     assert_eq!(rt; sink.write(b"ab")?, 2);
+    Ok(())
+}
+
+#[test]
+fn a_sink_in_memory_keeps_what_it_takes(rt: HostRuntime) -> Result<(), Fail> {
+    let mut sink = SureSink::new(rt.alloc());
+    assert_eq!(rt; sink.write(b"abc")?, 3);
+    assert_eq!(rt; sink.written(), b"abc".as_slice());
+    let mut sink = MemorySink::new(rt.alloc(), 2, Vec::new(rt.alloc()));
+    assert_eq!(rt; sink.write(b"abc")?, 2);
+    assert_eq!(rt; sink.written(), b"ab".as_slice());
     Ok(())
 }
 

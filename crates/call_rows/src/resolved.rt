@@ -1,0 +1,84 @@
+//! What properties resolve to.
+use crate::fixtures::with_tables;
+use prop_data::PropertyDatabase;
+use std::alloc::Global;
+use std::process::Abort;
+use std::test::Fail;
+use uset_resolve::{Resolution, resolve};
+
+/// The digits as a set and as a general category, and names of blocks without their map.
+const TABLES: &str = "set ASCII_Hex_Digit\n30-39\n41-46\n61-66\n\
+    map General_Category 0\n30-39 9\n\
+    names General_Category_Mask\n9 Nd\n\
+    names Block\n1 ASCII\n1 Basic_Latin\nend\n";
+
+/// What a property is to resolve to.
+#[derive(Clone, Copy)]
+enum Expected {
+    /// The code points of the inversion list, and whether the value negates.
+    Found(&'static [u32], bool),
+    Unknown,
+    Lacking,
+}
+
+/// A key, its value and what both resolve to.
+type Resolved = (&'static str, Option<&'static str>, Expected);
+
+const DIGITS: Expected = Expected::Found(&[0x30, 0x3A], false);
+
+const RESOLVED: &[Resolved] = &[
+    (
+        "AHex",
+        None,
+        Expected::Found(&[0x30, 0x3A, 0x41, 0x47, 0x61, 0x67], false),
+    ),
+    (
+        "ASCII_Hex_Digit",
+        Some("No"),
+        Expected::Found(&[0x30, 0x3A, 0x41, 0x47, 0x61, 0x67], true),
+    ),
+    ("Nd", None, DIGITS),
+    ("gc", Some("nd"), DIGITS),
+    ("zz", None, Expected::Unknown),
+    ("zz", Some("No"), Expected::Unknown),
+    ("gc", Some("Lu"), Expected::Unknown),
+    ("blk", Some("Thai"), Expected::Unknown),
+    ("blk", Some("basic latin"), Expected::Lacking),
+];
+
+/// Whether the key and the value resolve to what is expected.
+fn resolves(
+    alloc: Global,
+    database: &PropertyDatabase,
+    key: &str,
+    value: Option<&str>,
+    expected: Expected,
+) -> Result<bool, Fail> {
+    match (resolve(alloc, database, key, value)?, expected) {
+        (Resolution::Found(source, falsy), Expected::Found(list, negates)) => {
+            Ok(source.list().get_inversion_list() == list && falsy == negates)
+        }
+        (Resolution::Unknown, Expected::Unknown) => Ok(true),
+        (Resolution::Lacking, Expected::Lacking) => Ok(true),
+        _ => Ok(false),
+    }
+}
+
+fn assert_resolved(
+    rt: &impl Abort,
+    alloc: Global,
+    database: &PropertyDatabase,
+) -> Result<(), Fail> {
+    for (key, value, expected) in RESOLVED {
+        let holds = resolves(alloc, database, key, *value, *expected)?;
+        assert!(rt; holds, "at {key} {value:?}");
+    }
+    Ok(())
+}
+
+#[test]
+fn a_property_is_found_unknown_or_lacks_a_table(rt: HostRuntime) -> Result<(), Fail> {
+    with_tables(rt.alloc(), TABLES, |database| {
+        assert_resolved(&rt, rt.alloc(), database)
+    })
+}
