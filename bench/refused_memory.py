@@ -27,7 +27,7 @@ RUNS = [
     ("variables", "eval", SCRIPT, ANSWER, 1),
     ("strings", "eval", "pat [{ab}[[{bc}{de}x]&[{bc}x-z]][a-c{}]-[{ab}]]\n", "ok 43 0061-0063 0078 {} {0062_0063}\n", 0),
     (
-        "sets named again",
+        "again",
         "eval",
         f"let v set [\\u{{{' '.join(LARGE)}}}{{xy}}]\npat [$v[b{{pq}}]-\\p{{L}}&$v\\p{{L}}[c]-$v]\n",
         "bound v\nok 31 0041-005A 0061-007A\n",

@@ -135,7 +135,7 @@ impl<'a> Gathering<'a> {
         Ok(())
     }
 
-    /// Where the set of the property is kept. `None` where it isn't.
+    /// Where the set of the property is kept, if it is found.
     pub fn place_of(&self, alloc: Global, query: &Query) -> Result<Option<Place>, NoMemory>
         ensures place { IfOk result (λ found. IfSome found (IsPlaceOf self.now (property (query_seen query.now)))) }
         ensures set { IfOk result (λ found. IfSome found (λ place. IsKept self.now (property (query_seen query.now)))) }
