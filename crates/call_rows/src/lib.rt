@@ -12,6 +12,8 @@ mod fixtures;
 #[cfg(test)]
 mod gathered;
 #[cfg(test)]
+mod kept;
+#[cfg(test)]
 mod patterns;
 #[cfg(test)]
 mod resolved;
