@@ -339,6 +339,9 @@ def memory_of_elements(program):
 
 def main():
     program = sys.argv[1] if len(sys.argv) > 1 else str(TOP / "crates" / "uset" / "out" / "uset")
+    # First, while this process is small: what it has resident counts towards the peak of a process that it starts.
+    memory(program)
+    print()
     start, _ = seconds(program, lines(2))
     print(f"start: {start * 1000:.1f} ms")
     series = [("`pat` lines", lines, (100, 1_000, 10_000, 100_000)), ("rows of a table", rows, (1_000, 10_000, 100_000))]
@@ -357,7 +360,6 @@ def main():
     growing(program, start, NAMED)
     growing(program, start, FAULTS, status=1)
     gathering(program, start)
-    memory(program)
     memory_of_elements(program)
 
 
