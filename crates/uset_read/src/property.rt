@@ -23,8 +23,8 @@ pub enum Form {
     Perl,
 }
 
-/// What a property asks. White space in it is dropped.
-#[derive(Drop)]
+/// What a property asks. White space in it is dropped. The order is that of the fields, for maps whose keys are queries.
+#[derive(PartialEq, Eq, PartialOrd, Ord, Drop)]
 pub struct Query {
     /// Whether an odd number of the `^` behind `[:`, the `P` and the `≠` stands there.
     pub negated: bool,

@@ -102,7 +102,7 @@ pub(crate) fn read_operand<'v, 'a>(
     ensures shorter { IfOk result (λ p. length p.1.now < length text.now) }
 {
     let (form, query, mark) = read_property(alloc, syntax.white_space, text)?;
-    if let Some(place) = gathered.place_of(alloc, &query)? {
+    if let Some(place) = gathered.place_of(&query) {
         let rest = close_property(form, mark)?;
         return Ok((Operand::Again(place), rest));
     }

@@ -1,5 +1,5 @@
 -- Sets in the making that put a step off.
-use Rattle.std.proofs.Common.{◌≡◌, Bool, false, is_some, Option, Some, None, Result, Ok, Err, OnOk, Box, refl, sym, ap, ◌∙◌, subst}
+use Rattle.std.proofs.Common.{◌≡◌, Bool, false, is_some, Option, Some, None, Result, Ok, Err, OnOk, IfNone, Box, refl, sym, ap, ◌∙◌, subst}
 use Rattle.std.specs.Global.{Global}
 use Rattle.uset_grammar.specs.Tree.{Member}
 use Rattle.uset_gather.specs.Gathered.{gathered_in}
@@ -7,9 +7,10 @@ use Rattle.uset_steps.specs.declared.gathering.Gathering.{Gathering}
 use Rattle.uset_steps.specs.declared.later.Later.{Later}
 use Rattle.uset_steps.specs.declared.step.Operation.{Operation}
 use Rattle.uset_steps.specs.Names.{Sets}
-use Rattle.uset_steps.specs.Steps.{operated, IsEntryOf}
+use Rattle.uset_steps.specs.Places.{IsPlaceIn}
+use Rattle.uset_steps.specs.Steps.{operated}
 use Rattle.uset_steps.specs.Later.{later_done, LaterFits, Gathers}
-use Rattle.uset_steps.specs.Gathering.{behind, entries_of, BehindFits, gathering_in, Fits, KeepsPlaces, Becomes, BecomesWith}
+use Rattle.uset_steps.specs.Gathering.{behind, IsPlaceBehind, BehindFits, gathering_in, Fits, KeepsPlaces, Becomes, BecomesWith}
 
 pub on_both : {A E : Type 0} (result : Result A E) {P Q R : Type 0} → (P → Q → R) → OnOk result P → OnOk result Q → OnOk result R
 on_both (Ok x) f h k = f h k
@@ -18,6 +19,10 @@ on_both (Err e) f h k = tt
 pub on_ok : {A E : Type 0} (result : Result A E) {P Q : Type 0} → (P → Q) → OnOk result P → OnOk result Q
 on_ok (Ok x) f h = f h
 on_ok (Err e) f h = tt
+
+pub if_none : {A : Type 0} (result : Option A) {P : Type 0} → P → IfNone result P
+if_none None h = h
+if_none (Some x) h = tt
 
 -- one step more was put off
 pub put_off : (old new : Gathering) (before after : Box Later Global) (does : Member → Bool → Bool) → old.later ≡ Some before → new.later ≡ Some after → new.gathered ≡ old.gathered →
@@ -31,8 +36,9 @@ put_off old new before after does was is same members fits = record {
 }
 
 -- and all sets are kept where they were
-pub same_places : (old new : Gathering) (before after : Box Later Global) → old.later ≡ Some before → new.later ≡ Some after → after.value.entries.items ≡ before.value.entries.items → KeepsPlaces old new
-same_places old new before after was is kept name place h = subst (λ es. IsEntryOf name es place.index) (ap entries_of was ∙ (sym kept ∙ sym (ap entries_of is))) h
+pub same_places : (old new : Gathering) (before after : Box Later Global) → old.later ≡ Some before → new.later ≡ Some after → after.value.places ≡ before.value.places → KeepsPlaces old new
+same_places old new before after was is kept name place h =
+    subst (λ later. IsPlaceBehind later name place.index) (sym is) (subst (λ places. IsPlaceIn places name place.index) (sym kept) (subst (λ later. IsPlaceBehind later name place.index) was h))
 
 -- members were gathered behind others
 pub becomes_then : (old between new : Gathering) (does : Member → Bool → Bool) → Becomes old between (gathering_in old) → Becomes between new (λ m. does m (gathering_in between m)) → Becomes old new (λ m. does m (gathering_in old m))

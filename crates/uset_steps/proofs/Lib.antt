@@ -1,3 +1,4 @@
 pub mod StepsLemmas
-pub mod EntriesLemmas
+pub mod PlacesLemmas
+pub mod KeptLemmas
 pub mod GatheringLemmas

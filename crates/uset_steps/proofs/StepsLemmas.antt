@@ -4,29 +4,29 @@ use Rattle.std.specs.Prelude.{slice_get}
 use Rattle.std.proofs.lemmas.Bool.{cases_Bool, eqb-true}
 use Rattle.std.proofs.lemmas.List.{reverse-append}
 use Rattle.uset_grammar.specs.Tree.{Member}
-use Rattle.uset_steps.specs.declared.named_set.Named.{Named as Entry}
+use Rattle.uset_steps.specs.declared.named_set.NamedSet.{NamedSet}
 use Rattle.uset_steps.specs.declared.step.Operation.{Operation}
 use Rattle.uset_steps.specs.declared.step.Operation.TheVariants.{Join, Remove, Retain}
 use Rattle.uset_steps.specs.declared.step.Step.{Step}
 use Rattle.uset_steps.specs.declared.step.Step.TheVariants.{Range, Text, Set, Named}
 use Rattle.uset_steps.specs.Names.{named_in}
-use Rattle.uset_steps.specs.Steps.{operated, entered, step_done, steps_done, names_none, retains, is_side, is_about, occurs}
+use Rattle.uset_steps.specs.Steps.{operated, with_kept, step_done, steps_done, names_none, retains, is_side, is_about, occurs}
 
 -- one more step
-pub done_more : (es : List Entry) (ss : List Step) (s : Step) (m : Member) (b : Bool) → steps_done es (ss ++ s ∷ []) m b ≡ step_done es s m (steps_done es ss m b)
-done_more es [] s m b = refl
-done_more es (t ∷ ss) s m b = done_more es ss s m (step_done es t m b)
+pub done_more : (sets : List NamedSet) (ss : List Step) (s : Step) (m : Member) (b : Bool) → steps_done sets (ss ++ s ∷ []) m b ≡ step_done sets s m (steps_done sets ss m b)
+done_more sets [] s m b = refl
+done_more sets (t ∷ ss) s m b = done_more sets ss s m (step_done sets t m b)
 
-pub done_append : (es : List Entry) (xs ys : List Step) (m : Member) (b : Bool) → steps_done es (xs ++ ys) m b ≡ steps_done es ys m (steps_done es xs m b)
-done_append es [] ys m b = refl
-done_append es (x ∷ xs) ys m b = done_append es xs ys m (step_done es x m b)
+pub done_append : (sets : List NamedSet) (xs ys : List Step) (m : Member) (b : Bool) → steps_done sets (xs ++ ys) m b ≡ steps_done sets ys m (steps_done sets xs m b)
+done_append sets [] ys m b = refl
+done_append sets (x ∷ xs) ys m b = done_append sets xs ys m (step_done sets x m b)
 
--- a step that names no entry
-pub none_named : (es : List Entry) (s : Step) (m : Member) (b : Bool) → names_none s ≡ true → step_done es s m b ≡ step_done [] s m b
-none_named es (Range span) m b h = refl
-none_named es (Text spelled) m b h = refl
-none_named es (Set operation set) m b h = refl
-none_named es (Named operation place) m b h = absurd (let e = h in cc)
+-- a step that names no set that is kept
+pub none_named : (sets : List NamedSet) (s : Step) (m : Member) (b : Bool) → names_none s ≡ true → step_done sets s m b ≡ step_done [] s m b
+none_named sets (Range span) m b h = refl
+none_named sets (Text spelled) m b h = refl
+none_named sets (Set operation set) m b h = refl
+none_named sets (Named operation place) m b h = absurd (let e = h in cc)
 
 -- what an operation has the last word on: what the set has, or what it lacks
 touched : Bool → Bool → Bool
@@ -68,7 +68,7 @@ decides Retain true false false false side h = refl
 decides Retain true true b c side h = absurd (let e = h in cc)
 decides Retain false has b c side h = absurd (let e = side in cc)
 
-both : (a b : Bool) → (a && b) ≡ true → (a ≡ true) × (b ≡ true)
+pub both : (a b : Bool) → (a && b) ≡ true → (a ≡ true) × (b ≡ true)
 both true true h = (refl, refl)
 both true false h = absurd (let e = h in cc)
 both false b h = absurd (let e = h in cc)
@@ -77,7 +77,7 @@ either : (a b : Bool) → (a || b) ≡ true → (a ≡ true) ⊎ (b ≡ true)
 either true b h = inl refl
 either false b h = inr h
 
--- a step is about one entry, on one side
+-- a step is about one set, on one side
 one_side : (outside other b : Bool) → is_side outside b ≡ true → is_side other b ≡ true → outside ≡ other
 one_side true true b h k = refl
 one_side false false b h k = refl
@@ -95,72 +95,72 @@ about_one (Range span) outside other place elsewhere h k = absurd (let e = h in 
 about_one (Text spelled) outside other place elsewhere h k = absurd (let e = h in cc)
 about_one (Set operation set) outside other place elsewhere h k = absurd (let e = h in cc)
 
--- a step about an entry: what it makes is what the operation makes with that entry
-record Acts (es : List Entry) (s : Step) (outside : Bool) (place : ℕ) : Type 0 where
+-- a step about a set that is kept: what it makes is what the operation makes with that set
+record Acts (sets : List NamedSet) (s : Step) (outside : Bool) (place : ℕ) : Type 0 where
   operation : Operation
   side : is_side outside (retains operation) ≡ true
-  does : (m : Member) (b : Bool) → step_done es s m b ≡ entered operation (slice_get es place) m b
+  does : (m : Member) (b : Bool) → step_done sets s m b ≡ with_kept operation (slice_get sets place) m b
 
-acts : (es : List Entry) (s : Step) (outside : Bool) (place : ℕ) → is_about outside place s ≡ true → Acts es s outside place
-acts es (Named operation p) outside place h =
+acts : (sets : List NamedSet) (s : Step) (outside : Bool) (place : ℕ) → is_about outside place s ≡ true → Acts sets s outside place
+acts sets (Named operation p) outside place h =
     let x = both (is_side outside (retains operation)) (p == place) h in record {
       operation = operation;
       side = x.0;
-      does = λ m b. ap (λ i. entered operation (slice_get es i) m b) (eqb-true p place x.1);
+      does = λ m b. ap (λ i. with_kept operation (slice_get sets i) m b) (eqb-true p place x.1);
     }
-acts es (Range span) outside place h = absurd (let e = h in cc)
-acts es (Text spelled) outside place h = absurd (let e = h in cc)
-acts es (Set operation set) outside place h = absurd (let e = h in cc)
+acts sets (Range span) outside place h = absurd (let e = h in cc)
+acts sets (Text spelled) outside place h = absurd (let e = h in cc)
+acts sets (Set operation set) outside place h = absurd (let e = h in cc)
 
-module _ (es : List Entry) (outside : Bool) (place : ℕ) (m : Member) (entry : Entry) (is : slice_get es place ≡ Some entry) where
-  does_with : (s : Step) (a : Acts es s outside place) (b : Bool) → step_done es s m b ≡ operated a.operation (named_in entry.set m) b
-  does_with s a b = a.does m b ∙ ap (λ e. entered a.operation e m b) is
+module _ (sets : List NamedSet) (outside : Bool) (place : ℕ) (m : Member) (set : NamedSet) (is : slice_get sets place ≡ Some set) where
+  does_with : (s : Step) (a : Acts sets s outside place) (b : Bool) → step_done sets s m b ≡ operated a.operation (named_in set m) b
+  does_with s a b = a.does m b ∙ ap (λ e. with_kept a.operation e m b) is
 
   -- where a step behind decides, all that stands before is alike
-  all_alike : (ss : List Step) → touched outside (named_in entry.set m) ≡ true → occurs outside place ss ≡ true → (b c : Bool) → steps_done es ss m b ≡ steps_done es ss m c
+  all_alike : (ss : List Step) → touched outside (named_in set m) ≡ true → occurs outside place ss ≡ true → (b c : Bool) → steps_done sets ss m b ≡ steps_done sets ss m c
   all_alike [] h there b c = absurd (let e = there in cc)
   all_alike (s ∷ ss) h there b c = elim (either (is_about outside place s) (occurs outside place ss) there) [
     | inl here ↦ (
-        let a = acts es s outside place here in
-        ap (steps_done es ss m)
-        (does_with s a b ∙ (decides a.operation outside (named_in entry.set m) b c a.side h ∙ sym (does_with s a c))))
-    | inr behind ↦ all_alike ss h behind (step_done es s m b) (step_done es s m c)
+        let a = acts sets s outside place here in
+        ap (steps_done sets ss m)
+        (does_with s a b ∙ (decides a.operation outside (named_in set m) b c a.side h ∙ sym (does_with s a c))))
+    | inr behind ↦ all_alike ss h behind (step_done sets s m b) (step_done sets s m c)
   ]
 
-  passes : (s : Step) (ss : List Step) (b : Bool) → is_about outside place s ≡ true → occurs outside place ss ≡ true → steps_done es ss m (step_done es s m b) ≡ steps_done es ss m b
-  passes s ss b about there = elim (cases_Bool (touched outside (named_in entry.set m))) [
-    | inl it ↦ all_alike ss it there (step_done es s m b) b
+  passes : (s : Step) (ss : List Step) (b : Bool) → is_about outside place s ≡ true → occurs outside place ss ≡ true → steps_done sets ss m (step_done sets s m b) ≡ steps_done sets ss m b
+  passes s ss b about there = elim (cases_Bool (touched outside (named_in set m))) [
+    | inl it ↦ all_alike ss it there (step_done sets s m b) b
     | inr it ↦ (
-        let a = acts es s outside place about in
-        ap (steps_done es ss m) (does_with s a b ∙ idle a.operation outside (named_in entry.set m) b a.side it))
+        let a = acts sets s outside place about in
+        ap (steps_done sets ss m) (does_with s a b ∙ idle a.operation outside (named_in set m) b a.side it))
   ]
 
--- a step has no effect where one behind it is about the same entry, on the same side
-pub no_effect : (es : List Entry) (s : Step) (ss : List Step) (outside : Bool) (place : ℕ) (m : Member) (b : Bool) → is_about outside place s ≡ true → occurs outside place ss ≡ true →
-    steps_done es ss m (step_done es s m b) ≡ steps_done es ss m b
-no_effect es s ss outside place m b about there = by (slice_get es place) refl
+-- a step has no effect where one behind it is about the same set, on the same side
+pub no_effect : (sets : List NamedSet) (s : Step) (ss : List Step) (outside : Bool) (place : ℕ) (m : Member) (b : Bool) → is_about outside place s ≡ true → occurs outside place ss ≡ true →
+    steps_done sets ss m (step_done sets s m b) ≡ steps_done sets ss m b
+no_effect sets s ss outside place m b about there = by (slice_get sets place) refl
   where
-    by : (o : Option Entry) → slice_get es place ≡ o → steps_done es ss m (step_done es s m b) ≡ steps_done es ss m b
-    by (Some entry) is = passes es outside place m entry is s ss b about there
+    by : (o : Option NamedSet) → slice_get sets place ≡ o → steps_done sets ss m (step_done sets s m b) ≡ steps_done sets ss m b
+    by (Some set) is = passes sets outside place m set is s ss b about there
     by None is =
-        let a = acts es s outside place about in
-        ap (steps_done es ss m) (a.does m b ∙ ap (λ e. entered a.operation e m b) is)
+        let a = acts sets s outside place about in
+        ap (steps_done sets ss m) (a.does m b ∙ ap (λ e. with_kept a.operation e m b) is)
 
 -- the last step of those that are left goes to the front of those that are kept
-pub kept_more : (es : List Entry) (left kept next : List Step) (s : Step) (m : Member) (b : Bool) → next ≡ kept ++ s ∷ [] → steps_done es (left ++ reverse next) m b ≡ steps_done es ((left ++ s ∷ []) ++ reverse kept) m b
-kept_more es left kept next s m b is =
-    ap (λ ss. steps_done es (left ++ ss) m b) (ap reverse is ∙ reverse-append kept (s ∷ []))
-    ∙ ap (λ ss. steps_done es ss m b) (sym (append_assoc left (s ∷ []) (reverse kept)))
+pub kept_more : (sets : List NamedSet) (left kept next : List Step) (s : Step) (m : Member) (b : Bool) → next ≡ kept ++ s ∷ [] → steps_done sets (left ++ reverse next) m b ≡ steps_done sets ((left ++ s ∷ []) ++ reverse kept) m b
+kept_more sets left kept next s m b is =
+    ap (λ ss. steps_done sets (left ++ ss) m b) (ap reverse is ∙ reverse-append kept (s ∷ []))
+    ∙ ap (λ ss. steps_done sets ss m b) (sym (append_assoc left (s ∷ []) (reverse kept)))
 
 -- or it is passed over
-pub passed_over : (es : List Entry) (left kept : List Step) (s : Step) (outside : Bool) (place : ℕ) (m : Member) (b : Bool) → is_about outside place s ≡ true → occurs outside place (reverse kept) ≡ true →
-    steps_done es (left ++ reverse kept) m b ≡ steps_done es ((left ++ s ∷ []) ++ reverse kept) m b
-passed_over es left kept s outside place m b about there =
-    done_append es left (reverse kept) m b
-    ∙ (sym (no_effect es s (reverse kept) outside place m (steps_done es left m b) about there)
-    ∙ (ap (steps_done es (reverse kept) m) (sym (done_more es left s m b)) ∙ sym (done_append es (left ++ s ∷ []) (reverse kept) m b)))
+pub passed_over : (sets : List NamedSet) (left kept : List Step) (s : Step) (outside : Bool) (place : ℕ) (m : Member) (b : Bool) → is_about outside place s ≡ true → occurs outside place (reverse kept) ≡ true →
+    steps_done sets (left ++ reverse kept) m b ≡ steps_done sets ((left ++ s ∷ []) ++ reverse kept) m b
+passed_over sets left kept s outside place m b about there =
+    done_append sets left (reverse kept) m b
+    ∙ (sym (no_effect sets s (reverse kept) outside place m (steps_done sets left m b) about there)
+    ∙ (ap (steps_done sets (reverse kept) m) (sym (done_more sets left s m b)) ∙ sym (done_append sets (left ++ s ∷ []) (reverse kept) m b)))
 
--- a step about an entry is among those that are kept with it
+-- a step about a set is among those that are kept with it
 pub occurs_more : (outside : Bool) (place : ℕ) (kept next : List Step) (s : Step) → next ≡ kept ++ s ∷ [] → (occurs outside place (reverse kept) ≡ true) ⊎ (is_about outside place s ≡ true) →
     occurs outside place (reverse next) ≡ true
 occurs_more outside place kept next s is h =
@@ -171,7 +171,7 @@ occurs_more outside place kept next s is h =
     or_true false b (inl e) = e
     or_true false b (inr e) = absurd (let g = e in cc)
 
--- an entry that is marked by a step which is passed over was marked before
+-- a set that is marked by a step which is passed over was marked before
 pub about_again : (s : Step) (outside other : Bool) (place elsewhere : ℕ) (P : Bool → ℕ → Type 0) → is_about other elsewhere s ≡ true → P other elsewhere → P outside place ⊎ (is_about outside place s ≡ true) → P outside place
 about_again s outside other place elsewhere P about h (inl before) = before
 about_again s outside other place elsewhere P about h (inr again) =

@@ -1,15 +1,16 @@
 -- Sets in the making whose steps are put off.
-use Rattle.std.specs.Prelude.{◌≡◌, Bool, true, List, [], Option, Some, None, is_some, Box, if◌then◌else◌}
+use Rattle.std.specs.Prelude.{◌≡◌, ℕ, Bool, true, Option, Some, None, is_some, slice_get, Box, if◌then◌else◌}
 use Rattle.std.specs.Global.{Global}
 use Rattle.uset_grammar.specs.Tree.{Member, negation}
 use Rattle.uset_gather.specs.Gathered.{gathered_in}
 use Rattle.uset_steps.specs.declared.gathering.Gathering.{Gathering}
 use Rattle.uset_steps.specs.declared.later.Later.{Later}
 use Rattle.uset_steps.specs.declared.gathering.Place.{Place}
-use Rattle.uset_steps.specs.declared.named_set.Named.{Named}
+use Rattle.uset_steps.specs.declared.named_set.NamedSet.{NamedSet}
 use Rattle.uset_steps.specs.declared.step.Operation.{Operation}
 use Rattle.uset_steps.specs.Names.{Name, Sets, StandsFor}
-use Rattle.uset_steps.specs.Steps.{operated, IsEntryOf}
+use Rattle.uset_steps.specs.Places.{IsPlaceIn}
+use Rattle.uset_steps.specs.Steps.{operated}
 use Rattle.uset_steps.specs.Later.{later_done, LaterFits}
 
 -- whether something is a member behind the steps that were put off, where there are some
@@ -33,14 +34,28 @@ closed negated m b = if negated then negation m b else b
 abbrev pub Fits : Sets → Gathering → Type 0
 Fits sets g = BehindFits sets g.later
 
--- the sets that are kept under names
-abbrev pub entries_of : Option (Box Later Global) → List Named
-entries_of None = []
-entries_of (Some later) = later.value.entries.items
+-- the set that is kept at the place, where one is
+abbrev pub kept_behind : Option (Box Later Global) → ℕ → Option NamedSet
+kept_behind None place = None
+kept_behind (Some later) place = slice_get later.value.sets.items place
 
--- a set is kept under the name at this place
+abbrev pub kept_at : Gathering → Place → Option NamedSet
+kept_at g place = kept_behind g.later place.index
+
+-- the set with this name is kept at the place
+abbrev pub IsPlaceBehind : Option (Box Later Global) → Name → ℕ → Type 0
+IsPlaceBehind None name place = ⊥
+IsPlaceBehind (Some later) name place = IsPlaceIn later.value.places name place
+
 abbrev pub IsPlaceOf : Gathering → Name → Place → Type 0
-IsPlaceOf g name place = IsEntryOf name (entries_of g.later) place.index
+IsPlaceOf g name place = IsPlaceBehind g.later name place.index
+
+-- it is kept at some place, or at none
+abbrev pub IsSomewhere : Gathering → Name → Type 0
+IsSomewhere g name = (place : ℕ) × IsPlaceBehind g.later name place
+
+abbrev pub IsNowhere : Gathering → Name → Type 0
+IsNowhere g name = (place : ℕ) → IsPlaceBehind g.later name place → ⊥
 
 -- the same sets are kept at their places
 abbrev pub KeepsPlaces : Gathering → Gathering → Type 0
@@ -61,8 +76,8 @@ pub record BecomesWith (sets : Sets) (new : Gathering) (members : Member → Boo
   pub fits : Fits sets new
 
 -- The name stands for a set, where each set that is kept is the one that its name stands for.
-abbrev pub IsKept : Gathering → Name → Type 0
-IsKept g name = (sets : Sets) → Fits sets g → is_some (sets name) ≡ true
+abbrev pub StandsForSome : Gathering → Name → Type 0
+StandsForSome g name = (sets : Sets) → Fits sets g → is_some (sets name) ≡ true
 
 -- The set that is kept at the place was gathered, which is the one that its name stands for.
 abbrev pub GathersKept : Operation → Place → Gathering → Gathering → Type 0

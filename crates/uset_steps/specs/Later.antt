@@ -1,20 +1,41 @@
 -- What the steps that are put off make of a set, and the sets that they name.
-use Rattle.std.specs.Prelude.{◌≡◌, ℕ, Bool, length}
+use Rattle.std.specs.Prelude.{◌≡◌, ℕ, Bool, List, ◌++◌, Some, length, slice_get}
 use Rattle.uset_grammar.specs.Tree.{Member}
 use Rattle.uset_steps.specs.declared.later.Later.{Later}
 use Rattle.uset_steps.specs.declared.step.Operation.{Operation}
 use Rattle.uset_steps.specs.declared.named_set.Named.{Named}
-use Rattle.uset_steps.specs.Names.{Name, Sets, StandsFor, IsSetOf, named_in}
-use Rattle.uset_steps.specs.Steps.{operated, IsEntryOf, steps_done, EntriesFit, AreWithin}
+use Rattle.uset_steps.specs.declared.named_set.NamedSet.{NamedSet}
+use Rattle.uset_steps.specs.Names.{Name, Sets, name_seen, named_in, StandsFor, IsSetOf}
+use Rattle.uset_steps.specs.Places.{IsPlaceIn}
+use Rattle.uset_steps.specs.Steps.{operated, steps_done, AreWithin}
 
 -- whether something is a member once the steps are done that were put off, by whether it was one
 abbrev pub later_done : Later → Member → Bool → Bool
-later_done later m b = steps_done later.entries.items later.steps.items m b
+later_done later m b = steps_done later.sets.items later.steps.items m b
 
--- Each set that is kept is the one that its name stands for, and the steps name no other.
+-- the set that is kept at the place is the one that the name stands for
+abbrev pub IsKeptAt : Sets → List NamedSet → Name → ℕ → Type 0
+IsKeptAt sets kept name place = (set : NamedSet) × (slice_get kept place ≡ Some set) × StandsFor sets name (named_in set)
+
+-- Each set that is kept is the one that its name stands for.
+abbrev pub KeptFit : Sets → Later → Type 0
+KeptFit sets later = (name : Name) (place : ℕ) → IsPlaceIn later.places name place → IsKeptAt sets later.sets.items name place
+
+-- the same, and the steps name no set but those that are kept
 pub record LaterFits (sets : Sets) (later : Later) : Type 0 where
-  pub entries : EntriesFit sets later.entries.items
-  pub within : AreWithin (length later.entries.items) later.steps.items
+  pub kept : KeptFit sets later
+  pub within : AreWithin (length later.sets.items) later.steps.items
+
+-- The set that the name stands for is kept at this place, and all sets that were kept stand where they did.
+pub record IsKept (sets : Sets) (name : Name) (old new : Later) (place : ℕ) : Type 0 where
+  pub more : List NamedSet
+  pub grown : new.sets.items ≡ old.sets.items ++ more
+  pub fits : KeptFit sets old → KeptFit sets new
+  pub set : KeptFit sets old → IsKeptAt sets new.sets.items name place
+
+-- the named set is kept, whatever its name stands for where that is this set
+abbrev pub Keeps : Named → Later → Later → ℕ → Type 0
+Keeps named old new place = (sets : Sets) → IsSetOf sets named → IsKept sets (name_seen named.name) old new place
 
 -- the set was gathered last
 pub record Gathers (sets : Sets) (operation : Operation) (set : Member → Bool) (old new : Later) : Type 0 where
@@ -27,5 +48,5 @@ GathersNamed operation named old new = (sets : Sets) → LaterFits sets old → 
 
 -- the same of the set that is kept at a place
 abbrev pub GathersAgain : Operation → ℕ → Later → Later → Type 0
-GathersAgain operation place old new = (sets : Sets) (name : Name) (set : Member → Bool) → LaterFits sets old → IsEntryOf name old.entries.items place →
+GathersAgain operation place old new = (sets : Sets) (name : Name) (set : Member → Bool) → LaterFits sets old → IsPlaceIn old.places name place →
     StandsFor sets name set → Gathers sets operation set old new

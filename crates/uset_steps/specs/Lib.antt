@@ -1,4 +1,5 @@
 pub mod Names
+pub mod Places
 pub mod Steps
 pub mod Seen
 pub mod Later

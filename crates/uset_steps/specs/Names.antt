@@ -1,5 +1,5 @@
 -- The names of sets, and the sets that they stand for.
-use Rattle.std.specs.Prelude.{◌≡◌, ℕ, Bool, List, Option, Some}
+use Rattle.std.specs.Prelude.{◌≡◌, ℕ, ◌/◌, Bool, ◌||◌, nat_le, List, length, Option, Some}
 use Rattle.std.specs.String.{string_bytes}
 use Rattle.cp_invlist.specs.InversionList.{contains}
 use Rattle.uset_grammar.specs.Property.{Query}
@@ -26,6 +26,12 @@ abbrev pub named_in : NamedSet → Member → Bool
 named_in (Set set) m = in_set set.now m
 named_in (CodePoints source) m = in_source (contains (list_in source)) m
 named_in (Complement source) m = negation m (in_source (contains (list_in source)) m)
+
+-- so many ranges, or strings, that the set is kept
+abbrev pub is_large : NamedSet → Bool
+is_large (Set set) = nat_le 32 (length set.now.code_points / 2) || nat_le 4 (length set.now.strings)
+is_large (CodePoints source) = nat_le 32 (length (list_in source) / 2)
+is_large (Complement source) = nat_le 32 (length (list_in source) / 2)
 
 -- the set that each name stands for, by its members, where it stands for one
 abbrev pub Sets : Type 0

@@ -2,7 +2,7 @@
 ghost use Rattle.std.specs.Prelude.{◌≡◌, ◌⊎◌, ℕ, Bool, true, Some, List, reverse, slice_get, IfOk};
 ghost use Rattle.std.specs.Bool.{OnTrue};
 ghost use Rattle.uset_grammar.specs.Tree.{Member};
-ghost use Rattle.uset_steps.specs.declared.named_set.Named.{Named as Entry};
+ghost use Rattle.uset_steps.specs.declared.named_set.NamedSet.{NamedSet};
 ghost use Rattle.uset_steps.specs.Steps.{steps_done};
 
 use crate::step::{Operation, Step};
@@ -10,7 +10,7 @@ use cp_invlist::NoMemory;
 use std::alloc::Global;
 use std::mem::replace;
 
-/// Which entries are named in the steps behind a place.
+/// Which of the sets that are kept are named in the steps behind a place.
 #[derive(Drop)]
 struct Seen {
     /// Those that are joined or taken away: each step decides what becomes of all that their set has.
@@ -35,13 +35,13 @@ impl Seen {
     ghost use Rattle.std.specs.Bool.{OnTrue};
     ghost use Rattle.uset_steps.specs.Seen.{IsSeen, IsRepeated, MarksOnly};
 
-    /// None of so many entries.
-    fn new(alloc: Global, entries: usize) -> Result<Seen, NoMemory>
+    /// None of so many sets.
+    fn new(alloc: Global, sets: usize) -> Result<Seen, NoMemory>
         ensures { IfOk result (λ seen. (outside : Bool) (place : ℕ) → IsSeen seen outside place → false ≡ true) }
     {
         Ok(Seen {
-            inside: vec![in alloc; false; entries]?,
-            outside: vec![in alloc; false; entries]?,
+            inside: vec![in alloc; false; sets]?,
+            outside: vec![in alloc; false; sets]?,
         })
     }
 
@@ -61,16 +61,16 @@ impl Seen {
     }
 }
 
-/// The steps that have an effect, the last in front: one that gathers an entry's set is passed over where a step behind it
+/// The steps that have an effect, the last in front: one that gathers a set that is kept is passed over where a step behind it
 /// decides about the same members.
 pub(crate) fn counting(
     alloc: Global,
     mut steps: Vec<Step>,
-    entries: usize,
+    sets: usize,
 ) -> Result<Vec<Step>, NoMemory>
-    ensures { IfOk result (λ kept. (es : List Entry) (m : Member) (b : Bool) → steps_done es (reverse kept.items) m b ≡ steps_done es steps.items m b) }
+    ensures { IfOk result (λ kept. (sets : List NamedSet) (m : Member) (b : Bool) → steps_done sets (reverse kept.items) m b ≡ steps_done sets steps.items m b) }
 {
-    let mut seen = Seen::new(alloc, entries)?;
+    let mut seen = Seen::new(alloc, sets)?;
     let mut kept = Vec::new(alloc);
     while let Some(step) = steps.pop() {
         if !seen.note(&step) {

@@ -24,16 +24,16 @@ pub struct Place {
 }
 
 impl<'a> Gathering<'a> {
-    ghost use Rattle.std.specs.Prelude.{◌≡◌, ◌≤◌, ◌||◌, false, None, IfSome, IfOk, OnOk};
+    ghost use Rattle.std.specs.Prelude.{◌≡◌, ◌≤◌, ◌||◌, true, false, None, IfSome, IfNone, IfOk, OnOk};
     ghost use Rattle.std.specs.Str.{chars};
     ghost use Rattle.std.specs.String.{string_bytes};
     ghost use Rattle.cp_strset.specs.StringList.{sole_of};
     ghost use Rattle.uset_grammar.specs.Tree.{Member, in_range};
     ghost use Rattle.uset_gather.specs.Gathered.{gathered_in, is_string};
     ghost use Rattle.uset_read.specs.Queries.{query_seen};
-    ghost use Rattle.uset_steps.specs.Names.{property, Sets, IsSetOf, named_in};
+    ghost use Rattle.uset_steps.specs.Names.{property, Sets, IsSetOf, name_seen, named_in, is_large};
     ghost use Rattle.uset_steps.specs.Steps.{operated};
-    ghost use Rattle.uset_steps.specs.Gathering.{gathering_in, closed, Fits, IsPlaceOf, IsKept, GathersKept, KeepsPlaces, Settles, Becomes, BecomesWith};
+    ghost use Rattle.uset_steps.specs.Gathering.{gathering_in, closed, kept_at, Fits, IsPlaceOf, IsNowhere, IsSomewhere, StandsForSome, GathersKept, KeepsPlaces, Settles, Becomes, BecomesWith};
 
     /// Nothing yet.
     pub fn new(alloc: Global) -> Gathering<'a>
@@ -62,7 +62,8 @@ impl<'a> Gathering<'a> {
     /// Adds a string, which isn't one character.
     pub fn add_text(&mut self, alloc: Global, text: String) -> Result<(), NoMemory>
         requires { sole_of (chars (string_bytes text)) ≡ None }
-        ensures { OnOk result (Becomes self.old self.new (λ m. gathering_in self.old m || is_string (string_bytes text) m)) }
+        ensures becomes { OnOk result (Becomes self.old self.new (λ m. gathering_in self.old m || is_string (string_bytes text) m)) }
+        ensures places { OnOk result (KeepsPlaces self.old self.new) }
     {
         match &mut self.later {
             Some(later) => later.put_off(Step::Text(Box::new(alloc, Spelled::new(text))?)),
@@ -94,7 +95,7 @@ impl<'a> Gathering<'a> {
         }
     }
 
-    /// Gathers what another bracket gathered.
+    /// Gathers what another bracket gathered. The places that were told may end with it, as with `gather_named`.
     #[inline]
     pub fn gather(
         &mut self,
@@ -112,15 +113,16 @@ impl<'a> Gathering<'a> {
     }
 
     /// Gathers a set with a name. Each name stands for one set: whatever `sets` gives the names, where it gives those that were
-    /// told before the sets that were told with them, and so this one.
+    /// told before the sets that were told with them, and so this one. A large set is kept.
     pub fn gather_named(
         &mut self,
         alloc: Global,
         operation: Operation,
         named: Named<'a>,
     ) -> Result<(), NoMemory>
-        ensures { OnOk result ((sets : Sets) → Fits sets self.old → IsSetOf sets named.entry →
+        ensures becomes { OnOk result ((sets : Sets) → Fits sets self.old → IsSetOf sets named.entry →
             BecomesWith sets self.new (λ m. operated operation (named_in named.entry.set m) (gathering_in self.old m))) }
+        ensures kept { OnOk result (is_large named.entry.set ≡ true → IsSomewhere self.new (name_seen named.entry.name)) }
     {
         self.make_way(alloc)?;
         let mut later = match self.later.take() {
@@ -130,28 +132,29 @@ impl<'a> Gathering<'a> {
                 return gather(alloc, &mut self.gathered, operation, named.set.operand());
             }
         };
-        later.put_off_named(alloc, operation, named)?;
+        later.put_off_named(operation, named)?;
         self.later = Some(later);
         Ok(())
     }
 
-    /// Where the set of the property is kept, if it is found.
-    pub fn place_of(&self, alloc: Global, query: &Query) -> Result<Option<Place>, NoMemory>
-        ensures place { IfOk result (λ found. IfSome found (IsPlaceOf self.now (property (query_seen query.now)))) }
-        ensures set { IfOk result (λ found. IfSome found (λ place. IsKept self.now (property (query_seen query.now)))) }
+    /// Where the set of the property is kept, if it is.
+    pub fn place_of(&self, query: &Query) -> Option<Place>
+        ensures found { IfSome result (IsPlaceOf self.now (property (query_seen query.now))) }
+        ensures stands { IfSome result (λ place. StandsForSome self.now (property (query_seen query.now))) }
+        ensures absent { IfNone result (IsNowhere self.now (property (query_seen query.now))) }
     {
         let Some(later) = &self.later else {
-            return Ok(None);
+            return None;
         };
-        match later.place_of(alloc, query)? {
-            Some(index) => Ok(Some(Place { index })),
-            None => Ok(None),
-        }
+        let index = later.place_of(query)?;
+        Some(Place { index })
     }
 
-    /// Gathers the set that is kept at this place, as `gather_named` does the set that its name stands for.
+    /// Gathers the set that is kept at this place, as `gather_named` does the set that its name stands for, and nothing where
+    /// none is kept there, as at a place that another bracket told.
     pub fn gather_again(&mut self, operation: Operation, place: Place) -> Result<(), NoMemory>
-        ensures { OnOk result (GathersKept operation place self.old self.new) }
+        ensures gathers { OnOk result (GathersKept operation place self.old self.new) }
+        ensures elsewhere { OnOk result (kept_at self.old place ≡ None → Settles self.old self.new) }
     {
         match &mut self.later {
             Some(later) => later.put_off_again(operation, place.index),

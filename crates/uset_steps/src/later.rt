@@ -1,15 +1,14 @@
 //! Steps that are put off, with the named sets that they gather.
 use crate::counting::counting;
-use crate::name::{Name, query_text};
-use crate::named_set::Named;
+use crate::named_set::{Named, NamedSet};
+use crate::places::Places;
 use crate::step::{Operation, Step};
 use cp_invlist::NoMemory;
 use std::alloc::Global;
-use std::collections::BTreeMap;
 use uset_gather::Gathered;
 use uset_read::Query;
 
-/// What an entry or a step takes beside the ranges of its set, in ranges.
+/// What a set that is kept or a step takes beside the ranges of its set, in ranges.
 const SHARE: usize = 32;
 
 /// From so many ranges on the steps are done before more are put off: one property has names without number, since names that are
@@ -19,22 +18,22 @@ const FULL: usize = 1 << 20;
 /// Steps that are put off, the first in front, and the sets that they name, each once.
 #[derive(Drop)]
 pub(crate) struct Later<'a> {
-    /// The place of an entry, by a text of its name.
-    places: BTreeMap<String, usize>,
-    entries: Vec<Named<'a>>,
+    places: Places,
+    sets: Vec<NamedSet<'a>>,
     steps: Vec<Step>,
     /// About how much memory is kept, in ranges.
     kept: usize,
 }
 
 impl<'a> Later<'a> {
-    ghost use Rattle.std.specs.Prelude.{◌≡◌, Bool, true, [], IfSome, IfOk, OnOk};
+    ghost use Rattle.std.specs.Prelude.{◌≡◌, Bool, true, [], None, slice_get, IfSome, IfNone, IfOk, OnOk};
     ghost use Rattle.uset_grammar.specs.Tree.{Member};
     ghost use Rattle.uset_gather.specs.Gathered.{gathered_in};
     ghost use Rattle.uset_read.specs.Queries.{query_seen};
     ghost use Rattle.uset_steps.specs.Names.{property, Sets, name_seen};
-    ghost use Rattle.uset_steps.specs.Steps.{operated, step_done, names_none, IsEntryOf, Enters};
-    ghost use Rattle.uset_steps.specs.Later.{later_done, LaterFits, GathersNamed, GathersAgain};
+    ghost use Rattle.uset_steps.specs.Steps.{operated, step_done, names_none};
+    ghost use Rattle.uset_steps.specs.Places.{IsPlaceIn, HasNoPlace, HasPlace};
+    ghost use Rattle.uset_steps.specs.Later.{later_done, LaterFits, Keeps, GathersNamed, GathersAgain};
 
     /// None yet.
     pub(crate) fn new(alloc: Global) -> Later<'a>
@@ -42,8 +41,8 @@ impl<'a> Later<'a> {
         ensures names { (sets : Sets) → LaterFits sets result }
     {
         Later {
-            places: BTreeMap::new(alloc),
-            entries: Vec::new(alloc),
+            places: Places::new(alloc),
+            sets: Vec::new(alloc),
             steps: Vec::new(alloc),
             kept: 0,
         }
@@ -55,7 +54,7 @@ impl<'a> Later<'a> {
         requires { names_none step ≡ true }
         ensures members { OnOk result ((m : Member) (b : Bool) → later_done self.new m b ≡ step_done [] step m (later_done self.old m b)) }
         ensures names { OnOk result ((sets : Sets) → LaterFits sets self.old → LaterFits sets self.new) }
-        ensures entries { self.new.entries ≡ self.old.entries }
+        ensures places { self.new.places ≡ self.old.places }
     {
         self.steps.push(step)?;
         Ok(())
@@ -82,67 +81,58 @@ impl<'a> Later<'a> {
         self.kept >= FULL
     }
 
-    /// The place and the name of the entry that a text of its name finds, where there is one.
-    fn find(&self, text: &str) -> Option<(usize, &Name)>
-        ensures { IfSome result (λ p. IsEntryOf (name_seen p.1.now) self.now.entries.items p.0) }
+    /// The place of the set of a property, if it is kept.
+    pub(crate) fn place_of(&self, query: &Query) -> Option<usize>
+        ensures found { IfSome result (IsPlaceIn self.now.places (property (query_seen query.now))) }
+        ensures absent { IfNone result (HasNoPlace self.now.places (property (query_seen query.now))) }
     {
-        let place = *self.places.get(text)?;
-        let entry = self.entries.get(place)?;
-        Some((place, &entry.name))
+        self.places.of_property(query)
     }
 
-    /// The place of the entry of a property, where there is one.
-    pub(crate) fn place_of(&self, alloc: Global, query: &Query) -> Result<Option<usize>, NoMemory>
-        ensures { IfOk result (λ place. IfSome place (IsEntryOf (property (query_seen query.now)) self.now.entries.items)) }
-    {
-        let text = query_text(alloc, query)?;
-        match self.find(&text) {
-            Some((place, name)) if name.asks(query) => Ok(Some(place)),
-            _ => Ok(None),
-        }
-    }
-
-    /// The place of the name's entry, which is made where there is none.
-    fn enter(&mut self, alloc: Global, named: Named<'a>) -> Result<usize, NoMemory>
-        ensures entered { IfOk result (Enters named.entry self.old.entries.items self.new.entries.items) }
+    /// The place of the set with this name, which is kept from now on where it was not before.
+    fn keep(&mut self, named: Named<'a>) -> Result<usize, NoMemory>
+        ensures kept { IfOk result (Keeps named.entry self.old self.new) }
         ensures steps { self.new.steps ≡ self.old.steps }
+        ensures placed { OnOk result (HasPlace self.new.places (name_seen named.entry.name)) }
     {
-        let text = named.name.text(alloc)?;
-        match self.find(&text) {
-            Some((place, name)) if name.is(&named.name) => return Ok(place),
-            _ => {}
+        if let Some(place) = self.places.of(&named.name) {
+            return Ok(place);
         }
-        let place = self.entries.len();
-        let kept = named.set.own_ranges().saturating_add(SHARE);
+        let Named { name, set } = named;
+        let place = self.sets.len();
+        let kept = set.own_ranges().saturating_add(SHARE);
         self.kept = self.kept.saturating_add(kept);
-        self.entries.push(named)?;
-        self.places.insert(text, place)?;
+        self.sets.push(set)?;
+        self.places.add(name, place)?;
         Ok(place)
     }
 
     /// Puts off the gathering of a set with a name. A set that was named before is kept, and this one is forgotten.
     pub(crate) fn put_off_named(
         &mut self,
-        alloc: Global,
         operation: Operation,
         named: Named<'a>,
     ) -> Result<(), NoMemory>
-        ensures { OnOk result (GathersNamed operation named.entry self.old self.new) }
+        ensures gathers { OnOk result (GathersNamed operation named.entry self.old self.new) }
+        ensures placed { OnOk result (HasPlace self.new.places (name_seen named.entry.name)) }
     {
-        let place = self.enter(alloc, named)?;
+        let place = self.keep(named)?;
         self.steps.push(Step::Named(operation, place))?;
         Ok(())
     }
 
-    /// Puts off the gathering of the set at this place once more.
+    /// Puts off the gathering of the set at this place once more, if one is kept there.
     pub(crate) fn put_off_again(
         &mut self,
         operation: Operation,
         place: usize,
     ) -> Result<(), NoMemory>
-        ensures { OnOk result (GathersAgain operation place self.old self.new) }
+        ensures gathers { OnOk result (GathersAgain operation place self.old self.new) }
+        ensures elsewhere { slice_get self.old.sets.items place ≡ None → self.new ≡ self.old }
     {
-        self.steps.push(Step::Named(operation, place))?;
+        if place < self.sets.len() {
+            self.steps.push(Step::Named(operation, place))?;
+        }
         Ok(())
     }
 
@@ -151,11 +141,11 @@ impl<'a> Later<'a> {
     pub(crate) fn done(self, alloc: Global, gathered: Gathered) -> Result<Gathered, NoMemory>
         ensures { IfOk result (λ g. (m : Member) → gathered_in g m ≡ later_done self.entry m (gathered_in gathered m)) }
     {
-        let Later { entries, steps, .. } = self;
-        let mut left = counting(alloc, steps, entries.len())?;
+        let Later { sets, steps, .. } = self;
+        let mut left = counting(alloc, steps, sets.len())?;
         let mut set = gathered;
         while let Some(step) = left.pop() {
-            step.apply(alloc, &mut set, &entries)?;
+            step.apply(alloc, &mut set, &sets)?;
         }
         Ok(set)
     }

@@ -1,5 +1,5 @@
-//! The steps of a bracket (UTS 35, Unicode Sets). Those of large sets with a name are put off until the bracket's set is
-//! needed: then a set that is named again and again is gathered once.
+//! The steps of a bracket (UTS 35, Unicode Sets). From the first large set with a name on they are put off until the bracket's
+//! set is needed: then a set that is named again and again is gathered no more than twice.
 #![tactic(auto)]
 
 mod counting;
@@ -8,6 +8,7 @@ mod later;
 mod literal;
 mod name;
 mod named_set;
+mod places;
 mod step;
 
 pub use gathering::{Gathering, Place};

@@ -33,7 +33,7 @@ impl NamedSet<'_> {
     ghost use Rattle.std.specs.Prelude.{◌≡◌, IfOk};
     ghost use Rattle.uset_grammar.specs.Tree.{Member};
     ghost use Rattle.uset_gather.specs.Gathered.{gathered_in, operand_in};
-    ghost use Rattle.uset_steps.specs.Names.{named_in};
+    ghost use Rattle.uset_steps.specs.Names.{named_in, is_large as is_large_seen};
 
     /// The set, to be gathered.
     pub(crate) fn operand(&self) -> Operand<'_>
@@ -65,7 +65,9 @@ impl NamedSet<'_> {
     }
 
     /// Whether gathering the set takes more time than putting it off.
-    pub(crate) fn is_large(&self) -> bool {
+    pub(crate) fn is_large(&self) -> bool
+        ensures { result ≡ is_large_seen self.now }
+    {
         let (boundaries, strings) = match self {
             NamedSet::Set(set) => {
                 (

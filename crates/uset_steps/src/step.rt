@@ -4,7 +4,7 @@ ghost use Rattle.uset_gather.specs.Gathered.{gathered_in, operand_in, HasMembers
 ghost use Rattle.uset_steps.specs.Steps.{operated};
 
 use crate::literal::{Span, Spelled};
-use crate::named_set::Named;
+use crate::named_set::NamedSet;
 use cp_invlist::NoMemory;
 use std::alloc::Global;
 use uset_gather::{Gathered, Operand};
@@ -29,7 +29,7 @@ pub(crate) enum Step {
     Text(Box<Spelled>),
     /// Gathers what another bracket gathered.
     Set(Operation, Box<Gathered>),
-    /// Gathers the named set with this place among the entries.
+    /// Gathers the named set with this place among those that are kept.
     Named(Operation, usize),
 }
 
@@ -60,9 +60,9 @@ impl Step {
         self,
         alloc: Global,
         gathered: &mut Gathered,
-        entries: &[Named<'_>],
+        sets: &[NamedSet<'_>],
     ) -> Result<(), NoMemory>
-        ensures { OnOk result (HasMembers gathered.new (λ m. step_done entries.now self m (gathered_in gathered.old m))) }
+        ensures { OnOk result (HasMembers gathered.new (λ m. step_done sets.now self m (gathered_in gathered.old m))) }
     {
         match self {
             Step::Range(span) => gathered.add_range(span.range),
@@ -71,8 +71,8 @@ impl Step {
                 let operand = Operand::Gathered(Box::into_inner(set));
                 gather(alloc, gathered, operation, operand)
             }
-            Step::Named(operation, place) => match entries.get(place) {
-                Some(entry) => gather(alloc, gathered, operation, entry.set.operand()),
+            Step::Named(operation, place) => match sets.get(place) {
+                Some(set) => gather(alloc, gathered, operation, set.operand()),
                 None => Ok(()),
             },
         }

@@ -15,16 +15,16 @@ pub returns-in_err-rest-clause-stopped : goal.returns-in_err-rest-clause-stopped
 returns-in_err-rest-clause-stopped c =
     let s = c.args.syntax.now in
     let stop = c.in_err-rest.field-0.0 in
-    let found = rw c.in-Some.is at c.in_ok-place.ensures.set in
+    let found = rw c.in-Some.is at c.place_of.ensures.stands in
     answered_err c.from_residual-in_err-rest.result stop (OperandStopsIn (language_seen s) c.args.gathered.now c.args.text.now) c.from_residual-in_err-rest.ensures (λ fits.
     kept_unclosed s c.args.text.now c.in_ok-form.form c.in_ok-form.query c.in_ok-form.mark.now c.in_ok-form.ensures.read (found (sets_of (language_seen s)) fits) stop c.in_err-rest.ensures.parts)
 
 pub returns-in-Some-clause-read : goal.returns-in-Some-clause-read
 returns-in-Some-clause-read c = λ fits.
     let s = c.args.syntax.now in
-    let found = rw c.in-Some.is at c.in_ok-place.ensures.set in
+    let found = rw c.in-Some.is at c.place_of.ensures.stands in
     kept s c.args.text.now c.in_ok-form.form c.in_ok-form.query c.in_ok-form.mark.now c.in_ok-form.ensures.read (found (sets_of (language_seen s)) fits) c.args.gathered.now c.in-Some.place c.in_ok-rest.rest.now
-    (rw c.in-Some.is at c.in_ok-place.ensures.place) c.in_ok-rest.ensures.parts
+    (rw c.in-Some.is at c.place_of.ensures.found) c.in_ok-rest.ensures.parts
 
 pub returns-in_err-named-clause-stopped : goal.returns-in_err-named-clause-stopped
 returns-in_err-named-clause-stopped c =

@@ -7,4 +7,4 @@ returns-in-Several-clause-becomes c =
 
 pub returns-in-Text-clause-becomes : goal.returns-in-Text-clause-becomes
 returns-in-Text-clause-becomes c =
-    rw c.in-Text.is (on_ok c.add_text.result (gathers_text c.args.operation c.in-Text.text c.args.self.now.gathered c.add_text.new.self) c.add_text.ensures)
+    rw c.in-Text.is (on_ok c.add_text.result (gathers_text c.args.operation c.in-Text.text c.args.self.now.gathered c.add_text.new.self) c.add_text.ensures.becomes)

@@ -6,8 +6,8 @@ returns-in-Inner-clause-becomes c = rw c.in-Inner.is (on_ok c.gather.result (gat
 
 pub returns-in-Named-clause-becomes : goal.returns-in-Named-clause-becomes
 returns-in-Named-clause-becomes c =
-    rw c.in-Named.is (on_ok c.gather_named.result (gathers_named c.args.operation c.in-Named.named c.args.self.now.gathered c.gather_named.new.self) (rw c.into_inner-named.ensures at c.gather_named.ensures))
+    rw c.in-Named.is (on_ok c.gather_named.result (gathers_named c.args.operation c.in-Named.named c.args.self.now.gathered c.gather_named.new.self) (rw c.into_inner-named.ensures at c.gather_named.ensures.becomes))
 
 pub returns-in-Again-clause-becomes : goal.returns-in-Again-clause-becomes
 returns-in-Again-clause-becomes c =
-    rw c.in-Again.is (on_ok c.gather_again.result (gathers_again c.args.operation c.in-Again.place c.args.self.now.gathered c.gather_again.new.self) c.gather_again.ensures)
+    rw c.in-Again.is (on_ok c.gather_again.result (gathers_again c.args.operation c.in-Again.place c.args.self.now.gathered c.gather_again.new.self) c.gather_again.ensures.gathers)

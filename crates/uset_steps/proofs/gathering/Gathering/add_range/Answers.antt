@@ -15,5 +15,5 @@ returns-clause-becomes c =
 
 pub returns-clause-places : goal.returns-clause-places
 returns-clause-places c =
-    on_ok c.put_off.result (λ h. same_places c.args.self.now (record { gathered = c.args.self.now.gathered; later = Some (with_value c.in-Some.later c.put_off.new.self) }) c.in-Some.later (with_value c.in-Some.later c.put_off.new.self) c.in-Some.is refl (ap (λ es. es.items) (rw c.deref_mut.ensures.value at c.put_off.ensures.entries)))
+    on_ok c.put_off.result (λ h. same_places c.args.self.now (record { gathered = c.args.self.now.gathered; later = Some (with_value c.in-Some.later c.put_off.new.self) }) c.in-Some.later (with_value c.in-Some.later c.put_off.new.self) c.in-Some.is refl (rw c.deref_mut.ensures.value at c.put_off.ensures.places))
     c.put_off.ensures.names

@@ -4,8 +4,8 @@ use Rattle.uset_steps.proofs.GatheringLemmas.{Holds, held, held_none, put_off_na
 use Rattle.uset_steps.proofs.gathering.Gathering.gather_named.Goals.{in-Some, in-None+in_ok-later-in-None}
 use Rattle.uset_steps.proofs.gathering.Gathering.gather_named.Goals as goal
 
-pub returns : goal.returns
-returns c = λ sets fits is.
+pub returns-clause-becomes : goal.returns-clause-becomes
+returns-clause-becomes c = λ sets fits is.
     let old = c.make_way.new.self in
     let settled = c.in_ok-make_way.ensures in
     let still = settled.fits sets fits in
@@ -16,4 +16,4 @@ returns c = λ sets fits is.
           (ap (λ later. later.value) w.later-is ∙ w.in_ok-later-in-None.ensures.ok) w.new.ensures.members (w.new.ensures.names sets)
     ] in
     then_with sets c.args.operation (named_in c.args.named.set) c.args.self.now old _ settled (put_off_named sets c.args.operation (named_in c.args.named.set) old _ c.match-take.later.value c.put_off_named.new.self before.same (λ m. refl) (λ f. f)
-    ((rw c.deref_mut.ensures.value at c.in_ok-put_off_named.ensures) sets before.fits is))
+    ((rw c.deref_mut.ensures.value at c.in_ok-put_off_named.ensures.gathers) sets before.fits is))

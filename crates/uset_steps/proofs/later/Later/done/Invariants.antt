@@ -7,7 +7,7 @@ use Rattle.uset_steps.proofs.later.Later.done.Given as goal
 
 abbrev pub invariant-loop-step : goal.invariant-loop-step
 invariant-loop-step l =
-    (m : Member) → steps_done l.entries.items (reverse l.left.items) m (gathered_in l.set m) ≡ later_done l.fn.self m (gathered_in l.fn.gathered m)
+    (m : Member) → steps_done l.sets.items (reverse l.left.items) m (gathered_in l.set m) ≡ later_done l.fn.self m (gathered_in l.fn.gathered m)
 
 abbrev pub decreases-loop-step : goal.decreases-loop-step
 decreases-loop-step l = length l.left.items
