@@ -1,23 +1,14 @@
 -- The runs whose values all convert, and the values that they spell.
-use Rattle.std.proofs.Common.{◌≡◌, ℕ, ◌+◌, ◌<◌, ◌≤◌, Bool, true, false, cond, Option, Some, None, List, [], ◌∷◌, ◌++◌, length, get_or, drop, refl, sym, ap, ◌∙◌}
+use Rattle.std.proofs.Common.{◌≡◌, ℕ, ◌+◌, ◌<◌, ◌≤◌, Bool, true, false, cond, Option, Some, None, List, [], ◌∷◌, ◌++◌, length, get_or, drop, refl, sym, ap, ap₂, ◌∙◌, arith}
 use Rattle.std.specs.Prelude.{is_some}
 use Rattle.std.proofs.lemmas.List.{drop_more, drop_all, append-nil}
 use Rattle.cp_invlist.specs.Ranges.{in_range}
 use Rattle.cp_invlist.specs.declared.ranges.CodePointRange.{CodePointRange}
 use Rattle.cp_trie.specs.Conversion.{refused_from}
+use Rattle.cp_trie.specs.ConvertedRuns.{runs_by, PassesEach}
 use Rattle.cp_trie.specs.Runs.{value_in}
 use Rattle.cp_trie.specs.declared.ranges.CodePointMapRange.{CodePointMapRange}
 use Rattle.cp_trie.proofs.CoverLemmas.{IsCover}
-
--- a run with the value, if there is one, before others
-abbrev pub with_run : {W : Type 0} → CodePointRange → Option W → List (CodePointMapRange W) → List (CodePointMapRange W)
-with_run range None rs = []
-with_run range (Some w) rs = record { range = range; value = w } ∷ rs
-
--- the runs with their values converted, up to the first whose value does not convert
-abbrev pub converted_runs : {V W : Type 0} → (V → Option W) → List (CodePointMapRange V) → List (CodePointMapRange W)
-converted_runs convert [] = []
-converted_runs convert (r ∷ rs) = with_run r.range (convert r.value) (converted_runs convert rs)
 
 -- a value that is not refused converts
 passed : {W : Type 0} (o : Option W) (x : Option ℕ) (i : ℕ) → cond (is_some o) x (Some i) ≡ None → (w : W) × (o ≡ Some w) × (x ≡ None)
@@ -29,18 +20,18 @@ choice_converted convert true v v' w w' h h' = h
 choice_converted convert false v v' w w' h h' = h'
 
 -- where all values convert, each value of the converted runs is that of the runs, converted
-pub value_in-converted_runs : {V W : Type 0} (convert : V → Option W) (e : V) (e' : W) (i : ℕ) (rs : List (CodePointMapRange V)) (c : ℕ) → convert e ≡ Some e' → refused_from convert e i rs ≡ None → convert (value_in rs e c) ≡ Some (value_in (converted_runs convert rs) e' c)
-value_in-converted_runs convert e e' i [] c error none = error
-value_in-converted_runs convert e e' i (r ∷ rs) c error none =
+pub value_in-runs_by : {V W : Type 0} (convert : V → Option W) (e : V) (e' : W) (i : ℕ) (rs : List (CodePointMapRange V)) (c : ℕ) → convert e ≡ Some e' → refused_from convert e i rs ≡ None → convert (value_in rs e c) ≡ Some (value_in (runs_by convert rs) e' c)
+value_in-runs_by convert e e' i [] c error none = error
+value_in-runs_by convert e e' i (r ∷ rs) c error none =
     let p = passed (convert r.value) (refused_from convert e (i + 1) rs) i none in
-    rw p.1 (choice_converted convert (in_range r.range c) r.value (value_in rs e c) p.0 (value_in (converted_runs convert rs) e' c) p.1 (value_in-converted_runs convert e e' (i + 1) rs c error p.2))
+    rw p.1 (choice_converted convert (in_range r.range c) r.value (value_in rs e c) p.0 (value_in (runs_by convert rs) e' c) p.1 (value_in-runs_by convert e e' (i + 1) rs c error p.2))
 
 -- runs that cover cover after conversion too
-pub IsCover-converted_runs : {V W : Type 0} (convert : V → Option W) (e : V) (i n : ℕ) (rs : List (CodePointMapRange V)) → refused_from convert e i rs ≡ None → IsCover n rs → IsCover n (converted_runs convert rs)
-IsCover-converted_runs convert e i n [] none cover = cover
-IsCover-converted_runs convert e i n (r ∷ rs) none cover =
+pub IsCover-runs_by : {V W : Type 0} (convert : V → Option W) (e : V) (i n : ℕ) (rs : List (CodePointMapRange V)) → refused_from convert e i rs ≡ None → IsCover n rs → IsCover n (runs_by convert rs)
+IsCover-runs_by convert e i n [] none cover = cover
+IsCover-runs_by convert e i n (r ∷ rs) none cover =
     let p = passed (convert r.value) (refused_from convert e (i + 1) rs) i none in
-    rw p.1 (cover.0, cover.1, cover.2, IsCover-converted_runs convert e (i + 1) (r.range.end + 1) rs p.2 cover.3)
+    rw p.1 (cover.0, cover.1, cover.2, IsCover-runs_by convert e (i + 1) (r.range.end + 1) rs p.2 cover.3)
 
 -- what is left from an index on begins with the run read there
 pub left_from : {V : Type 0} (rs : List (CodePointMapRange V)) (i : ℕ) (r : CodePointMapRange V) → i < length rs → r ≡ get_or rs i r → drop i rs ≡ r ∷ drop (i + 1) rs
@@ -50,15 +41,19 @@ left_from rs i r within read = drop_more rs i r within ∙ ap (λ x. x ∷ drop 
 pub refused_from-here : {V W : Type 0} (convert : V → Option W) (e : V) (rs : List (CodePointMapRange V)) (i : ℕ) (r : CodePointMapRange V) → i < length rs → r ≡ get_or rs i r → convert r.value ≡ None → refused_from convert e i (drop i rs) ≡ Some i
 refused_from-here convert e rs i r within read none = ap (λ l. refused_from convert e i l) (left_from rs i r within read) ∙ rw none refl
 
--- behind all runs the error value is refused where it does not convert
-pub refused_from-error : {V W : Type 0} (convert : V → Option W) (e : V) (rs : List (CodePointMapRange V)) (i : ℕ) → length rs ≤ i → convert e ≡ None → refused_from convert e i (drop i rs) ≡ Some i
-refused_from-error convert e rs i done none = ap (λ l. refused_from convert e i l) (drop_all i rs done) ∙ rw none refl
+-- behind all runs the error value alone is left
+pub refused_from-behind : {V W : Type 0} (convert : V → Option W) (e : V) (rs : List (CodePointMapRange V)) (i : ℕ) → length rs ≡ i → refused_from convert e i (drop i rs) ≡ refused_from convert e (length rs) []
+refused_from-behind convert e rs i size = ap₂ (λ n l. refused_from convert e n l) (sym size) (drop_all i rs (omega arith))
+
+-- where each run passes, an error value that does not convert is refused behind them
+pub refused_from-error : {V W : Type 0} (convert : V → Option W) (e : V) (rs : List (CodePointMapRange V)) → PassesEach convert rs → convert e ≡ None → refused_from convert e 0 rs ≡ Some (length rs)
+refused_from-error convert e rs passes none = passes e ∙ rw none refl
 
 -- and where it converts nothing is refused
-pub refused_from-none : {V W : Type 0} (convert : V → Option W) (e : V) (w : W) (rs : List (CodePointMapRange V)) (i : ℕ) → length rs ≤ i → convert e ≡ Some w → refused_from convert e i (drop i rs) ≡ None
-refused_from-none convert e w rs i done some = ap (λ l. refused_from convert e i l) (drop_all i rs done) ∙ rw some refl
+pub refused_from-none : {V W : Type 0} (convert : V → Option W) (e : V) (w : W) (rs : List (CodePointMapRange V)) → PassesEach convert rs → convert e ≡ Some w → refused_from convert e 0 rs ≡ None
+refused_from-none convert e w rs passes some = passes e ∙ rw some refl
 
 -- once all runs are done they are the converted runs
-pub converted_runs-all_done : {V W : Type 0} (convert : V → Option W) (rs : List (CodePointMapRange V)) (done : List (CodePointMapRange W)) (i : ℕ) → length rs ≤ i → done ++ converted_runs convert (drop i rs) ≡ converted_runs convert rs → done ≡ converted_runs convert rs
-converted_runs-all_done convert rs done i all h =
-    sym (append-nil done) ∙ (ap (λ l. done ++ converted_runs convert l) (sym (drop_all i rs all)) ∙ h)
+pub runs_by-all_done : {V W : Type 0} (convert : V → Option W) (rs : List (CodePointMapRange V)) (done : List (CodePointMapRange W)) (i : ℕ) → length rs ≤ i → done ++ runs_by convert (drop i rs) ≡ runs_by convert rs → done ≡ runs_by convert rs
+runs_by-all_done convert rs done i all h =
+    sym (append-nil done) ∙ (ap (λ l. done ++ runs_by convert l) (sym (drop_all i rs all)) ∙ h)

@@ -1,4 +1,5 @@
 pub mod Conversion
+pub mod ConvertedRuns
 pub mod Faults
 pub mod Joined
 pub mod Map

@@ -1,6 +1,7 @@
 //! The conversion of a map to another type of values.
-ghost use Rattle.std.specs.Prelude.{◌≡◌, Some, IfOk};
+ghost use Rattle.std.specs.Prelude.{◌≡◌, Some, IfOk, IfErr};
 ghost use Rattle.cp_trie.specs.Conversion.{conversion, ConvertsTo, NamesFirstRefused};
+ghost use Rattle.cp_trie.specs.ConvertedRuns.{runs_by, PassesEach, NamesRefusedRun};
 
 use crate::error::ConvertError;
 use crate::ranges::CodePointMapRange;
@@ -20,14 +21,7 @@ impl<T: TrieValue> CodePointTrie<T> {
         ensures past_end { IfOk result (λ map. conversion T.packed P.unpacked self.error_value ≡ Some map.error_value) }
         ensures refusal { NamesFirstRefused T.eq (conversion T.packed P.unpacked) self result }
     {
-        let mut runs = Vec::new(alloc);
-        for (index, run) in self.runs().iter().enumerate() {
-            let Some(value) = converted(run.value) else {
-                return Err(ConvertError::Value { index });
-            };
-            let range = run.range;
-            runs.push(CodePointMapRange { range, value })?;
-        }
+        let runs = converted_runs(alloc, self.runs())?;
         let Some(error_value) = converted(self.error_value()) else {
             return Err(ConvertError::Value {
                 index: self.runs().len(),
@@ -35,6 +29,26 @@ impl<T: TrieValue> CodePointTrie<T> {
         };
         Ok(CodePointTrie::from_cover(alloc, runs, error_value)?)
     }
+}
+
+/// The runs with their values converted. A refusal names the first run whose value does not convert.
+fn converted_runs<T: TrieValue, P: TrieValue>(
+    alloc: Global,
+    runs: &[CodePointMapRange<T>],
+) -> Result<Vec<CodePointMapRange<P>>, ConvertError>
+    ensures converted { IfOk result (λ made. made.items ≡ runs_by (conversion T.packed P.unpacked) runs.now) }
+    ensures whole { IfOk result (λ _. PassesEach (conversion T.packed P.unpacked) runs.now) }
+    ensures refusal { IfErr result (NamesRefusedRun (conversion T.packed P.unpacked) runs.now) }
+{
+    let mut made = Vec::new(alloc);
+    for (index, run) in runs.iter().enumerate() {
+        let Some(value) = converted(run.value) else {
+            return Err(ConvertError::Value { index });
+        };
+        let range = run.range;
+        made.push(CodePointMapRange { range, value })?;
+    }
+    Ok(made)
 }
 
 /// The value of the other type that the number of this one unpacks to, if there is one.

@@ -9,8 +9,6 @@ mod ranges;
 mod rows;
 mod runs;
 mod table;
-#[cfg(test)]
-mod tests;
 mod trie;
 mod value;
 

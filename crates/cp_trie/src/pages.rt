@@ -4,9 +4,6 @@ ghost use Rattle.cp_trie.specs.Faults.{first_fault as fault_of};
 ghost use Rattle.cp_trie.specs.Pages.{values_of, value_by, led_to, PlacesStandFor, StandFor};
 ghost use Rattle.cp_trie.specs.Rows.{IsCut, taken, spelled};
 
-#[cfg(test)]
-mod tests;
-
 use crate::ranges::CodePointMapRange;
 use crate::rows::{ROW, Repeated, Rows};
 use crate::table::Table;

@@ -38,12 +38,6 @@ impl<V: Copy> Table<V> {
         self.elements[index]
     }
 
-    /// How many elements the table has.
-    #[cfg(test)]
-    pub(crate) fn len(&self) -> usize {
-        self.elements.len()
-    }
-
     /// The same table.
     pub(crate) fn copy(&self, alloc: Global) -> Result<Table<V>, AllocError>
         ensures { IfOk result (λ table. table ≡ self.now) }

@@ -41,7 +41,7 @@ impl TrieValue for u8 {
     ghost eq_is_same = { nat_eq-same };
 
     fn try_from_u32(i: u32) -> Result<u8, ValueError> {
-        u8::try_from(i).map_err(|_| ValueError { value: i })
+        u8::try_from(i).ok().ok_or(ValueError { value: i })
     }
 
     fn to_u32(self) -> u32 {
@@ -59,7 +59,7 @@ impl TrieValue for u16 {
     ghost eq_is_same = { nat_eq-same };
 
     fn try_from_u32(i: u32) -> Result<u16, ValueError> {
-        u16::try_from(i).map_err(|_| ValueError { value: i })
+        u16::try_from(i).ok().ok_or(ValueError { value: i })
     }
 
     fn to_u32(self) -> u32 {
