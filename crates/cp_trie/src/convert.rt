@@ -21,6 +21,15 @@ impl<T: TrieValue> CodePointTrie<T> {
         ensures past_end { IfOk result (λ map. conversion T.packed P.unpacked self.error_value ≡ Some map.error_value) }
         ensures refusal { NamesFirstRefused T.eq (conversion T.packed P.unpacked) self result }
     {
+        self.to_converted(alloc)
+    }
+
+    /// The same of a map that stays, so that no exit lets it go.
+    fn to_converted<P: TrieValue>(&self, alloc: Global) -> Result<CodePointTrie<P>, ConvertError>
+        ensures values { IfOk result (λ map. ConvertsTo (conversion T.packed P.unpacked) self.now map) }
+        ensures past_end { IfOk result (λ map. conversion T.packed P.unpacked self.now.error_value ≡ Some map.error_value) }
+        ensures refusal { NamesFirstRefused T.eq (conversion T.packed P.unpacked) self.now result }
+    {
         let runs = converted_runs(alloc, self.runs())?;
         let Some(error_value) = converted(self.error_value()) else {
             return Err(ConvertError::Value {
