@@ -3,7 +3,6 @@ use Rattle.std.proofs.Common.{◌≡◌, ℕ, ◌+◌, ◌<◌, ◌≤◌, Bool,
 use Rattle.std.specs.Prelude.{is_some}
 use Rattle.std.proofs.lemmas.List.{drop_more, drop_all, append-nil}
 use Rattle.cp_invlist.specs.Ranges.{in_range}
-use Rattle.cp_invlist.specs.declared.ranges.CodePointRange.{CodePointRange}
 use Rattle.cp_trie.specs.Conversion.{refused_from}
 use Rattle.cp_trie.specs.ConvertedRuns.{runs_by, PassesEach}
 use Rattle.cp_trie.specs.Runs.{value_in}
