@@ -1,4 +1,5 @@
 pub mod BitLemmas
 pub mod GroupLemmas
+pub mod OrderLemmas
 pub mod ReadLemmas
 pub mod SubtagLemmas

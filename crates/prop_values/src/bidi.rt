@@ -103,7 +103,7 @@ impl TrieValue for BidiClass {
     ghost eq_is_same = { nat_eq-same };
 
     fn try_from_u32(i: u32) -> Result<BidiClass, ValueError> {
-        u8::try_from_u32(i).map(BidiClass::from_icu4c_value)
+        Ok(BidiClass(u8::try_from_u32(i)?))
     }
 
     fn to_u32(self) -> u32 {

@@ -45,7 +45,7 @@ impl TrieValue for Block {
     ghost eq_is_same = { nat_eq-same };
 
     fn try_from_u32(i: u32) -> Result<Block, ValueError> {
-        u16::try_from_u32(i).map(|number| Block(number))
+        Ok(Block(u16::try_from_u32(i)?))
     }
 
     fn to_u32(self) -> u32 {

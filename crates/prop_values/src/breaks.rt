@@ -59,7 +59,7 @@ impl TrieValue for LineBreak {
     ghost eq_is_same = { nat_eq-same };
 
     fn try_from_u32(i: u32) -> Result<LineBreak, ValueError> {
-        u8::try_from_u32(i).map(LineBreak::from_icu4c_value)
+        Ok(LineBreak(u8::try_from_u32(i)?))
     }
 
     fn to_u32(self) -> u32 {
@@ -139,7 +139,7 @@ impl TrieValue for GraphemeClusterBreak {
     ghost eq_is_same = { nat_eq-same };
 
     fn try_from_u32(i: u32) -> Result<GraphemeClusterBreak, ValueError> {
-        u8::try_from_u32(i).map(GraphemeClusterBreak::from_icu4c_value)
+        Ok(GraphemeClusterBreak(u8::try_from_u32(i)?))
     }
 
     fn to_u32(self) -> u32 {
@@ -219,7 +219,7 @@ impl TrieValue for WordBreak {
     ghost eq_is_same = { nat_eq-same };
 
     fn try_from_u32(i: u32) -> Result<WordBreak, ValueError> {
-        u8::try_from_u32(i).map(WordBreak::from_icu4c_value)
+        Ok(WordBreak(u8::try_from_u32(i)?))
     }
 
     fn to_u32(self) -> u32 {
@@ -299,7 +299,7 @@ impl TrieValue for SentenceBreak {
     ghost eq_is_same = { nat_eq-same };
 
     fn try_from_u32(i: u32) -> Result<SentenceBreak, ValueError> {
-        u8::try_from_u32(i).map(SentenceBreak::from_icu4c_value)
+        Ok(SentenceBreak(u8::try_from_u32(i)?))
     }
 
     fn to_u32(self) -> u32 {

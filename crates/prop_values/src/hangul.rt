@@ -73,7 +73,7 @@ impl TrieValue for HangulSyllableType {
     ghost eq_is_same = { nat_eq-same };
 
     fn try_from_u32(i: u32) -> Result<HangulSyllableType, ValueError> {
-        u8::try_from_u32(i).map(HangulSyllableType::from_icu4c_value)
+        Ok(HangulSyllableType(u8::try_from_u32(i)?))
     }
 
     fn to_u32(self) -> u32 {

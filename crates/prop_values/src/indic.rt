@@ -59,7 +59,7 @@ impl TrieValue for IndicConjunctBreak {
     ghost eq_is_same = { nat_eq-same };
 
     fn try_from_u32(i: u32) -> Result<IndicConjunctBreak, ValueError> {
-        u8::try_from_u32(i).map(IndicConjunctBreak::from_icu4c_value)
+        Ok(IndicConjunctBreak(u8::try_from_u32(i)?))
     }
 
     fn to_u32(self) -> u32 {
@@ -139,7 +139,7 @@ impl TrieValue for IndicSyllabicCategory {
     ghost eq_is_same = { nat_eq-same };
 
     fn try_from_u32(i: u32) -> Result<IndicSyllabicCategory, ValueError> {
-        u8::try_from_u32(i).map(IndicSyllabicCategory::from_icu4c_value)
+        Ok(IndicSyllabicCategory(u8::try_from_u32(i)?))
     }
 
     fn to_u32(self) -> u32 {

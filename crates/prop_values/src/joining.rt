@@ -59,7 +59,7 @@ impl TrieValue for JoiningGroup {
     ghost eq_is_same = { nat_eq-same };
 
     fn try_from_u32(i: u32) -> Result<JoiningGroup, ValueError> {
-        u8::try_from_u32(i).map(JoiningGroup::from_icu4c_value)
+        Ok(JoiningGroup(u8::try_from_u32(i)?))
     }
 
     fn to_u32(self) -> u32 {
@@ -139,7 +139,7 @@ impl TrieValue for JoiningType {
     ghost eq_is_same = { nat_eq-same };
 
     fn try_from_u32(i: u32) -> Result<JoiningType, ValueError> {
-        u8::try_from_u32(i).map(JoiningType::from_icu4c_value)
+        Ok(JoiningType(u8::try_from_u32(i)?))
     }
 
     fn to_u32(self) -> u32 {

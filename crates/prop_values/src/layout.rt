@@ -59,7 +59,7 @@ impl TrieValue for EastAsianWidth {
     ghost eq_is_same = { nat_eq-same };
 
     fn try_from_u32(i: u32) -> Result<EastAsianWidth, ValueError> {
-        u8::try_from_u32(i).map(EastAsianWidth::from_icu4c_value)
+        Ok(EastAsianWidth(u8::try_from_u32(i)?))
     }
 
     fn to_u32(self) -> u32 {
@@ -139,7 +139,7 @@ impl TrieValue for VerticalOrientation {
     ghost eq_is_same = { nat_eq-same };
 
     fn try_from_u32(i: u32) -> Result<VerticalOrientation, ValueError> {
-        u8::try_from_u32(i).map(VerticalOrientation::from_icu4c_value)
+        Ok(VerticalOrientation(u8::try_from_u32(i)?))
     }
 
     fn to_u32(self) -> u32 {

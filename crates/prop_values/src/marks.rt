@@ -59,7 +59,7 @@ impl TrieValue for CanonicalCombiningClass {
     ghost eq_is_same = { nat_eq-same };
 
     fn try_from_u32(i: u32) -> Result<CanonicalCombiningClass, ValueError> {
-        u8::try_from_u32(i).map(CanonicalCombiningClass::from_icu4c_value)
+        Ok(CanonicalCombiningClass(u8::try_from_u32(i)?))
     }
 
     fn to_u32(self) -> u32 {

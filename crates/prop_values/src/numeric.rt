@@ -59,7 +59,7 @@ impl TrieValue for NumericType {
     ghost eq_is_same = { nat_eq-same };
 
     fn try_from_u32(i: u32) -> Result<NumericType, ValueError> {
-        u8::try_from_u32(i).map(NumericType::from_icu4c_value)
+        Ok(NumericType(u8::try_from_u32(i)?))
     }
 
     fn to_u32(self) -> u32 {

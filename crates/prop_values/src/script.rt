@@ -84,7 +84,7 @@ impl TrieValue for Script {
     ghost eq_is_same = { nat_eq-same };
 
     fn try_from_u32(i: u32) -> Result<Script, ValueError> {
-        u16::try_from_u32(i).map(Script::from_icu4c_value)
+        Ok(Script(u16::try_from_u32(i)?))
     }
 
     fn to_u32(self) -> u32 {
@@ -213,7 +213,7 @@ impl TrieValue for ScriptWithExt {
     ghost eq_is_same = { nat_eq-same };
 
     fn try_from_u32(i: u32) -> Result<ScriptWithExt, ValueError> {
-        u16::try_from_u32(i).map(|number| ScriptWithExt(number))
+        Ok(ScriptWithExt(u16::try_from_u32(i)?))
     }
 
     fn to_u32(self) -> u32 {
