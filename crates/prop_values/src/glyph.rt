@@ -81,7 +81,11 @@ impl TrieValue for BidiMirroringGlyph {
         }
         let glyph = i % MIRRORED_UNIT;
         Ok(BidiMirroringGlyph {
-            mirroring_glyph: char::from_u32(glyph).filter(|_| glyph != 0),
+            mirroring_glyph: if glyph == 0 {
+                None
+            } else {
+                char::from_u32(glyph)
+            },
             mirrored: i / MIRRORED_UNIT % 2 == 1,
             paired_bracket_type: match i / BRACKET_UNIT % 4 {
                 1 => BidiPairedBracketType::Open,
@@ -97,9 +101,11 @@ impl TrieValue for BidiMirroringGlyph {
             BidiPairedBracketType::Open => 1,
             BidiPairedBracketType::Close => 2,
         };
-        self.mirroring_glyph.map_or(0, u32::from)
-            + u32::from(self.mirrored) * MIRRORED_UNIT
-            + bracket * BRACKET_UNIT
+        let glyph = match self.mirroring_glyph {
+            Some(glyph) => u32::from(glyph),
+            None => 0,
+        };
+        glyph + u32::from(self.mirrored) * MIRRORED_UNIT + bracket * BRACKET_UNIT
     }
 }
 
