@@ -1,7 +1,7 @@
 #!/usr/bin/env python3
 """Times `uset eval` on inputs of growing size, and prints the time a byte, so that growth shows: first for
 patterns, then for tables of each kind, for properties and variables, for sources with a fault at their end, and for
-sets that take many steps; and the memory that brackets inside one another and elements of one bracket take.
+sets that take many steps; and the memory that brackets inside one another, maps and elements of one bracket take.
 
 Usage: bench/growth.py [PROGRAM]. PROGRAM is crates/uset/out/uset, which `rt run` in crates/uset builds.
 Each input is timed REPEATS times, and the least processor time stands in the table: others may use the
@@ -15,6 +15,8 @@ import subprocess
 import sys
 from pathlib import Path
 
+from category import category_runs
+
 REPEATS = 5
 TOP = Path(__file__).resolve().parent.parent
 TABLES = (TOP / "examples" / "syntax.txt").read_text(encoding="utf-8")
@@ -22,6 +24,8 @@ TABLES = (TOP / "examples" / "syntax.txt").read_text(encoding="utf-8")
 ELEMENTS = [chr(0x10000 + 2 * index) for index in range(100_000)]
 # The bytes of the largest inputs: the program takes 2^23.
 MOST_BYTES = 8_000_000
+# Properties whose numbers may be those of categories.
+MAPS = ("Script", "Bidi_Class", "East_Asian_Width", "Line_Break", "Grapheme_Cluster_Break", "Word_Break", "Sentence_Break", "Joining_Type")
 
 
 def lines(count):
@@ -317,6 +321,18 @@ def memory(program):
         print(f"| {depth:,} | {taken / depth:.0f} |")
 
 
+def memory_of_maps(program):
+    """Prints what a map takes beside its text: its runs, and its page tables at four bytes a value."""
+    runs = category_runs()
+    rows = "".join(f"{start:X}-{end:X} {value}\n" for start, end, value in runs if value)
+    maps = [with_table("".join(f"map {name} 0\n{rows}" for name in MAPS[:count])) for count in (1, len(MAPS))]
+    few, many = (peak(program, text) - len(text) for text in maps)
+    print()
+    print("| a map of General_Category | runs | kB of memory |")
+    print("|---|---|---|")
+    print(f"| four bytes a value | {len(runs):,} | {(many - few) / (len(MAPS) - 1) / 1000:.0f} |")
+
+
 def memory_of_elements(program):
     """Prints what an element of one bracket takes beside the text itself, and beside what does not grow with them."""
     print()
@@ -341,6 +357,7 @@ def main():
     program = sys.argv[1] if len(sys.argv) > 1 else str(TOP / "crates" / "uset" / "out" / "uset")
     # First, while this process is small: what it has resident counts towards the peak of a process that it starts.
     memory(program)
+    memory_of_maps(program)
     print()
     start, _ = seconds(program, lines(2))
     print(f"start: {start * 1000:.1f} ms")

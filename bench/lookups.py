@@ -11,13 +11,13 @@ import shutil
 import subprocess
 import sys
 import tempfile
-import unicodedata
 from pathlib import Path
+
+from category import category_runs
 
 TOP = Path(__file__).resolve().parent.parent
 # The last commit whose maps are found by binary search alone.
 SEARCH = "55a23fe"
-CATEGORIES = "Cn Lu Ll Lt Lm Lo Mn Me Mc Nd Nl No Zs Zl Zp Cc Cf Co Cs Pd Ps Pe Pc Po Sm Sc Sk So Pi Pf".split()
 
 MAIN = """//! Times maps of two crates.
 #![tactic(auto)]
@@ -127,18 +127,6 @@ int main() {
   printf("%.2f ns a look-up (sum %u)\n", least * 1e9 / points.size(), all);
 }
 """
-
-
-def category_runs():
-    """The maximal runs of General_Category, by the numbers of its values."""
-    runs = []
-    for c in range(0x110000):
-        value = CATEGORIES.index(unicodedata.category(chr(c)))
-        if runs and runs[-1][2] == value:
-            runs[-1][1] = c
-        else:
-            runs.append([c, c, value])
-    return runs
 
 
 def text_of(runs):
