@@ -12,7 +12,7 @@ use crate::error::LoadError;
 use crate::linear::keep_linear;
 use crate::load::{Length, Loader};
 use crate::scripts::{
-    ListedScripts, ScriptTable, ScriptWithExtensionsProperty, keep_list, lacks_some,
+    ListedScripts, ScriptTable, ScriptWithExtensionsProperty, keep_list, lacks_some, take_lists,
 };
 use crate::table::TableKind;
 use cp_invlist::{CodePointInversionList, NoMemory};
@@ -26,7 +26,6 @@ use prop_names::{
 use prop_values::{MapTable, NamesTable, ScriptWithExt};
 use std::alloc::Global;
 use std::collections::BTreeMap;
-use std::mem::replace;
 use text_lines::split_line;
 
 /// The tables of a table text. Every table may be absent.
@@ -196,10 +195,7 @@ impl PropertyDatabase {
     )
         ensures { tables_of self.new ≡ with_scripts (record { values = value_at trie; named = named.items }) (tables_of self.old) }
     {
-        let lists = match self.scripts.take() {
-            Some(table) => table.property.lists,
-            None => replace(&mut self.lists, BTreeMap::new(alloc)),
-        };
+        let lists = take_lists(&mut self.scripts, &mut self.lists, alloc);
         self.scripts = Some(ScriptTable {
             property: ScriptWithExtensionsProperty { trie, lists },
             named,

@@ -66,24 +66,43 @@ pub(crate) enum Line<'a> {
     Other,
 }
 
+// The words that begin a header, and the one that closes a text.
+const SET: &[u8] = b"set";
+
+const MAP: &[u8] = b"map";
+
+const NAMES: &[u8] = b"names";
+
+const LONG: &[u8] = b"long";
+
+const SHORT: &[u8] = b"short";
+
+const SCX: &[u8] = b"scx";
+
+const EXT: &[u8] = b"ext";
+
+const EMOJI: &[u8] = b"emoji";
+
+const END: &[u8] = b"end";
+
 #[tactic(auto, unfolding(crate::specs::Line::is_header_word))]
 fn is_header_word(field: &[u8]) -> bool
     ensures { result ≡ is_header_word field.now }
 {
-    field == b"set".as_slice()
-        || field == b"map".as_slice()
-        || field == b"names".as_slice()
-        || field == b"long".as_slice()
-        || field == b"short".as_slice()
-        || field == b"scx".as_slice()
-        || field == b"ext".as_slice()
-        || field == b"emoji".as_slice()
+    field == SET
+        || field == MAP
+        || field == NAMES
+        || field == LONG
+        || field == SHORT
+        || field == SCX
+        || field == EXT
+        || field == EMOJI
 }
 
 fn is_end(field: &[u8]) -> bool
     ensures { result ≡ is_end field.now }
 {
-    field == b"end".as_slice()
+    field == END
 }
 
 #[tactic(auto, unfolding(crate::specs::Line::line_of_one))]
@@ -106,19 +125,19 @@ fn line_of_one(field: &[u8]) -> Line<'_>
 fn line_of_two<'a>(first: &'a [u8], second: &'a [u8]) -> Line<'a>
     ensures { line_seen result ≡ line_of_two first.now second.now }
 {
-    if first == b"set".as_slice() {
+    if first == SET {
         Line::Header(Header::Set { name: second })
-    } else if first == b"names".as_slice() {
+    } else if first == NAMES {
         Line::Header(Header::Names { name: second })
-    } else if first == b"long".as_slice() {
+    } else if first == LONG {
         Line::Header(Header::Long { name: second })
-    } else if first == b"short".as_slice() {
+    } else if first == SHORT {
         Line::Header(Header::Short { name: second })
-    } else if first == b"emoji".as_slice() {
+    } else if first == EMOJI {
         Line::Header(Header::Emoji { name: second })
-    } else if first == b"scx".as_slice() {
+    } else if first == SCX {
         Line::Header(Header::Scripts { default: second })
-    } else if first == b"ext".as_slice() {
+    } else if first == EXT {
         Line::Header(Header::Extensions {
             index: second,
             script: None,
@@ -137,12 +156,12 @@ fn line_of_two<'a>(first: &'a [u8], second: &'a [u8]) -> Line<'a>
 fn line_of_three<'a>(first: &[u8], second: &'a [u8], third: &'a [u8]) -> Line<'a>
     ensures { line_seen result ≡ line_of_three first.now second.now third.now }
 {
-    if first == b"map".as_slice() {
+    if first == MAP {
         Line::Header(Header::Map {
             name: second,
             default: third,
         })
-    } else if first == b"ext".as_slice() {
+    } else if first == EXT {
         Line::Header(Header::Extensions {
             index: second,
             script: Some(third),

@@ -305,16 +305,33 @@ impl Loader {
         Ok(())
     }
 
+    /// Moves the open table into the database, where the lines end with `end`. `number` is that of the line behind them.
+    fn end(&mut self, number: usize) -> Result<(), LoadError>
+        ensures closed { OnOk result (self.old.is_closed ≡ true) }
+        ensures tables { OnOk result (tables_of self.new.database ≡ (kept self.old).tables) }
+        ensures err { IfErr result (NoEndFault self.old.is_closed number) }
+    {
+        if !self.is_closed {
+            return Err(fault(number, TableErrorKind::NoEnd));
+        }
+        self.finish_table()?;
+        Ok(())
+    }
+
+    /// The database.
+    fn into_database(self) -> PropertyDatabase
+        ensures { result ≡ self.database }
+    {
+        self.database
+    }
+
     /// The database of the lines that were read, where they end with `end`. `number` is that of the
     /// line behind them.
     pub(crate) fn finish(mut self, number: usize) -> Result<PropertyDatabase, LoadError>
         ensures ok { IfOk result (λ database. (self.is_closed ≡ true) × (tables_of database ≡ (kept self).tables)) }
         ensures err { IfErr result (NoEndFault self.is_closed number) }
     {
-        if !self.is_closed {
-            return Err(fault(number, TableErrorKind::NoEnd));
-        }
-        self.finish_table()?;
-        Ok(self.database)
+        self.end(number)?;
+        Ok(self.into_database())
     }
 }

@@ -1,6 +1,7 @@
 //! The scripts of code points with their extensions (UAX 24, section 2.8).
 ghost use Rattle.std.specs.Prelude.{◌≡◌, ℕ, nat_eq, Some, IfOk, OnOk, if◌then◌else◌};
 ghost use Rattle.std.specs.List.{list_any};
+ghost use Rattle.prop_data.specs.Database.{lists_beside};
 ghost use Rattle.prop_data.specs.Extensions.{list_in, list_of, list_seen};
 ghost use Rattle.prop_data.specs.LineFault.{lacks_list, is_plain_list, is_script_list};
 
@@ -9,6 +10,7 @@ use cp_trie::CodePointTrie;
 use prop_values::{Script, ScriptWithExt};
 use std::alloc::{AllocError, Global};
 use std::collections::BTreeMap;
+use std::mem::replace;
 
 /// A list of scripts, which begins with that of its header, where the header has one.
 #[derive(Drop)]
@@ -115,6 +117,20 @@ pub(crate) struct ScriptTable {
     pub(crate) property: ScriptWithExtensionsProperty,
     /// The numbers that the header and the rows name.
     pub(crate) named: Vec<u16>,
+}
+
+/// Takes the lists from where a database keeps them: beside its scripts with extensions, where it has them.
+pub(crate) fn take_lists(
+    scripts: &mut Option<ScriptTable>,
+    lists: &mut BTreeMap<u64, ListedScripts>,
+    alloc: Global,
+) -> BTreeMap<u64, ListedScripts>
+    ensures { (n : ℕ) → list_in result n ≡ lists_beside scripts.old (list_in lists.old) n }
+{
+    match scripts.take() {
+        Some(table) => table.property.lists,
+        None => replace(lists, BTreeMap::new(alloc)),
+    }
 }
 
 /// Whether there is a list without a script at the index.
