@@ -1,25 +1,19 @@
 //! How many tables of each kind a text has.
-use crate::fixtures::EVERY_KIND;
+use crate::fixtures::{EVERY_KIND, Row, assert_rows};
 use prop_data::{PropertyDatabase, TableKind};
-use std::alloc::Global;
-use std::process::Abort;
 use std::test::Fail;
 
-/// Asserts how many tables of each kind the text has.
-fn assert_counts(
-    rt: &impl Abort,
-    alloc: Global,
-    text: &str,
-    counts: &[(TableKind, usize)],
-) -> Result<(), Fail> {
-    let database = PropertyDatabase::from_text(alloc, text)?;
-    for (kind, count) in counts {
-        assert_eq!(rt; database.table_count(*kind), *count, "at {kind:?}");
+/// A kind, and how many tables of it the text has.
+type Count = (TableKind, usize);
+
+impl Row for Count {
+    fn holds(&self, database: &PropertyDatabase) -> bool {
+        let (kind, count) = *self;
+        database.table_count(kind) == count
     }
-    Ok(())
 }
 
-const COUNTS: &[(TableKind, usize)] = &[
+const COUNTS: &[Count] = &[
     (TableKind::Set, 2),
     (TableKind::Map, 1),
     (TableKind::Names, 3),
@@ -37,10 +31,10 @@ fn tables_of_each_kind_are_counted(rt: HostRuntime) -> Result<(), Fail> {
         names Block\nlong Script\nlong Canonical_Combining_Class\nshort Script\nshort Block\n\
         short Canonical_Combining_Class\nscx 103\next 0\next 1023\next 7 25\next 8\n\
         emoji Basic_Emoji\nend";
-    assert_counts(&rt, rt.alloc(), text, COUNTS)
+    assert_rows(&rt, rt.alloc(), text, COUNTS)
 }
 
-const EVERY_COUNT: &[(TableKind, usize)] = &[
+const EVERY_COUNT: &[Count] = &[
     (TableKind::Set, 4),
     (TableKind::Map, 3),
     (TableKind::Names, 3),
@@ -53,17 +47,17 @@ const EVERY_COUNT: &[(TableKind, usize)] = &[
 
 #[test]
 fn tables_of_a_text_of_every_kind_are_counted(rt: HostRuntime) -> Result<(), Fail> {
-    assert_counts(&rt, rt.alloc(), EVERY_KIND, EVERY_COUNT)
+    assert_rows(&rt, rt.alloc(), EVERY_KIND, EVERY_COUNT)
 }
 
 #[test]
 fn lists_are_counted_without_scripts(rt: HostRuntime) -> Result<(), Fail> {
-    let counts = [(TableKind::Extensions, 1), (TableKind::Scripts, 0)];
-    assert_counts(&rt, rt.alloc(), "ext 5\nend", &counts)
+    let counts: &[Count] = &[(TableKind::Extensions, 1), (TableKind::Scripts, 0)];
+    assert_rows(&rt, rt.alloc(), "ext 5\nend", counts)
 }
 
 #[test]
 fn a_text_of_end_alone_has_no_table(rt: HostRuntime) -> Result<(), Fail> {
-    let counts = [(TableKind::Set, 0), (TableKind::Extensions, 0)];
-    assert_counts(&rt, rt.alloc(), "end", &counts)
+    let counts: &[Count] = &[(TableKind::Set, 0), (TableKind::Extensions, 0)];
+    assert_rows(&rt, rt.alloc(), "end", counts)
 }

@@ -1,85 +1,83 @@
 //! Tables of emoji: code points and strings.
-use crate::fixtures::{EVERY_KIND, Faulty, assert_faults};
+use crate::fixtures::{EVERY_KIND, Faulty, Row, assert_faults, assert_rows};
 use prop_data::{EmojiTable, PropertyDatabase, TableErrorKind};
-use std::alloc::Global;
-use std::process::Abort;
 use std::test::Fail;
 
-/// The code points of the table, as an inversion list.
-fn code_points(database: &PropertyDatabase) -> Option<&[u32]> {
-    let set = database.emoji(EmojiTable::BASIC_EMOJI)?;
-    Some(set.code_points().get_inversion_list())
+/// What is expected of the table.
+#[derive(Clone, Copy)]
+enum Expected {
+    /// Whether it has the text.
+    Contains(&'static str, bool),
+    /// Its code points, as an inversion list.
+    CodePoints(&'static [u32]),
+    /// How many code points and strings it has.
+    Size(usize),
+    /// That it is not there.
+    Absent,
 }
 
-/// How many code points and strings the table has.
-fn size(database: &PropertyDatabase) -> Option<usize> {
-    Some(database.emoji(EmojiTable::BASIC_EMOJI)?.size())
-}
-
-/// Whether the table has the text.
-fn contains(database: &PropertyDatabase, text: &str) -> Option<bool> {
-    Some(database.emoji(EmojiTable::BASIC_EMOJI)?.contains_str(text))
-}
-
-/// Asserts which texts the table has.
-fn assert_contains(
-    rt: &impl Abort,
-    alloc: Global,
-    text: &str,
-    rows: &[(&str, bool)],
-) -> Result<(), Fail> {
-    let database = PropertyDatabase::from_text(alloc, text)?;
-    for (text, expected) in rows {
-        assert_eq!(rt; contains(&database, text), Some(*expected), "at {text}");
+impl Row for Expected {
+    fn holds(&self, database: &PropertyDatabase) -> bool {
+        let Some(set) = database.emoji(EmojiTable::BASIC_EMOJI) else {
+            return matches!(self, Expected::Absent);
+        };
+        match *self {
+            Expected::Contains(text, is_member) => set.contains_str(text) == is_member,
+            Expected::CodePoints(list) => set.code_points().get_inversion_list() == list,
+            Expected::Size(size) => set.size() == size,
+            Expected::Absent => false,
+        }
     }
-    Ok(())
 }
 
 const EMOJI: &str = "emoji Basic_Emoji\n231A-231B\n{61_62}\n{00A9_FE0F}\n{} # the empty string\n\
     231D\n{000061_63}\nend";
 
+const TEXTS: &[Expected] = &[
+    Expected::Contains("\u{231A}", true),
+    Expected::Contains("\u{231C}", false),
+    Expected::Contains("", true),
+    Expected::Contains("ab", true),
+    Expected::Contains("ac", true),
+    Expected::Contains("\u{A9}\u{FE0F}", true),
+    Expected::Contains("\u{A9}", false),
+    Expected::Contains("abc", false),
+];
+
 #[test]
 fn texts_of_emoji_sets_are_found(rt: HostRuntime) -> Result<(), Fail> {
-    let rows = [
-        ("\u{231A}", true),
-        ("\u{231C}", false),
-        ("", true),
-        ("ab", true),
-        ("ac", true),
-        ("\u{A9}\u{FE0F}", true),
-        ("\u{A9}", false),
-        ("abc", false),
-    ];
-    assert_contains(&rt, rt.alloc(), EMOJI, &rows)
+    assert_rows(&rt, rt.alloc(), EMOJI, TEXTS)
 }
+
+const EVERY_TEXT: &[Expected] = &[
+    Expected::Contains("\u{231B}", true),
+    Expected::Contains("\u{A9}\u{FE0F}", true),
+    Expected::Contains("\u{FE0F}", false),
+];
 
 #[test]
 fn emoji_of_a_text_of_every_kind_are_found(rt: HostRuntime) -> Result<(), Fail> {
-    let rows = [
-        ("\u{231B}", true),
-        ("\u{A9}\u{FE0F}", true),
-        ("\u{FE0F}", false),
-    ];
-    assert_contains(&rt, rt.alloc(), EVERY_KIND, &rows)
+    assert_rows(&rt, rt.alloc(), EVERY_KIND, EVERY_TEXT)
 }
+
+const CODE_POINTS: &[Expected] = &[Expected::CodePoints(&[0x231A, 0x231C, 0x231D, 0x231E])];
 
 #[test]
 fn code_points_of_emoji_sets_are_joined(rt: HostRuntime) -> Result<(), Fail> {
-    let database = PropertyDatabase::from_text(rt.alloc(), EMOJI)?;
-    let expected: &[u32] = &[0x231A, 0x231C, 0x231D, 0x231E];
-    assert_eq!(rt; code_points(&database), Some(expected));
-    Ok(())
+    assert_rows(&rt, rt.alloc(), EMOJI, CODE_POINTS)
 }
+
+/// Texts, and the size of their table, if they have it.
+const SIZES: &[(&str, Expected)] = &[
+    (EMOJI, Expected::Size(7)),
+    ("emoji Basic_Emoji\nend", Expected::Size(0)),
+    ("set Emoji\nend", Expected::Absent),
+];
 
 #[test]
 fn emoji_sets_have_a_size(rt: HostRuntime) -> Result<(), Fail> {
-    for (text, expected) in [
-        (EMOJI, Some(7)),
-        ("emoji Basic_Emoji\nend", Some(0)),
-        ("set Emoji\nend", None),
-    ] {
-        let database = PropertyDatabase::from_text(rt.alloc(), text)?;
-        assert_eq!(rt; size(&database), expected, "at {text}");
+    for (text, expected) in SIZES {
+        assert_rows(&rt, rt.alloc(), text, &[*expected])?;
     }
     Ok(())
 }

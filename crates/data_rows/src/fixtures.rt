@@ -2,6 +2,7 @@
 use prop_data::{LoadError, PropertyDatabase, TableError, TableErrorKind};
 use std::alloc::Global;
 use std::process::Abort;
+use std::test::Fail;
 
 /// Tables of every kind.
 pub(crate) const EVERY_KIND: &str = "set XID_Start\n41-5A\n61-7A\n\
@@ -34,9 +35,58 @@ pub(crate) fn at(line: usize, kind: TableErrorKind) -> Option<LoadError> {
     Some(LoadError::Table(TableError { line, kind }))
 }
 
+/// Asserts the fault of the text.
+pub(crate) fn assert_fault(
+    rt: &impl Abort,
+    alloc: Global,
+    text: &str,
+    expected: Option<LoadError>,
+) {
+    assert_eq!(rt; fault_of(alloc, text), expected, "at {text}");
+}
+
 /// Asserts that each text has its fault.
 pub(crate) fn assert_faults(rt: &impl Abort, alloc: Global, rows: &[Faulty]) {
     for (text, line, kind) in rows {
-        assert_eq!(rt; fault_of(alloc, text), at(*line, *kind), "at {text}");
+        assert_fault(rt, alloc, text, at(*line, *kind));
     }
+}
+
+/// A question to a database, with the answer that is expected.
+pub(crate) trait Row {
+    /// Whether the database gives this answer.
+    fn holds(&self, database: &PropertyDatabase) -> bool;
+}
+
+/// The index of the first row that does not hold.
+fn first_wrong<R: Row>(database: &PropertyDatabase, rows: &[R]) -> Option<usize> {
+    for (index, row) in rows.iter().enumerate() {
+        if !row.holds(database) {
+            return Some(index);
+        }
+    }
+    None
+}
+
+/// The index of the first row that does not hold of the text's database. This function alone owns a database, since it
+/// is proved slowly where it is owned.
+fn first_wrong_of<R: Row>(
+    alloc: Global,
+    text: &str,
+    rows: &[R],
+) -> Result<Option<usize>, LoadError> {
+    let database = PropertyDatabase::from_text(alloc, text)?;
+    Ok(first_wrong(&database, rows))
+}
+
+/// Asserts that each row holds of the text's database. A failure tells the index of the first that does not.
+pub(crate) fn assert_rows<R: Row>(
+    rt: &impl Abort,
+    alloc: Global,
+    text: &str,
+    rows: &[R],
+) -> Result<(), Fail> {
+    let wrong = first_wrong_of(alloc, text, rows)?;
+    assert_eq!(rt; wrong, None, "a row of {text}");
+    Ok(())
 }

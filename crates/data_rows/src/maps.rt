@@ -1,8 +1,6 @@
 //! Tables of maps.
-use crate::fixtures::{EVERY_KIND, Faulty, assert_faults};
+use crate::fixtures::{EVERY_KIND, Faulty, Row, assert_faults, assert_rows};
 use prop_data::{MapTable, PropertyDatabase, TableErrorKind};
-use std::alloc::Global;
-use std::process::Abort;
 use std::test::Fail;
 
 /// The number of the value at the code point.
@@ -10,26 +8,22 @@ fn value(database: &PropertyDatabase, table: MapTable, code_point: u32) -> Optio
     Some(database.map(table)?.get32(code_point))
 }
 
-/// Asserts that the text has these values in its maps.
-fn assert_values(
-    rt: &impl Abort,
-    alloc: Global,
-    text: &str,
-    rows: &[(MapTable, u32, Option<u32>)],
-) -> Result<(), Fail> {
-    let database = PropertyDatabase::from_text(alloc, text)?;
-    for (table, code_point, expected) in rows {
-        let found = value(&database, *table, *code_point);
-        assert_eq!(rt; found, *expected, "at {} {code_point}", table.number());
+/// A map, a code point and the number of its value, if the text has the map.
+type Value = (MapTable, u32, Option<u32>);
+
+impl Row for Value {
+    fn holds(&self, database: &PropertyDatabase) -> bool {
+        let (table, code_point, expected) = *self;
+        value(database, table, code_point) == expected
     }
-    Ok(())
 }
+
+const MAPS: &str = "map Script 103\n41-5A 25\n61-7A 0025\n30FC 0\nset Dash\n2D\n\
+    map General_Category 29\nmap Bidi_Mirroring_Glyph 0\n28 6291497\nend";
 
 #[test]
 fn maps_are_read(rt: HostRuntime) -> Result<(), Fail> {
-    let text = "map Script 103\n41-5A 25\n61-7A 0025\n30FC 0\nset Dash\n2D\n\
-        map General_Category 29\nmap Bidi_Mirroring_Glyph 0\n28 6291497\nend";
-    let rows = [
+    let rows: [Value; 13] = [
         (MapTable::SCRIPT, 0x40, Some(103)),
         (MapTable::SCRIPT, 0x41, Some(25)),
         (MapTable::SCRIPT, 0x5A, Some(25)),
@@ -44,12 +38,12 @@ fn maps_are_read(rt: HostRuntime) -> Result<(), Fail> {
         (MapTable::BIDI_MIRRORING_GLYPH, 0x28, Some(0x60_0029)),
         (MapTable::BLOCK, 0x28, None),
     ];
-    assert_values(&rt, rt.alloc(), text, &rows)
+    assert_rows(&rt, rt.alloc(), MAPS, &rows)
 }
 
 #[test]
 fn maps_of_a_text_of_every_kind_are_read(rt: HostRuntime) -> Result<(), Fail> {
-    let rows = [
+    let rows: [Value; 9] = [
         (MapTable::GENERAL_CATEGORY, 0x2F, Some(0)),
         (MapTable::GENERAL_CATEGORY, 0x39, Some(9)),
         (MapTable::GENERAL_CATEGORY, 0x61, Some(2)),
@@ -60,7 +54,7 @@ fn maps_of_a_text_of_every_kind_are_read(rt: HostRuntime) -> Result<(), Fail> {
         (MapTable::CANONICAL_COMBINING_CLASS, 0x315, Some(0)),
         (MapTable::BIDI_MIRRORING_GLYPH, 0x28, None),
     ];
-    assert_values(&rt, rt.alloc(), EVERY_KIND, &rows)
+    assert_rows(&rt, rt.alloc(), EVERY_KIND, &rows)
 }
 
 /// Numbers that a property has no value for, and misspelled, large or disordered ranges.

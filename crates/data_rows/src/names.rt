@@ -1,4 +1,5 @@
 //! The tables of the names of a property's values, by the property's type.
+use crate::fixtures::{Row, assert_rows};
 use cp_trie::TrieValue;
 use prop_data::{NamedEnumeratedProperty, PropertyDatabase, PropertyEnumToValueNameLookup};
 use prop_values::{BidiClass, CanonicalCombiningClass, GeneralCategory, Script};
@@ -29,56 +30,141 @@ fn short_name<'a, T: NamedEnumeratedProperty + 'a>(
     T::short_table(database)?.get(value.to_u32())
 }
 
-/// The name in a copy of the table of long names, spelled anew.
+/// Whether the value has the name in a copy of the table of long names.
 fn copied_name<T: NamedEnumeratedProperty>(
     alloc: Global,
     database: &PropertyDatabase,
     value: T,
-) -> Result<String, Fail> {
-    let table = T::long_table(database).ok_or("no table")?.copy(alloc)?;
-    let name = table.get(value.to_u32()).ok_or("no name")?;
-    Ok(String::from_str(alloc, name)?)
+    name: &str,
+) -> Option<bool> {
+    let copy = T::long_table(database)?.copy(alloc).ok()?;
+    Some(copy.get(value.to_u32()) == Some(name))
+}
+
+/// Whether the tables of long and of short names are there.
+fn are_there<T: NamedEnumeratedProperty>(
+    database: &PropertyDatabase,
+    has_long: bool,
+    has_short: bool,
+) -> bool {
+    T::long_table(database).is_some() == has_long && T::short_table(database).is_some() == has_short
+}
+
+/// A value of one of four properties.
+#[derive(Clone, Copy)]
+enum Value {
+    Script(Script),
+    Class(CanonicalCombiningClass),
+    Category(GeneralCategory),
+    BidiClass(BidiClass),
+}
+
+/// A value with its long and its short name.
+type Named = (Value, Option<&'static str>, Option<&'static str>);
+
+/// Whether the value has these names.
+fn is_named<T: NamedEnumeratedProperty + Copy>(
+    database: &PropertyDatabase,
+    value: T,
+    long: Option<&str>,
+    short: Option<&str>,
+) -> bool {
+    long_name(database, value) == long && short_name(database, value) == short
+}
+
+impl Row for Named {
+    fn holds(&self, database: &PropertyDatabase) -> bool {
+        let (value, long, short) = *self;
+        match value {
+            Value::Script(value) => is_named(database, value, long, short),
+            Value::Class(value) => is_named(database, value, long, short),
+            Value::Category(value) => is_named(database, value, long, short),
+            Value::BidiClass(value) => is_named(database, value, long, short),
+        }
+    }
 }
 
 #[test]
 fn a_value_is_named_by_the_tables_of_its_type(rt: HostRuntime) -> Result<(), Fail> {
-    let database = PropertyDatabase::from_text(rt.alloc(), NAMES)?;
-    let above = CanonicalCombiningClass(230);
-    assert_eq!(rt; long_name(&database, Script::Latin), Some("Latin"));
-    assert_eq!(rt; short_name(&database, Script::Latin), Some("Latn"));
-    assert_eq!(rt; long_name(&database, above), Some("Above"));
-    assert_eq!(rt; short_name(&database, above), Some("A"));
-    let upper = GeneralCategory::UppercaseLetter;
-    assert_eq!(rt; long_name(&database, upper), Some("Uppercase_Letter"));
-    assert_eq!(rt; short_name(&database, upper), Some("Lu"));
-    let number = BidiClass::ArabicNumber;
-    assert_eq!(rt; long_name(&database, number), Some("Arabic_Number"));
-    assert_eq!(rt; short_name(&database, number), Some("AN"));
-    assert_eq!(rt; long_name(&database, BidiClass::WhiteSpace), None);
-    Ok(())
+    let rows: [Named; 5] = [
+        (Value::Script(Script::Latin), Some("Latin"), Some("Latn")),
+        (
+            Value::Class(CanonicalCombiningClass(230)),
+            Some("Above"),
+            Some("A"),
+        ),
+        (
+            Value::Category(GeneralCategory::UppercaseLetter),
+            Some("Uppercase_Letter"),
+            Some("Lu"),
+        ),
+        (
+            Value::BidiClass(BidiClass::ArabicNumber),
+            Some("Arabic_Number"),
+            Some("AN"),
+        ),
+        (Value::BidiClass(BidiClass::WhiteSpace), None, None),
+    ];
+    assert_rows(&rt, rt.alloc(), NAMES, &rows)
+}
+
+/// What copies of the tables of two types are expected to have.
+#[derive(Clone, Copy)]
+enum Copied {
+    Class(Global, CanonicalCombiningClass, &'static str),
+    Script(Global, Script, &'static str),
+}
+
+impl Row for Copied {
+    fn holds(&self, database: &PropertyDatabase) -> bool {
+        match *self {
+            Copied::Class(alloc, value, name) => {
+                copied_name(alloc, database, value, name) == Some(true)
+            }
+            Copied::Script(alloc, value, name) => {
+                copied_name(alloc, database, value, name) == Some(true)
+            }
+        }
+    }
 }
 
 #[test]
 fn the_tables_of_a_type_are_copied(rt: HostRuntime) -> Result<(), Fail> {
-    let database = PropertyDatabase::from_text(rt.alloc(), NAMES)?;
-    let above = copied_name(rt.alloc(), &database, CanonicalCombiningClass(230))?;
-    assert_eq!(rt; above.as_str(), "Above");
-    let latin = copied_name(rt.alloc(), &database, Script::Latin)?;
-    assert_eq!(rt; latin.as_str(), "Latin");
-    Ok(())
+    let rows = [
+        Copied::Class(rt.alloc(), CanonicalCombiningClass(230), "Above"),
+        Copied::Script(rt.alloc(), Script::Latin, "Latin"),
+    ];
+    assert_rows(&rt, rt.alloc(), NAMES, &rows)
+}
+
+/// A type of property, and whether it has a table of long and of short names.
+#[derive(Clone, Copy)]
+enum Kept {
+    Script(bool, bool),
+    Class(bool, bool),
+    Category(bool, bool),
+    BidiClass(bool, bool),
+}
+
+impl Row for Kept {
+    fn holds(&self, database: &PropertyDatabase) -> bool {
+        match *self {
+            Kept::Script(long, short) => are_there::<Script>(database, long, short),
+            Kept::Class(long, short) => are_there::<CanonicalCombiningClass>(database, long, short),
+            Kept::Category(long, short) => are_there::<GeneralCategory>(database, long, short),
+            Kept::BidiClass(long, short) => are_there::<BidiClass>(database, long, short),
+        }
+    }
 }
 
 #[test]
 fn a_type_has_no_table_that_the_text_has_not(rt: HostRuntime) -> Result<(), Fail> {
     let text = "long Script\nshort Canonical_Combining_Class\nlong General_Category\nend";
-    let database = PropertyDatabase::from_text(rt.alloc(), text)?;
-    assert!(rt; Script::long_table(&database).is_some());
-    assert!(rt; Script::short_table(&database).is_none());
-    assert!(rt; CanonicalCombiningClass::long_table(&database).is_none());
-    assert!(rt; CanonicalCombiningClass::short_table(&database).is_some());
-    assert!(rt; GeneralCategory::long_table(&database).is_some());
-    assert!(rt; GeneralCategory::short_table(&database).is_none());
-    assert!(rt; BidiClass::long_table(&database).is_none());
-    assert!(rt; BidiClass::short_table(&database).is_none());
-    Ok(())
+    let rows = [
+        Kept::Script(true, false),
+        Kept::Class(false, true),
+        Kept::Category(true, false),
+        Kept::BidiClass(false, false),
+    ];
+    assert_rows(&rt, rt.alloc(), text, &rows)
 }

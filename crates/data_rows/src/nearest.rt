@@ -1,5 +1,5 @@
 //! For each kind of fault a text that has it, and the nearest text that is accepted.
-use crate::fixtures::{at, fault_of};
+use crate::fixtures::{assert_fault, at};
 use prop_data::TableErrorKind;
 use std::alloc::Global;
 use std::process::Abort;
@@ -220,8 +220,8 @@ const LISTS: &[Nearest] = &[
 /// Asserts that of each pair the one text is accepted, and the other has its fault.
 fn assert_nearest(rt: &impl Abort, alloc: Global, rows: &[Nearest]) {
     for (accepted, refused, line, kind) in rows {
-        assert_eq!(rt; fault_of(alloc, accepted), None, "at {accepted}");
-        assert_eq!(rt; fault_of(alloc, refused), at(*line, *kind), "at {refused}");
+        assert_fault(rt, alloc, accepted, None);
+        assert_fault(rt, alloc, refused, at(*line, *kind));
     }
 }
 

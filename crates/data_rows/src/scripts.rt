@@ -1,63 +1,28 @@
 //! Scripts with extensions, and their lists.
-use crate::fixtures::{EVERY_KIND, Faulty, assert_faults};
+use crate::fixtures::{EVERY_KIND, Faulty, Row, assert_faults, assert_rows};
 use prop_data::{PropertyDatabase, TableErrorKind};
 use prop_values::Script;
 use std::alloc::Global;
-use std::process::Abort;
 use std::test::Fail;
+
+/// What is expected of the scripts of a text.
+#[derive(Clone, Copy)]
+enum Expected {
+    /// A code point and its number.
+    Number(u32, u16),
+    /// An index, and the numbers of the scripts in its list.
+    List(u16, &'static [u16]),
+    /// An index that has no list.
+    NoList(u16),
+    /// That the text has no scripts.
+    Absent,
+    /// That a copy has the number of a code point, and a list of scripts with these numbers at 0.
+    Copied(Global, u32, u16, &'static [u16]),
+}
 
 /// The number at the code point.
 fn number(database: &PropertyDatabase, code_point: u32) -> Option<u16> {
     Some(database.scripts()?.script_trie().get32(code_point).0)
-}
-
-/// Asserts which numbers the code points have.
-fn assert_numbers(
-    rt: &impl Abort,
-    alloc: Global,
-    text: &str,
-    rows: &[(u32, u16)],
-) -> Result<(), Fail> {
-    let database = PropertyDatabase::from_text(alloc, text)?;
-    for (code_point, expected) in rows {
-        assert_eq!(rt;
-            number(&database, *code_point),
-            Some(*expected),
-            "at {code_point}"
-        );
-    }
-    Ok(())
-}
-
-const SCRIPTS: &str =
-    "ext 6\n1\n3\nscx 103\n41-5A 25\n30FC 1024\n30FD 03077\n30FE 2054\n30FF 65535\n\
-    ext 0\n20\n22\next 00005 25\n0\n65535\next 1023\nend";
-
-#[test]
-fn scripts_with_extensions_are_read(rt: HostRuntime) -> Result<(), Fail> {
-    let rows = [
-        (0x40, 103),
-        (0x5A, 25),
-        (0x30FC, 1024),
-        (0x30FD, 3077),
-        (0x30FE, 2054),
-        (0x30FF, 65535),
-        (0x10_FFFF, 103),
-        (0x11_0000, 103),
-    ];
-    assert_numbers(&rt, rt.alloc(), SCRIPTS, &rows)
-}
-
-#[test]
-fn scripts_of_a_text_of_every_kind_are_read(rt: HostRuntime) -> Result<(), Fail> {
-    let rows = [(0x61, 25), (0x30FA, 22), (0x30FB, 103), (0x30FC, 1024)];
-    assert_numbers(&rt, rt.alloc(), EVERY_KIND, &rows)
-}
-
-#[test]
-fn past_the_last_code_point_a_script_is_unknown(rt: HostRuntime) -> Result<(), Fail> {
-    let rows = [(0x10_FFFF, 7), (0x11_0000, 103)];
-    assert_numbers(&rt, rt.alloc(), "scx 7\nend", &rows)
 }
 
 /// The list at the index.
@@ -77,43 +42,103 @@ fn have_numbers(scripts: Option<&[Script]>, numbers: &[u16]) -> bool {
             .all(|(script, number)| script.to_icu4c_value() == *number)
 }
 
+/// The number of a code point in a copy of the scripts, and whether the list at 0 has these numbers there.
+fn copied(
+    alloc: Global,
+    database: &PropertyDatabase,
+    code_point: u32,
+    numbers: &[u16],
+) -> Option<(u16, bool)> {
+    let copy = database.scripts()?.copy(alloc).ok()?;
+    let number = copy.script_trie().get32(code_point).0;
+    Some((number, have_numbers(copy.extensions(0), numbers)))
+}
+
+impl Row for Expected {
+    fn holds(&self, database: &PropertyDatabase) -> bool {
+        match *self {
+            Expected::Number(code_point, expected) => {
+                number(database, code_point) == Some(expected)
+            }
+            Expected::List(index, numbers) => have_numbers(list(database, index), numbers),
+            Expected::NoList(index) => list(database, index).is_none(),
+            Expected::Absent => database.scripts().is_none(),
+            Expected::Copied(alloc, code_point, expected, numbers) => {
+                copied(alloc, database, code_point, numbers) == Some((expected, true))
+            }
+        }
+    }
+}
+
+const SCRIPTS: &str =
+    "ext 6\n1\n3\nscx 103\n41-5A 25\n30FC 1024\n30FD 03077\n30FE 2054\n30FF 65535\n\
+    ext 0\n20\n22\next 00005 25\n0\n65535\next 1023\nend";
+
+const NUMBERS: &[Expected] = &[
+    Expected::Number(0x40, 103),
+    Expected::Number(0x5A, 25),
+    Expected::Number(0x30FC, 1024),
+    Expected::Number(0x30FD, 3077),
+    Expected::Number(0x30FE, 2054),
+    Expected::Number(0x30FF, 65535),
+    Expected::Number(0x10_FFFF, 103),
+    Expected::Number(0x11_0000, 103),
+];
+
+#[test]
+fn scripts_with_extensions_are_read(rt: HostRuntime) -> Result<(), Fail> {
+    assert_rows(&rt, rt.alloc(), SCRIPTS, NUMBERS)
+}
+
+const EVERY_NUMBER: &[Expected] = &[
+    Expected::Number(0x61, 25),
+    Expected::Number(0x30FA, 22),
+    Expected::Number(0x30FB, 103),
+    Expected::Number(0x30FC, 1024),
+];
+
+#[test]
+fn scripts_of_a_text_of_every_kind_are_read(rt: HostRuntime) -> Result<(), Fail> {
+    assert_rows(&rt, rt.alloc(), EVERY_KIND, EVERY_NUMBER)
+}
+
+const LAST_NUMBERS: &[Expected] = &[
+    Expected::Number(0x10_FFFF, 7),
+    Expected::Number(0x11_0000, 103),
+];
+
+#[test]
+fn past_the_last_code_point_a_script_is_unknown(rt: HostRuntime) -> Result<(), Fail> {
+    assert_rows(&rt, rt.alloc(), "scx 7\nend", LAST_NUMBERS)
+}
+
+const LISTED: &[Expected] = &[
+    Expected::List(0, &[20, 22]),
+    Expected::List(5, &[25, 0, 65535]),
+    Expected::List(6, &[1, 3]),
+    Expected::List(1023, &[]),
+];
+
 #[test]
 fn lists_are_found_by_their_indices(rt: HostRuntime) -> Result<(), Fail> {
-    let database = PropertyDatabase::from_text(rt.alloc(), SCRIPTS)?;
-    let lists: [(u16, &[u16]); 4] = [
-        (0, &[20, 22]),
-        (5, &[25, 0, 65535]),
-        (6, &[1, 3]),
-        (1023, &[]),
-    ];
-    for (index, numbers) in lists {
-        assert!(rt; have_numbers(list(&database, index), numbers), "at {index}");
-    }
-    Ok(())
+    assert_rows(&rt, rt.alloc(), SCRIPTS, LISTED)
 }
 
 #[test]
 fn other_indices_have_no_list(rt: HostRuntime) -> Result<(), Fail> {
-    let database = PropertyDatabase::from_text(rt.alloc(), SCRIPTS)?;
-    assert!(rt; list(&database, 1).is_none());
-    assert!(rt; list(&database, 1024).is_none());
-    Ok(())
+    let rows = [Expected::NoList(1), Expected::NoList(1024)];
+    assert_rows(&rt, rt.alloc(), SCRIPTS, &rows)
 }
 
 #[test]
 fn lists_alone_are_no_scripts(rt: HostRuntime) -> Result<(), Fail> {
-    let database = PropertyDatabase::from_text(rt.alloc(), "ext 0\n20\nend")?;
-    assert!(rt; database.scripts().is_none());
-    Ok(())
+    assert_rows(&rt, rt.alloc(), "ext 0\n20\nend", &[Expected::Absent])
 }
 
 #[test]
 fn a_copy_of_scripts_answers_alike(rt: HostRuntime) -> Result<(), Fail> {
-    let database = PropertyDatabase::from_text(rt.alloc(), SCRIPTS)?;
-    let copy = database.scripts().ok_or("no table")?.copy(rt.alloc())?;
-    assert_eq!(rt; copy.script_trie().get32(0x30FC).0, 1024);
-    assert!(rt; have_numbers(copy.extensions(0), &[20, 22]));
-    Ok(())
+    let rows = [Expected::Copied(rt.alloc(), 0x30FC, 1024, &[20, 22])];
+    assert_rows(&rt, rt.alloc(), SCRIPTS, &rows)
 }
 
 /// Headers and rows that are none, tables that are there, and misspelled numbers.

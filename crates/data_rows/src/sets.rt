@@ -1,8 +1,6 @@
 //! Tables of sets.
-use crate::fixtures::{EVERY_KIND, Faulty, assert_faults, fault_of};
+use crate::fixtures::{EVERY_KIND, Faulty, Row, assert_fault, assert_faults, assert_rows};
 use prop_data::{PropertyDatabase, SetTable, TableErrorKind};
-use std::alloc::Global;
-use std::process::Abort;
 use std::test::Fail;
 
 /// A text with each table; XID_Continue has no row.
@@ -14,81 +12,71 @@ fn members(database: &PropertyDatabase, table: SetTable) -> Option<&[u32]> {
     Some(database.set(table)?.get_inversion_list())
 }
 
-/// Asserts that the text has these tables of sets.
-fn assert_sets(
-    rt: &impl Abort,
-    alloc: Global,
-    text: &str,
-    rows: &[(SetTable, Option<&[u32]>)],
-) -> Result<(), Fail> {
-    let database = PropertyDatabase::from_text(alloc, text)?;
-    for (table, expected) in rows {
-        assert_eq!(rt;
-            members(&database, *table),
-            *expected,
-            "at {}",
-            table.number()
-        );
+/// A table, and its members, if the text has it.
+type Members = (SetTable, Option<&'static [u32]>);
+
+impl Row for Members {
+    fn holds(&self, database: &PropertyDatabase) -> bool {
+        let (table, expected) = *self;
+        members(database, table) == expected
     }
-    Ok(())
 }
 
 #[test]
 fn tables_are_read(rt: HostRuntime) -> Result<(), Fail> {
-    let start: &[u32] = &[0x41, 0x5B, 0x5F, 0x60, 0x61, 0x7B, 0x7B0, 0x7B2];
-    let white_space: &[u32] = &[9, 0xE, 0x20, 0x21, 0x10_FFFF, 0x11_0000];
-    let rows = [
-        (SetTable::XID_START, Some(start)),
+    let rows: [Members; 4] = [
+        (
+            SetTable::XID_START,
+            Some(&[0x41, 0x5B, 0x5F, 0x60, 0x61, 0x7B, 0x7B0, 0x7B2]),
+        ),
         (SetTable::XID_CONTINUE, Some(&[])),
-        (SetTable::PATTERN_WHITE_SPACE, Some(white_space)),
+        (
+            SetTable::PATTERN_WHITE_SPACE,
+            Some(&[9, 0xE, 0x20, 0x21, 0x10_FFFF, 0x11_0000]),
+        ),
         (SetTable::EMOJI, None),
     ];
-    assert_sets(&rt, rt.alloc(), SYNTAX, &rows)
+    assert_rows(&rt, rt.alloc(), SYNTAX, &rows)
 }
 
 #[test]
 fn neighbouring_rows_are_joined(rt: HostRuntime) -> Result<(), Fail> {
     let text = "set XID_Continue\n41-5A\nset XID_Start\n41-4F\n50\n51-5A\nend";
-    let letters: &[u32] = &[0x41, 0x5B];
-    let rows = [
-        (SetTable::XID_START, Some(letters)),
+    let rows: [Members; 2] = [
+        (SetTable::XID_START, Some(&[0x41, 0x5B])),
         (SetTable::PATTERN_WHITE_SPACE, None),
     ];
-    assert_sets(&rt, rt.alloc(), text, &rows)
+    assert_rows(&rt, rt.alloc(), text, &rows)
 }
 
 #[test]
 fn sets_of_a_text_of_every_kind_are_read(rt: HostRuntime) -> Result<(), Fail> {
-    let digits: &[u32] = &[0x30, 0x3A, 0x41, 0x47, 0x61, 0x67];
-    let letters: &[u32] = &[0x41, 0x5B, 0x61, 0x7B];
-    let rows = [
-        (SetTable::ASCII_HEX_DIGIT, Some(digits)),
-        (SetTable::XID_START, Some(letters)),
+    let rows: [Members; 3] = [
+        (
+            SetTable::ASCII_HEX_DIGIT,
+            Some(&[0x30, 0x3A, 0x41, 0x47, 0x61, 0x67]),
+        ),
+        (SetTable::XID_START, Some(&[0x41, 0x5B, 0x61, 0x7B])),
         (SetTable::DASH, None),
     ];
-    assert_sets(&rt, rt.alloc(), EVERY_KIND, &rows)
+    assert_rows(&rt, rt.alloc(), EVERY_KIND, &rows)
 }
 
 #[test]
 fn a_text_of_end_alone_has_no_table(rt: HostRuntime) -> Result<(), Fail> {
-    let rows = [(SetTable::XID_START, None), (SetTable::XID_CONTINUE, None)];
-    assert_sets(&rt, rt.alloc(), "end", &rows)
+    let rows: [Members; 2] = [(SetTable::XID_START, None), (SetTable::XID_CONTINUE, None)];
+    assert_rows(&rt, rt.alloc(), "end", &rows)
 }
 
 #[test]
 fn other_sets_may_hold_any_ascii(rt: HostRuntime) -> Result<(), Fail> {
     let text = "set Dash\n2D\nset Pattern_Syntax\n21-2F\nset White_Space\n20\nend";
-    let (dash, syntax, white_space): (&[u32], &[u32], &[u32]) = (
-        &[0x2D, 0x2E],
-        &[0x21, 0x30],
-        &[0x20, 0x21],
-    );
-    let rows = [
-        (SetTable::DASH, Some(dash)),
-        (SetTable::PATTERN_SYNTAX, Some(syntax)),
-        (SetTable::WHITE_SPACE, Some(white_space)),
+    let rows: [Members; 3] = [
+        (SetTable::DASH, Some(&[0x2D, 0x2E])),
+        (SetTable::PATTERN_SYNTAX, Some(&[0x21, 0x30])),
+        (SetTable::WHITE_SPACE, Some(&[0x20, 0x21])),
     ];
-    assert_sets(&rt, rt.alloc(), text, &rows)
+    assert_rows(&rt, rt.alloc(), text, &rows)
 }
 
 /// Rows that are no range.
@@ -242,6 +230,6 @@ fn ascii_beside_the_syntax_is_read(rt: HostRuntime) {
         "set XID_Start\n30-39\n41-5A\n5F\n61-7A\n80\nend\n",
         "set XID_Continue\n30-39\n41-5A\n5F\n61-7A\n80\nend\n",
     ] {
-        assert_eq!(rt; fault_of(rt.alloc(), text), None, "at {text}");
+        assert_fault(&rt, rt.alloc(), text, None);
     }
 }

@@ -1,17 +1,12 @@
 //! Tables of long and short names: names by their values.
-use crate::fixtures::{EVERY_KIND, Faulty, assert_faults};
-use cp_invlist::NoMemory;
+use crate::fixtures::{EVERY_KIND, Faulty, Row, assert_faults, assert_rows};
 use prop_data::{
     MapTable, PropertyDatabase, PropertyEnumToValueNameLinearMap, PropertyEnumToValueNameLookup,
     TableErrorKind,
 };
-use prop_values::Subtag;
-use std::alloc::Global;
+use std::alloc::{AllocError, Global};
 use std::process::Abort;
 use std::test::Fail;
-
-/// A table, a number and the name of the value with this number.
-type Named = (Table, u32, Option<&'static str>);
 
 /// The table that is asked.
 #[derive(Clone, Copy)]
@@ -21,6 +16,23 @@ enum Table {
     LongClasses,
     ShortClasses,
     Subtags,
+}
+
+/// What is expected of the tables of long and short names.
+#[derive(Clone, Copy)]
+enum Expected {
+    /// A table, a number and the name of the value with this number.
+    Named(Table, u32, Option<&'static str>),
+    /// Whether the table is there.
+    Kept(Table, bool),
+    /// The number of a script, and its subtag.
+    Subtag(u32, Option<&'static str>),
+    /// The number of a script, and its name in a copy of the names of scripts.
+    CopiedScript(Global, u32, &'static str),
+    /// The number of a class, and its name in a copy of the names of classes.
+    CopiedClass(Global, u32, &'static str),
+    /// The number of a script, and its subtag in a copy of the subtags.
+    CopiedSubtag(Global, u32, &'static str),
 }
 
 /// The name of the value.
@@ -34,51 +46,7 @@ fn name_of(database: &PropertyDatabase, table: Table, number: u32) -> Option<&st
     }
 }
 
-/// Asserts that the values are named so.
-fn assert_named(rt: &impl Abort, alloc: Global, text: &str, rows: &[Named]) -> Result<(), Fail> {
-    let database = PropertyDatabase::from_text(alloc, text)?;
-    for (table, number, expected) in rows {
-        assert_eq!(rt;
-            name_of(&database, *table, *number),
-            *expected,
-            "at {number}"
-        );
-    }
-    Ok(())
-}
-
-const NAMES: &str = "long Script\n25 Latin\n0 Common\nlong Canonical_Combining_Class\n230 Above\n\
-    short Script\n25 lATN\nshort Canonical_Combining_Class\n230 A\nshort Block\n65535 X-y\nend";
-
-#[test]
-fn long_and_short_names_are_found(rt: HostRuntime) -> Result<(), Fail> {
-    let rows: [Named; 10] = [
-        (Table::Long(MapTable::SCRIPT), 25, Some("Latin")),
-        (Table::Long(MapTable::SCRIPT), 0, Some("Common")),
-        (Table::Long(MapTable::SCRIPT), 1, None),
-        (Table::Long(MapTable::SCRIPT), 65561, None),
-        (Table::LongClasses, 230, Some("Above")),
-        (Table::LongClasses, 0, None),
-        (Table::Subtags, 25, Some("Latn")),
-        (Table::Subtags, 38, None),
-        (Table::ShortClasses, 230, Some("A")),
-        (Table::Short(MapTable::BLOCK), 65535, Some("X-y")),
-    ];
-    assert_named(&rt, rt.alloc(), NAMES, &rows)
-}
-
-#[test]
-fn long_and_short_names_of_a_text_of_every_kind_are_found(rt: HostRuntime) -> Result<(), Fail> {
-    let rows: [Named; 4] = [
-        (Table::Long(MapTable::SCRIPT), 25, Some("Latin")),
-        (Table::Subtags, 25, Some("Latn")),
-        (Table::Subtags, 20, None),
-        (Table::LongClasses, 230, None),
-    ];
-    assert_named(&rt, rt.alloc(), EVERY_KIND, &rows)
-}
-
-/// Whether each table is there that might be.
+/// Whether the table is there.
 fn has_table(database: &PropertyDatabase, table: Table) -> bool {
     match table {
         Table::Long(table) => database.long_linear(table).is_some(),
@@ -89,80 +57,183 @@ fn has_table(database: &PropertyDatabase, table: Table) -> bool {
     }
 }
 
-#[test]
-fn each_table_is_kept_in_one_kind(rt: HostRuntime) -> Result<(), Fail> {
-    let tables = [
-        (Table::Long(MapTable::SCRIPT), true),
-        (Table::Short(MapTable::SCRIPT), false),
-        (Table::Long(MapTable::CANONICAL_COMBINING_CLASS), false),
-        (Table::Short(MapTable::CANONICAL_COMBINING_CLASS), false),
-        (Table::Long(MapTable::BLOCK), false),
-        (Table::Short(MapTable::BLOCK), true),
-        (Table::LongClasses, true),
-        (Table::ShortClasses, true),
-        (Table::Subtags, true),
-    ];
-    let database = PropertyDatabase::from_text(rt.alloc(), NAMES)?;
-    let empty = PropertyDatabase::from_text(rt.alloc(), "end")?;
-    for (table, is_there) in &tables {
-        assert_eq!(rt; has_table(&database, *table), *is_there);
-        assert!(rt; !has_table(&empty, *table));
+/// Whether the script has this subtag.
+fn has_subtag(database: &PropertyDatabase, number: u32, expected: Option<&str>) -> bool {
+    let Some(table) = database.short_script() else {
+        return false;
+    };
+    match (table.get_script(number), expected) {
+        (Some(subtag), Some(text)) => subtag.as_str() == text,
+        (found, expected) => found.is_none() && expected.is_none(),
     }
-    Ok(())
 }
 
-/// The subtag of a script.
-fn subtag(database: &PropertyDatabase, number: u32) -> Option<Subtag> {
-    database.short_script()?.get_script(number)
+/// Whether the value has the name in a copy of the names of scripts.
+fn copied_script(
+    alloc: Global,
+    database: &PropertyDatabase,
+    number: u32,
+    name: &str,
+) -> Option<bool> {
+    let copy = database.long_linear(MapTable::SCRIPT)?.copy(alloc).ok()?;
+    Some(copy.get(number) == Some(name))
+}
+
+/// Whether the value has the name in a copy of the names of classes.
+fn copied_class(
+    alloc: Global,
+    database: &PropertyDatabase,
+    number: u32,
+    name: &str,
+) -> Option<bool> {
+    let copy = database.long_ccc()?.copy(alloc).ok()?;
+    Some(copy.get(number) == Some(name))
+}
+
+/// Whether the value has the name in a copy of the subtags.
+fn copied_subtag(
+    alloc: Global,
+    database: &PropertyDatabase,
+    number: u32,
+    name: &str,
+) -> Option<bool> {
+    let copy = database.short_script()?.copy(alloc).ok()?;
+    Some(copy.get(number) == Some(name))
+}
+
+impl Row for Expected {
+    fn holds(&self, database: &PropertyDatabase) -> bool {
+        match *self {
+            Expected::Named(table, number, expected) => name_of(database, table, number)
+                == expected,
+            Expected::Kept(table, is_there) => has_table(database, table) == is_there,
+            Expected::Subtag(number, expected) => has_subtag(database, number, expected),
+            Expected::CopiedScript(alloc, number, name) => {
+                copied_script(alloc, database, number, name) == Some(true)
+            }
+            Expected::CopiedClass(alloc, number, name) => {
+                copied_class(alloc, database, number, name) == Some(true)
+            }
+            Expected::CopiedSubtag(alloc, number, name) => {
+                copied_subtag(alloc, database, number, name) == Some(true)
+            }
+        }
+    }
+}
+
+const NAMES: &str = "long Script\n25 Latin\n0 Common\nlong Canonical_Combining_Class\n230 Above\n\
+    short Script\n25 lATN\nshort Canonical_Combining_Class\n230 A\nshort Block\n65535 X-y\nend";
+
+#[test]
+fn long_and_short_names_are_found(rt: HostRuntime) -> Result<(), Fail> {
+    let rows: [Expected; 10] = [
+        Expected::Named(Table::Long(MapTable::SCRIPT), 25, Some("Latin")),
+        Expected::Named(Table::Long(MapTable::SCRIPT), 0, Some("Common")),
+        Expected::Named(Table::Long(MapTable::SCRIPT), 1, None),
+        Expected::Named(Table::Long(MapTable::SCRIPT), 65561, None),
+        Expected::Named(Table::LongClasses, 230, Some("Above")),
+        Expected::Named(Table::LongClasses, 0, None),
+        Expected::Named(Table::Subtags, 25, Some("Latn")),
+        Expected::Named(Table::Subtags, 38, None),
+        Expected::Named(Table::ShortClasses, 230, Some("A")),
+        Expected::Named(Table::Short(MapTable::BLOCK), 65535, Some("X-y")),
+    ];
+    assert_rows(&rt, rt.alloc(), NAMES, &rows)
+}
+
+#[test]
+fn long_and_short_names_of_a_text_of_every_kind_are_found(rt: HostRuntime) -> Result<(), Fail> {
+    let rows: [Expected; 4] = [
+        Expected::Named(Table::Long(MapTable::SCRIPT), 25, Some("Latin")),
+        Expected::Named(Table::Subtags, 25, Some("Latn")),
+        Expected::Named(Table::Subtags, 20, None),
+        Expected::Named(Table::LongClasses, 230, None),
+    ];
+    assert_rows(&rt, rt.alloc(), EVERY_KIND, &rows)
+}
+
+/// Asserts that a text of `end` alone has none of the tables.
+fn assert_none_kept(rt: &impl Abort, alloc: Global) -> Result<(), Fail> {
+    let rows: [Expected; 9] = [
+        Expected::Kept(Table::Long(MapTable::SCRIPT), false),
+        Expected::Kept(Table::Short(MapTable::SCRIPT), false),
+        Expected::Kept(Table::Long(MapTable::CANONICAL_COMBINING_CLASS), false),
+        Expected::Kept(Table::Short(MapTable::CANONICAL_COMBINING_CLASS), false),
+        Expected::Kept(Table::Long(MapTable::BLOCK), false),
+        Expected::Kept(Table::Short(MapTable::BLOCK), false),
+        Expected::Kept(Table::LongClasses, false),
+        Expected::Kept(Table::ShortClasses, false),
+        Expected::Kept(Table::Subtags, false),
+    ];
+    assert_rows(rt, alloc, "end", &rows)
+}
+
+#[test]
+fn each_table_is_kept_in_one_kind(rt: HostRuntime) -> Result<(), Fail> {
+    assert_none_kept(&rt, rt.alloc())?;
+    let rows: [Expected; 9] = [
+        Expected::Kept(Table::Long(MapTable::SCRIPT), true),
+        Expected::Kept(Table::Short(MapTable::SCRIPT), false),
+        Expected::Kept(Table::Long(MapTable::CANONICAL_COMBINING_CLASS), false),
+        Expected::Kept(Table::Short(MapTable::CANONICAL_COMBINING_CLASS), false),
+        Expected::Kept(Table::Long(MapTable::BLOCK), false),
+        Expected::Kept(Table::Short(MapTable::BLOCK), true),
+        Expected::Kept(Table::LongClasses, true),
+        Expected::Kept(Table::ShortClasses, true),
+        Expected::Kept(Table::Subtags, true),
+    ];
+    assert_rows(&rt, rt.alloc(), NAMES, &rows)
 }
 
 #[test]
 fn subtags_are_given_as_such(rt: HostRuntime) -> Result<(), Fail> {
-    let database = PropertyDatabase::from_text(rt.alloc(), NAMES)?;
-    assert_eq!(rt; subtag(&database, 25).ok_or("no subtag")?.as_str(), "Latn");
-    assert!(rt; subtag(&database, 38).is_none());
-    Ok(())
+    let rows = [
+        Expected::Subtag(25, Some("Latn")),
+        Expected::Subtag(38, None),
+    ];
+    assert_rows(&rt, rt.alloc(), NAMES, &rows)
 }
 
 #[test]
 fn a_copy_of_long_names_answers_alike(rt: HostRuntime) -> Result<(), Fail> {
-    let database = PropertyDatabase::from_text(rt.alloc(), NAMES)?;
-    let names = database.long_linear(MapTable::SCRIPT).ok_or("no table")?;
-    let copy = names.copy(rt.alloc())?;
-    assert_eq!(rt; copy.get(25), Some("Latin"));
-    Ok(())
+    let rows = [Expected::CopiedScript(rt.alloc(), 25, "Latin")];
+    assert_rows(&rt, rt.alloc(), NAMES, &rows)
 }
 
 #[test]
 fn a_copy_of_classes_answers_alike(rt: HostRuntime) -> Result<(), Fail> {
-    let database = PropertyDatabase::from_text(rt.alloc(), NAMES)?;
-    let copy = database.long_ccc().ok_or("no table")?.copy(rt.alloc())?;
-    assert_eq!(rt; copy.get(230), Some("Above"));
-    Ok(())
+    let rows = [Expected::CopiedClass(rt.alloc(), 230, "Above")];
+    assert_rows(&rt, rt.alloc(), NAMES, &rows)
 }
 
 #[test]
 fn a_copy_of_subtags_answers_alike(rt: HostRuntime) -> Result<(), Fail> {
-    let database = PropertyDatabase::from_text(rt.alloc(), NAMES)?;
-    let copy = database.short_script().ok_or("no table")?.copy(rt.alloc())?;
-    assert_eq!(rt; copy.get(25), Some("Latn"));
-    Ok(())
+    let rows = [Expected::CopiedSubtag(rt.alloc(), 25, "Latn")];
+    assert_rows(&rt, rt.alloc(), NAMES, &rows)
 }
 
 /// A list of names, the second of which is no empty text.
-fn listed(alloc: Global) -> Result<PropertyEnumToValueNameLinearMap, NoMemory> {
-    let mut names = Vec::new(alloc);
-    names.push(String::new(alloc))?;
-    names.push(String::from_str(alloc, "a")?)?;
+fn listed(alloc: Global) -> Result<PropertyEnumToValueNameLinearMap, AllocError> {
+    let name = String::from_str(alloc, "a")?;
+    let names = Vec::from_array(alloc, [String::new(alloc), name])?;
     Ok(PropertyEnumToValueNameLinearMap::from_names(names))
+}
+
+/// Asserts that the numbers have these names.
+fn assert_listed(
+    rt: &impl Abort,
+    names: &PropertyEnumToValueNameLinearMap,
+    rows: &[(u32, Option<&str>)],
+) {
+    for (number, name) in rows {
+        assert_eq!(rt; names.get(*number), *name, "at {number}");
+    }
 }
 
 #[test]
 fn names_are_listed_by_their_numbers(rt: HostRuntime) -> Result<(), Fail> {
-    let names = listed(rt.alloc())?;
-    for (number, name) in [(0, None), (1, Some("a")), (2, None), (u32::MAX, None)] {
-        assert_eq!(rt; names.get(number), name, "at {number}");
-    }
+    let rows = &[(0, None), (1, Some("a")), (2, None), (u32::MAX, None)];
+    assert_listed(&rt, &listed(rt.alloc())?, rows);
     Ok(())
 }
 
