@@ -1,7 +1,6 @@
 //! How many tables of each kind a text has.
 use crate::fixtures::{EVERY_KIND, Row, assert_rows};
 use prop_data::{PropertyDatabase, TableKind};
-use std::test::Fail;
 
 /// A kind, and how many tables of it the text has.
 type Count = (TableKind, usize);
@@ -25,13 +24,13 @@ const COUNTS: &[Count] = &[
 ];
 
 #[test]
-fn tables_of_each_kind_are_counted(rt: HostRuntime) -> Result<(), Fail> {
+fn tables_of_each_kind_are_counted(rt: HostRuntime) {
     let text =
         "set Dash\nset XID_Start\nmap Script 103\nnames Script\nnames General_Category_Mask\n\
         names Block\nlong Script\nlong Canonical_Combining_Class\nshort Script\nshort Block\n\
         short Canonical_Combining_Class\nscx 103\next 0\next 1023\next 7 25\next 8\n\
         emoji Basic_Emoji\nend";
-    assert_rows(&rt, rt.alloc(), text, COUNTS)
+    assert_rows(&rt, rt.alloc(), text, COUNTS);
 }
 
 const EVERY_COUNT: &[Count] = &[
@@ -46,18 +45,18 @@ const EVERY_COUNT: &[Count] = &[
 ];
 
 #[test]
-fn tables_of_a_text_of_every_kind_are_counted(rt: HostRuntime) -> Result<(), Fail> {
-    assert_rows(&rt, rt.alloc(), EVERY_KIND, EVERY_COUNT)
+fn tables_of_a_text_of_every_kind_are_counted(rt: HostRuntime) {
+    assert_rows(&rt, rt.alloc(), EVERY_KIND, EVERY_COUNT);
 }
 
 #[test]
-fn lists_are_counted_without_scripts(rt: HostRuntime) -> Result<(), Fail> {
+fn lists_are_counted_without_scripts(rt: HostRuntime) {
     let counts: &[Count] = &[(TableKind::Extensions, 1), (TableKind::Scripts, 0)];
-    assert_rows(&rt, rt.alloc(), "ext 5\nend", counts)
+    assert_rows(&rt, rt.alloc(), "ext 5\nend", counts);
 }
 
 #[test]
-fn a_text_of_end_alone_has_no_table(rt: HostRuntime) -> Result<(), Fail> {
+fn a_text_of_end_alone_has_no_table(rt: HostRuntime) {
     let counts: &[Count] = &[(TableKind::Set, 0), (TableKind::Extensions, 0)];
-    assert_rows(&rt, rt.alloc(), "end", counts)
+    assert_rows(&rt, rt.alloc(), "end", counts);
 }

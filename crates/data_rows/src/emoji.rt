@@ -1,7 +1,6 @@
 //! Tables of emoji: code points and strings.
 use crate::fixtures::{EVERY_KIND, Faulty, Row, assert_faults, assert_rows};
 use prop_data::{EmojiTable, PropertyDatabase, TableErrorKind};
-use std::test::Fail;
 
 /// What is expected of the table.
 #[derive(Clone, Copy)]
@@ -45,8 +44,8 @@ const TEXTS: &[Expected] = &[
 ];
 
 #[test]
-fn texts_of_emoji_sets_are_found(rt: HostRuntime) -> Result<(), Fail> {
-    assert_rows(&rt, rt.alloc(), EMOJI, TEXTS)
+fn texts_of_emoji_sets_are_found(rt: HostRuntime) {
+    assert_rows(&rt, rt.alloc(), EMOJI, TEXTS);
 }
 
 const EVERY_TEXT: &[Expected] = &[
@@ -56,15 +55,15 @@ const EVERY_TEXT: &[Expected] = &[
 ];
 
 #[test]
-fn emoji_of_a_text_of_every_kind_are_found(rt: HostRuntime) -> Result<(), Fail> {
-    assert_rows(&rt, rt.alloc(), EVERY_KIND, EVERY_TEXT)
+fn emoji_of_a_text_of_every_kind_are_found(rt: HostRuntime) {
+    assert_rows(&rt, rt.alloc(), EVERY_KIND, EVERY_TEXT);
 }
 
 const CODE_POINTS: &[Expected] = &[Expected::CodePoints(&[0x231A, 0x231C, 0x231D, 0x231E])];
 
 #[test]
-fn code_points_of_emoji_sets_are_joined(rt: HostRuntime) -> Result<(), Fail> {
-    assert_rows(&rt, rt.alloc(), EMOJI, CODE_POINTS)
+fn code_points_of_emoji_sets_are_joined(rt: HostRuntime) {
+    assert_rows(&rt, rt.alloc(), EMOJI, CODE_POINTS);
 }
 
 /// Texts, and the size of their table, if they have it.
@@ -75,11 +74,10 @@ const SIZES: &[(&str, Expected)] = &[
 ];
 
 #[test]
-fn emoji_sets_have_a_size(rt: HostRuntime) -> Result<(), Fail> {
+fn emoji_sets_have_a_size(rt: HostRuntime) {
     for (text, expected) in SIZES {
-        assert_rows(&rt, rt.alloc(), text, &[*expected])?;
+        assert_rows(&rt, rt.alloc(), text, &[*expected]);
     }
-    Ok(())
 }
 
 /// Rows that are no range and no string, and strings of one character or twice.

@@ -2,7 +2,6 @@
 use cp_invlist::NoMemory;
 use prop_data::{DataError, EmojiTable, LoadError, TableError, TableErrorKind, TableName};
 use std::alloc::{AllocError, Global};
-use std::test::Fail;
 
 /// The kinds of faults and their names.
 const KINDS: &[(TableErrorKind, &str)] = &[
@@ -24,43 +23,57 @@ const KINDS: &[(TableErrorKind, &str)] = &[
     (TableErrorKind::AfterEnd, "AfterEnd"),
 ];
 
-/// Whether the kind shows this name and has it.
-fn is_named(alloc: Global, kind: TableErrorKind, name: &str) -> Result<bool, AllocError> {
-    let text = format!(in alloc; "{kind}")?;
-    Ok(text.as_str() == name && kind.name() == name)
-}
-
-#[test]
-fn kinds_show_their_names(rt: HostRuntime) -> Result<(), Fail> {
-    for (kind, name) in KINDS {
-        assert!(rt; is_named(rt.alloc(), *kind, name)?, "{name}");
+/// Whether a text could be made, and is this.
+fn is_text(made: Result<String, AllocError>, expected: &str) -> bool {
+    match made {
+        Ok(text) => text.as_str() == expected,
+        Err(_) => false,
     }
-    Ok(())
+}
+
+/// What the kind shows.
+fn shown_kind(alloc: Global, kind: TableErrorKind) -> Result<String, AllocError> {
+    format!(in alloc; "{kind}")
 }
 
 #[test]
-fn an_error_of_data_shows_its_name(rt: HostRuntime) -> Result<(), Fail> {
-    let absent = DataError::Absent {
-        table: TableName::Emoji(EmojiTable::BASIC_EMOJI),
-    };
-    let text = format!(in rt.alloc(); "{absent} {}", DataError::NoMemory)?;
-    assert_eq!(rt; text.as_str(), "Absent NoMemory");
-    assert!(rt; absent != DataError::NoMemory);
-    Ok(())
+fn kinds_show_their_names(rt: HostRuntime) {
+    for (kind, name) in KINDS {
+        let shows = is_text(shown_kind(rt.alloc(), *kind), name);
+        assert!(rt; shows && kind.name() == *name, "{name}");
+    }
+}
+
+const ABSENT: DataError = DataError::Absent {
+    table: TableName::Emoji(EmojiTable::BASIC_EMOJI),
+};
+
+/// What errors of data show.
+fn shown_data_errors(alloc: Global) -> Result<String, AllocError> {
+    format!(in alloc; "{ABSENT} {}", DataError::NoMemory)
 }
 
 #[test]
-fn errors_show_their_names(rt: HostRuntime) -> Result<(), Fail> {
+fn an_error_of_data_shows_its_name(rt: HostRuntime) {
+    assert!(rt; is_text(shown_data_errors(rt.alloc()), "Absent NoMemory"));
+    assert!(rt; ABSENT != DataError::NoMemory);
+}
+
+/// What errors of a table text show.
+fn shown_errors(alloc: Global) -> Result<String, AllocError> {
     let fault = TableError {
         line: 7,
         kind: TableErrorKind::NoEnd,
     };
-    let text = format!(in rt.alloc();
+    format!(in alloc;
         "{fault} {} {}",
         LoadError::Table(fault),
         LoadError::NoMemory
-    )?;
-    assert_eq!(rt; text.as_str(), "TableError Table NoMemory");
-    assert_eq!(rt; LoadError::from(NoMemory), LoadError::NoMemory);
-    Ok(())
+    )
+}
+
+#[test]
+fn errors_show_their_names(rt: HostRuntime) {
+    assert!(rt; is_text(shown_errors(rt.alloc()), "TableError Table NoMemory"));
+    assert!(rt; LoadError::from(NoMemory) == LoadError::NoMemory);
 }

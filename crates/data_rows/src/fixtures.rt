@@ -1,8 +1,7 @@
 //! A table text with tables of every kind, and what a table text is refused with.
-use prop_data::{LoadError, PropertyDatabase, TableError, TableErrorKind};
+use prop_data::{LoadError, MapTable, PropertyDatabase, TableError, TableErrorKind};
 use std::alloc::Global;
 use std::process::Abort;
-use std::test::Fail;
 
 /// Tables of every kind.
 pub(crate) const EVERY_KIND: &str = "set XID_Start\n41-5A\n61-7A\n\
@@ -52,6 +51,27 @@ pub(crate) fn assert_faults(rt: &impl Abort, alloc: Global, rows: &[Faulty]) {
     }
 }
 
+/// A map's table, as constants can have it.
+#[derive(Clone, Copy)]
+pub(crate) enum Map {
+    Script,
+    Category,
+    Class,
+    Block,
+    Glyph,
+}
+
+/// The table of the map.
+pub(crate) fn table_of(map: Map) -> MapTable {
+    match map {
+        Map::Script => MapTable::SCRIPT,
+        Map::Category => MapTable::GENERAL_CATEGORY,
+        Map::Class => MapTable::CANONICAL_COMBINING_CLASS,
+        Map::Block => MapTable::BLOCK,
+        Map::Glyph => MapTable::BIDI_MIRRORING_GLYPH,
+    }
+}
+
 /// A question to a database, with the answer that is expected.
 pub(crate) trait Row {
     /// Whether the database gives this answer.
@@ -80,13 +100,6 @@ fn first_wrong_of<R: Row>(
 }
 
 /// Asserts that each row holds of the text's database. A failure tells the index of the first that does not.
-pub(crate) fn assert_rows<R: Row>(
-    rt: &impl Abort,
-    alloc: Global,
-    text: &str,
-    rows: &[R],
-) -> Result<(), Fail> {
-    let wrong = first_wrong_of(alloc, text, rows)?;
-    assert_eq!(rt; wrong, None, "a row of {text}");
-    Ok(())
+pub(crate) fn assert_rows<R: Row>(rt: &impl Abort, alloc: Global, text: &str, rows: &[R]) {
+    assert_eq!(rt; first_wrong_of(alloc, text, rows), Ok(None), "at {text}");
 }

@@ -1,60 +1,59 @@
 //! Tables of maps.
-use crate::fixtures::{EVERY_KIND, Faulty, Row, assert_faults, assert_rows};
-use prop_data::{MapTable, PropertyDatabase, TableErrorKind};
-use std::test::Fail;
-
-/// The number of the value at the code point.
-fn value(database: &PropertyDatabase, table: MapTable, code_point: u32) -> Option<u32> {
-    Some(database.map(table)?.get32(code_point))
-}
+use crate::fixtures::{EVERY_KIND, Faulty, Map, Row, assert_faults, assert_rows, table_of};
+use prop_data::{PropertyDatabase, TableErrorKind};
 
 /// A map, a code point and the number of its value, if the text has the map.
-type Value = (MapTable, u32, Option<u32>);
+type Value = (Map, u32, Option<u32>);
 
 impl Row for Value {
     fn holds(&self, database: &PropertyDatabase) -> bool {
-        let (table, code_point, expected) = *self;
-        value(database, table, code_point) == expected
+        let (map, code_point, expected) = *self;
+        match database.map(table_of(map)) {
+            Some(map) => expected == Some(map.get32(code_point)),
+            None => expected.is_none(),
+        }
     }
 }
 
 const MAPS: &str = "map Script 103\n41-5A 25\n61-7A 0025\n30FC 0\nset Dash\n2D\n\
     map General_Category 29\nmap Bidi_Mirroring_Glyph 0\n28 6291497\nend";
 
-#[test]
-fn maps_are_read(rt: HostRuntime) -> Result<(), Fail> {
-    let rows: [Value; 13] = [
-        (MapTable::SCRIPT, 0x40, Some(103)),
-        (MapTable::SCRIPT, 0x41, Some(25)),
-        (MapTable::SCRIPT, 0x5A, Some(25)),
-        (MapTable::SCRIPT, 0x5B, Some(103)),
-        (MapTable::SCRIPT, 0x7A, Some(25)),
-        (MapTable::SCRIPT, 0x30FC, Some(0)),
-        (MapTable::SCRIPT, 0x10_FFFF, Some(103)),
-        (MapTable::SCRIPT, 0x11_0000, Some(103)),
-        (MapTable::GENERAL_CATEGORY, 0, Some(29)),
-        (MapTable::GENERAL_CATEGORY, 0x10_FFFF, Some(29)),
-        (MapTable::GENERAL_CATEGORY, 0x11_0000, Some(0)),
-        (MapTable::BIDI_MIRRORING_GLYPH, 0x28, Some(0x60_0029)),
-        (MapTable::BLOCK, 0x28, None),
-    ];
-    assert_rows(&rt, rt.alloc(), MAPS, &rows)
-}
+const VALUES: &[Value] = &[
+    (Map::Script, 0x40, Some(103)),
+    (Map::Script, 0x41, Some(25)),
+    (Map::Script, 0x5A, Some(25)),
+    (Map::Script, 0x5B, Some(103)),
+    (Map::Script, 0x7A, Some(25)),
+    (Map::Script, 0x30FC, Some(0)),
+    (Map::Script, 0x10_FFFF, Some(103)),
+    (Map::Script, 0x11_0000, Some(103)),
+    (Map::Category, 0, Some(29)),
+    (Map::Category, 0x10_FFFF, Some(29)),
+    (Map::Category, 0x11_0000, Some(0)),
+    (Map::Glyph, 0x28, Some(0x60_0029)),
+    (Map::Block, 0x28, None),
+];
 
 #[test]
-fn maps_of_a_text_of_every_kind_are_read(rt: HostRuntime) -> Result<(), Fail> {
-    let rows: [Value; 9] = [
-        (MapTable::GENERAL_CATEGORY, 0x2F, Some(0)),
-        (MapTable::GENERAL_CATEGORY, 0x39, Some(9)),
-        (MapTable::GENERAL_CATEGORY, 0x61, Some(2)),
-        (MapTable::GENERAL_CATEGORY, 0xD800, Some(18)),
-        (MapTable::SCRIPT, 0x3096, Some(20)),
-        (MapTable::SCRIPT, 0x3097, Some(103)),
-        (MapTable::CANONICAL_COMBINING_CLASS, 0x314, Some(230)),
-        (MapTable::CANONICAL_COMBINING_CLASS, 0x315, Some(0)),
-        (MapTable::BIDI_MIRRORING_GLYPH, 0x28, None),
-    ];
-    assert_rows(&rt, rt.alloc(), EVERY_KIND, &rows)
+fn maps_are_read(rt: HostRuntime) {
+    assert_rows(&rt, rt.alloc(), MAPS, VALUES);
+}
+
+const EVERY_VALUE: &[Value] = &[
+    (Map::Category, 0x2F, Some(0)),
+    (Map::Category, 0x39, Some(9)),
+    (Map::Category, 0x61, Some(2)),
+    (Map::Category, 0xD800, Some(18)),
+    (Map::Script, 0x3096, Some(20)),
+    (Map::Script, 0x3097, Some(103)),
+    (Map::Class, 0x314, Some(230)),
+    (Map::Class, 0x315, Some(0)),
+    (Map::Glyph, 0x28, None),
+];
+
+#[test]
+fn maps_of_a_text_of_every_kind_are_read(rt: HostRuntime) {
+    assert_rows(&rt, rt.alloc(), EVERY_KIND, EVERY_VALUE);
 }
 
 /// Numbers that a property has no value for, and misspelled, large or disordered ranges.

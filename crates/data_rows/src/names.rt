@@ -4,7 +4,6 @@ use cp_trie::TrieValue;
 use prop_data::{NamedEnumeratedProperty, PropertyDatabase, PropertyEnumToValueNameLookup};
 use prop_values::{BidiClass, CanonicalCombiningClass, GeneralCategory, Script};
 use std::alloc::Global;
-use std::test::Fail;
 
 /// Long and short names of four properties, with a name of each kind for another value.
 const NAMES: &str = "long Script\n17 Han\n25 Latin\nshort Script\n17 hani\n25 LATN\n\
@@ -85,7 +84,7 @@ impl Row for Named {
 }
 
 #[test]
-fn a_value_is_named_by_the_tables_of_its_type(rt: HostRuntime) -> Result<(), Fail> {
+fn a_value_is_named_by_the_tables_of_its_type(rt: HostRuntime) {
     let rows: [Named; 5] = [
         (Value::Script(Script::Latin), Some("Latin"), Some("Latn")),
         (
@@ -105,7 +104,7 @@ fn a_value_is_named_by_the_tables_of_its_type(rt: HostRuntime) -> Result<(), Fai
         ),
         (Value::BidiClass(BidiClass::WhiteSpace), None, None),
     ];
-    assert_rows(&rt, rt.alloc(), NAMES, &rows)
+    assert_rows(&rt, rt.alloc(), NAMES, &rows);
 }
 
 /// What copies of the tables of two types are expected to have.
@@ -129,12 +128,12 @@ impl Row for Copied {
 }
 
 #[test]
-fn the_tables_of_a_type_are_copied(rt: HostRuntime) -> Result<(), Fail> {
+fn the_tables_of_a_type_are_copied(rt: HostRuntime) {
     let rows = [
         Copied::Class(rt.alloc(), CanonicalCombiningClass(230), "Above"),
         Copied::Script(rt.alloc(), Script::Latin, "Latin"),
     ];
-    assert_rows(&rt, rt.alloc(), NAMES, &rows)
+    assert_rows(&rt, rt.alloc(), NAMES, &rows);
 }
 
 /// A type of property, and whether it has a table of long and of short names.
@@ -157,14 +156,15 @@ impl Row for Kept {
     }
 }
 
+const KEPT: &[Kept] = &[
+    Kept::Script(true, false),
+    Kept::Class(false, true),
+    Kept::Category(true, false),
+    Kept::BidiClass(false, false),
+];
+
 #[test]
-fn a_type_has_no_table_that_the_text_has_not(rt: HostRuntime) -> Result<(), Fail> {
+fn a_type_has_no_table_that_the_text_has_not(rt: HostRuntime) {
     let text = "long Script\nshort Canonical_Combining_Class\nlong General_Category\nend";
-    let rows = [
-        Kept::Script(true, false),
-        Kept::Class(false, true),
-        Kept::Category(true, false),
-        Kept::BidiClass(false, false),
-    ];
-    assert_rows(&rt, rt.alloc(), text, &rows)
+    assert_rows(&rt, rt.alloc(), text, KEPT);
 }

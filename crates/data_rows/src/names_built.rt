@@ -1,53 +1,40 @@
 //! Tables of names that are built name by name.
-use cp_invlist::NoMemory;
 use prop_names::{NamesBuilder, PropertyValueNameToEnumMap, ascii_text, stored_folding};
 use std::alloc::Global;
-use std::process::Abort;
-use std::test::Fail;
 
-/// Adds a name of ASCII whose folding has no other value.
-fn insert(alloc: Global, builder: &mut NamesBuilder, name: &[u8], value: u16) -> Result<(), Fail> {
+/// Adds a name of ASCII whose folding has no other value, if memory is left for it.
+fn insert(alloc: Global, builder: &mut NamesBuilder, name: &[u8], value: u16) -> Option<()> {
     if !name.is_ascii() {
-        return Err("not ASCII".into());
+        return None;
     }
-    let folding = stored_folding(alloc, name)?;
+    let folding = stored_folding(alloc, name).ok()?;
     if builder
         .value_of_folding(&folding)
         .is_some_and(|other| other != value)
     {
-        return Err("another value".into());
+        return None;
     }
-    builder.insert(ascii_text(alloc, name)?, folding, value)?;
-    Ok(())
+    builder
+        .insert(ascii_text(alloc, name).ok()?, folding, value)
+        .ok()
 }
 
 /// Adds three names, of which two have one value.
-fn insert_scripts(alloc: Global, builder: &mut NamesBuilder) -> Result<(), Fail> {
-    for (name, value) in [("Old_Italic", 30), ("Latn", 25), ("Ital", 30)] {
-        insert(alloc, builder, name.as_bytes(), value)?;
-    }
-    Ok(())
+fn insert_scripts(alloc: Global, builder: &mut NamesBuilder) -> Option<()> {
+    insert(alloc, builder, b"Old_Italic", 30)?;
+    insert(alloc, builder, b"Latn", 25)?;
+    insert(alloc, builder, b"Ital", 30)
 }
 
 /// The table of these names.
-fn scripts(alloc: Global) -> Result<PropertyValueNameToEnumMap, Fail> {
+fn scripts(alloc: Global) -> Option<PropertyValueNameToEnumMap> {
     let mut builder = NamesBuilder::new(alloc);
     insert_scripts(alloc, &mut builder)?;
-    Ok(builder.build(alloc)?)
+    builder.build(alloc).ok()
 }
 
-/// A name, and the number of the value by its spelling and by its folding.
-type Found = (&'static str, Option<u16>, Option<u16>);
-
-/// Asserts that the names are found so.
-fn assert_found(rt: &impl Abort, table: &PropertyValueNameToEnumMap, rows: &[Found]) {
-    for (name, strict, loose) in rows {
-        assert_eq!(rt; table.get_strict_u16(name.as_bytes()), *strict, "at {name}");
-        assert_eq!(rt; table.get_loose_u16(name.as_bytes()), *loose, "at {name}");
-    }
-}
-
-const FOUND: &[Found] = &[
+/// Names, and the numbers of their values by the spelling and by the folding.
+const FOUND: &[(&str, Option<u16>, Option<u16>)] = &[
     ("Old_Italic", Some(30), Some(30)),
     ("Ital", Some(30), Some(30)),
     ("Latn", Some(25), Some(25)),
@@ -55,24 +42,43 @@ const FOUND: &[Found] = &[
     ("Latin", None, None),
 ];
 
+/// The first name that is found otherwise.
+fn wrong_in(table: &PropertyValueNameToEnumMap) -> Option<&'static str> {
+    for (name, strict, loose) in FOUND {
+        let by_spelling = table.get_strict_u16(name.as_bytes());
+        let by_folding = table.get_loose_u16(name.as_bytes());
+        if by_spelling != *strict || by_folding != *loose {
+            return Some(*name);
+        }
+    }
+    None
+}
+
+/// The first name that is found otherwise in the table of scripts.
+fn wrong_in_scripts(alloc: Global) -> Option<&'static str> {
+    let Some(table) = scripts(alloc) else {
+        return Some("no table");
+    };
+    wrong_in(&table)
+}
+
 #[test]
-fn names_that_were_added_in_any_order_are_found(rt: HostRuntime) -> Result<(), Fail> {
-    assert_found(&rt, &scripts(rt.alloc())?, FOUND);
-    Ok(())
+fn names_that_were_added_in_any_order_are_found(rt: HostRuntime) {
+    assert_eq!(rt; wrong_in_scripts(rt.alloc()), None);
 }
 
 /// Whether the text of a name of ASCII is the name, and its folding is this.
-fn folds_to(alloc: Global, name: &str, expected: &str) -> Result<bool, NoMemory> {
+fn folds_to(alloc: Global, name: &str, expected: &str) -> Option<bool> {
     if !name.as_bytes().is_ascii() {
-        return Ok(false);
+        return None;
     }
-    let text = ascii_text(alloc, name.as_bytes())?;
-    let folding = stored_folding(alloc, name.as_bytes())?;
-    Ok(text.as_str() == name && folding.as_str() == expected)
+    let text = ascii_text(alloc, name.as_bytes()).ok()?;
+    let folding = stored_folding(alloc, name.as_bytes()).ok()?;
+    Some(text.as_str() == name && folding.as_str() == expected)
 }
 
 #[test]
-fn a_name_is_folded_without_low_lines_in_lower_case(rt: HostRuntime) -> Result<(), Fail> {
+fn a_name_is_folded_without_low_lines_in_lower_case(rt: HostRuntime) {
     for (name, expected) in [
         ("Old_Italic", "olditalic"),
         ("A-b C", "a-b c"),
@@ -80,23 +86,24 @@ fn a_name_is_folded_without_low_lines_in_lower_case(rt: HostRuntime) -> Result<(
         ("_", ""),
         ("", ""),
     ] {
-        assert!(rt; folds_to(rt.alloc(), name, expected)?, "at {name}");
+        let folds = folds_to(rt.alloc(), name, expected);
+        assert!(rt; folds == Some(true), "at {name}");
     }
-    Ok(())
 }
 
-/// Asserts that the foldings have these values.
-fn assert_values(rt: &impl Abort, builder: &NamesBuilder, rows: &[(&str, Option<u16>)]) {
-    for (folding, value) in rows {
-        assert_eq!(rt; builder.value_of_folding(folding), *value, "at {folding}");
-    }
+/// The values of three foldings, of which the first is that of `La_tn`, whose value is 25.
+fn values_of_foldings(alloc: Global) -> Option<[Option<u16>; 3]> {
+    let mut builder = NamesBuilder::new(alloc);
+    insert(alloc, &mut builder, b"La_tn", 25)?;
+    Some([
+        builder.value_of_folding("latn"),
+        builder.value_of_folding("la_tn"),
+        builder.value_of_folding("lat"),
+    ])
 }
 
 #[test]
-fn a_folding_has_the_value_of_its_names(rt: HostRuntime) -> Result<(), Fail> {
-    let mut builder = NamesBuilder::new(rt.alloc());
-    insert(rt.alloc(), &mut builder, b"La_tn", 25)?;
-    let rows = &[("latn", Some(25)), ("la_tn", None), ("lat", None)];
-    assert_values(&rt, &builder, rows);
-    Ok(())
+fn a_folding_has_the_value_of_its_names(rt: HostRuntime) {
+    let values = values_of_foldings(rt.alloc());
+    assert!(rt; values == Some([Some(25), None, None]));
 }

@@ -3,7 +3,6 @@ use crate::fixtures::{EVERY_KIND, Faulty, Row, assert_faults, assert_rows};
 use prop_data::{PropertyDatabase, TableErrorKind};
 use prop_values::Script;
 use std::alloc::Global;
-use std::test::Fail;
 
 /// What is expected of the scripts of a text.
 #[derive(Clone, Copy)]
@@ -86,8 +85,8 @@ const NUMBERS: &[Expected] = &[
 ];
 
 #[test]
-fn scripts_with_extensions_are_read(rt: HostRuntime) -> Result<(), Fail> {
-    assert_rows(&rt, rt.alloc(), SCRIPTS, NUMBERS)
+fn scripts_with_extensions_are_read(rt: HostRuntime) {
+    assert_rows(&rt, rt.alloc(), SCRIPTS, NUMBERS);
 }
 
 const EVERY_NUMBER: &[Expected] = &[
@@ -98,8 +97,8 @@ const EVERY_NUMBER: &[Expected] = &[
 ];
 
 #[test]
-fn scripts_of_a_text_of_every_kind_are_read(rt: HostRuntime) -> Result<(), Fail> {
-    assert_rows(&rt, rt.alloc(), EVERY_KIND, EVERY_NUMBER)
+fn scripts_of_a_text_of_every_kind_are_read(rt: HostRuntime) {
+    assert_rows(&rt, rt.alloc(), EVERY_KIND, EVERY_NUMBER);
 }
 
 const LAST_NUMBERS: &[Expected] = &[
@@ -108,8 +107,8 @@ const LAST_NUMBERS: &[Expected] = &[
 ];
 
 #[test]
-fn past_the_last_code_point_a_script_is_unknown(rt: HostRuntime) -> Result<(), Fail> {
-    assert_rows(&rt, rt.alloc(), "scx 7\nend", LAST_NUMBERS)
+fn past_the_last_code_point_a_script_is_unknown(rt: HostRuntime) {
+    assert_rows(&rt, rt.alloc(), "scx 7\nend", LAST_NUMBERS);
 }
 
 const LISTED: &[Expected] = &[
@@ -120,25 +119,26 @@ const LISTED: &[Expected] = &[
 ];
 
 #[test]
-fn lists_are_found_by_their_indices(rt: HostRuntime) -> Result<(), Fail> {
-    assert_rows(&rt, rt.alloc(), SCRIPTS, LISTED)
+fn lists_are_found_by_their_indices(rt: HostRuntime) {
+    assert_rows(&rt, rt.alloc(), SCRIPTS, LISTED);
+}
+
+const UNLISTED: &[Expected] = &[Expected::NoList(1), Expected::NoList(1024)];
+
+#[test]
+fn other_indices_have_no_list(rt: HostRuntime) {
+    assert_rows(&rt, rt.alloc(), SCRIPTS, UNLISTED);
 }
 
 #[test]
-fn other_indices_have_no_list(rt: HostRuntime) -> Result<(), Fail> {
-    let rows = [Expected::NoList(1), Expected::NoList(1024)];
-    assert_rows(&rt, rt.alloc(), SCRIPTS, &rows)
+fn lists_alone_are_no_scripts(rt: HostRuntime) {
+    assert_rows(&rt, rt.alloc(), "ext 0\n20\nend", &[Expected::Absent]);
 }
 
 #[test]
-fn lists_alone_are_no_scripts(rt: HostRuntime) -> Result<(), Fail> {
-    assert_rows(&rt, rt.alloc(), "ext 0\n20\nend", &[Expected::Absent])
-}
-
-#[test]
-fn a_copy_of_scripts_answers_alike(rt: HostRuntime) -> Result<(), Fail> {
+fn a_copy_of_scripts_answers_alike(rt: HostRuntime) {
     let rows = [Expected::Copied(rt.alloc(), 0x30FC, 1024, &[20, 22])];
-    assert_rows(&rt, rt.alloc(), SCRIPTS, &rows)
+    assert_rows(&rt, rt.alloc(), SCRIPTS, &rows);
 }
 
 /// Headers and rows that are none, tables that are there, and misspelled numbers.

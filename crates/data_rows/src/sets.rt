@@ -1,7 +1,6 @@
 //! Tables of sets.
 use crate::fixtures::{EVERY_KIND, Faulty, Row, assert_fault, assert_faults, assert_rows};
 use prop_data::{PropertyDatabase, SetTable, TableErrorKind};
-use std::test::Fail;
 
 /// A text with each table; XID_Continue has no row.
 const SYNTAX: &str = "# tables\nset XID_Start # letters\n41-5A\r\n  5F\n\n61-7a\n7B0-7b1 # two\n\
@@ -23,7 +22,7 @@ impl Row for Members {
 }
 
 #[test]
-fn tables_are_read(rt: HostRuntime) -> Result<(), Fail> {
+fn tables_are_read(rt: HostRuntime) {
     let rows: [Members; 4] = [
         (
             SetTable::XID_START,
@@ -36,21 +35,21 @@ fn tables_are_read(rt: HostRuntime) -> Result<(), Fail> {
         ),
         (SetTable::EMOJI, None),
     ];
-    assert_rows(&rt, rt.alloc(), SYNTAX, &rows)
+    assert_rows(&rt, rt.alloc(), SYNTAX, &rows);
 }
 
 #[test]
-fn neighbouring_rows_are_joined(rt: HostRuntime) -> Result<(), Fail> {
+fn neighbouring_rows_are_joined(rt: HostRuntime) {
     let text = "set XID_Continue\n41-5A\nset XID_Start\n41-4F\n50\n51-5A\nend";
     let rows: [Members; 2] = [
         (SetTable::XID_START, Some(&[0x41, 0x5B])),
         (SetTable::PATTERN_WHITE_SPACE, None),
     ];
-    assert_rows(&rt, rt.alloc(), text, &rows)
+    assert_rows(&rt, rt.alloc(), text, &rows);
 }
 
 #[test]
-fn sets_of_a_text_of_every_kind_are_read(rt: HostRuntime) -> Result<(), Fail> {
+fn sets_of_a_text_of_every_kind_are_read(rt: HostRuntime) {
     let rows: [Members; 3] = [
         (
             SetTable::ASCII_HEX_DIGIT,
@@ -59,24 +58,24 @@ fn sets_of_a_text_of_every_kind_are_read(rt: HostRuntime) -> Result<(), Fail> {
         (SetTable::XID_START, Some(&[0x41, 0x5B, 0x61, 0x7B])),
         (SetTable::DASH, None),
     ];
-    assert_rows(&rt, rt.alloc(), EVERY_KIND, &rows)
+    assert_rows(&rt, rt.alloc(), EVERY_KIND, &rows);
 }
 
 #[test]
-fn a_text_of_end_alone_has_no_table(rt: HostRuntime) -> Result<(), Fail> {
+fn a_text_of_end_alone_has_no_table(rt: HostRuntime) {
     let rows: [Members; 2] = [(SetTable::XID_START, None), (SetTable::XID_CONTINUE, None)];
-    assert_rows(&rt, rt.alloc(), "end", &rows)
+    assert_rows(&rt, rt.alloc(), "end", &rows);
 }
 
 #[test]
-fn other_sets_may_hold_any_ascii(rt: HostRuntime) -> Result<(), Fail> {
+fn other_sets_may_hold_any_ascii(rt: HostRuntime) {
     let text = "set Dash\n2D\nset Pattern_Syntax\n21-2F\nset White_Space\n20\nend";
     let rows: [Members; 3] = [
         (SetTable::DASH, Some(&[0x2D, 0x2E])),
         (SetTable::PATTERN_SYNTAX, Some(&[0x21, 0x30])),
         (SetTable::WHITE_SPACE, Some(&[0x20, 0x21])),
     ];
-    assert_rows(&rt, rt.alloc(), text, &rows)
+    assert_rows(&rt, rt.alloc(), text, &rows);
 }
 
 /// Rows that are no range.

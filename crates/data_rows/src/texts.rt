@@ -1,18 +1,16 @@
 //! Tables of long and short names: names by their values.
-use crate::fixtures::{EVERY_KIND, Faulty, Row, assert_faults, assert_rows};
+use crate::fixtures::{EVERY_KIND, Faulty, Map, Row, assert_faults, assert_rows, table_of};
 use prop_data::{
     MapTable, PropertyDatabase, PropertyEnumToValueNameLinearMap, PropertyEnumToValueNameLookup,
     TableErrorKind,
 };
 use std::alloc::{AllocError, Global};
-use std::process::Abort;
-use std::test::Fail;
 
 /// The table that is asked.
 #[derive(Clone, Copy)]
 enum Table {
-    Long(MapTable),
-    Short(MapTable),
+    Long(Map),
+    Short(Map),
     LongClasses,
     ShortClasses,
     Subtags,
@@ -38,8 +36,8 @@ enum Expected {
 /// The name of the value.
 fn name_of(database: &PropertyDatabase, table: Table, number: u32) -> Option<&str> {
     match table {
-        Table::Long(table) => database.long_linear(table)?.get(number),
-        Table::Short(table) => database.short_linear(table)?.get(number),
+        Table::Long(map) => database.long_linear(table_of(map))?.get(number),
+        Table::Short(map) => database.short_linear(table_of(map))?.get(number),
         Table::LongClasses => database.long_ccc()?.get(number),
         Table::ShortClasses => database.short_ccc()?.get(number),
         Table::Subtags => database.short_script()?.get(number),
@@ -49,8 +47,8 @@ fn name_of(database: &PropertyDatabase, table: Table, number: u32) -> Option<&st
 /// Whether the table is there.
 fn has_table(database: &PropertyDatabase, table: Table) -> bool {
     match table {
-        Table::Long(table) => database.long_linear(table).is_some(),
-        Table::Short(table) => database.short_linear(table).is_some(),
+        Table::Long(map) => database.long_linear(table_of(map)).is_some(),
+        Table::Short(map) => database.short_linear(table_of(map)).is_some(),
         Table::LongClasses => database.long_ccc().is_some(),
         Table::ShortClasses => database.short_ccc().is_some(),
         Table::Subtags => database.short_script().is_some(),
@@ -124,92 +122,93 @@ impl Row for Expected {
 const NAMES: &str = "long Script\n25 Latin\n0 Common\nlong Canonical_Combining_Class\n230 Above\n\
     short Script\n25 lATN\nshort Canonical_Combining_Class\n230 A\nshort Block\n65535 X-y\nend";
 
+const NAMED: &[Expected] = &[
+    Expected::Named(Table::Long(Map::Script), 25, Some("Latin")),
+    Expected::Named(Table::Long(Map::Script), 0, Some("Common")),
+    Expected::Named(Table::Long(Map::Script), 1, None),
+    Expected::Named(Table::Long(Map::Script), 65561, None),
+    Expected::Named(Table::LongClasses, 230, Some("Above")),
+    Expected::Named(Table::LongClasses, 0, None),
+    Expected::Named(Table::Subtags, 25, Some("Latn")),
+    Expected::Named(Table::Subtags, 38, None),
+    Expected::Named(Table::ShortClasses, 230, Some("A")),
+    Expected::Named(Table::Short(Map::Block), 65535, Some("X-y")),
+];
+
 #[test]
-fn long_and_short_names_are_found(rt: HostRuntime) -> Result<(), Fail> {
-    let rows: [Expected; 10] = [
-        Expected::Named(Table::Long(MapTable::SCRIPT), 25, Some("Latin")),
-        Expected::Named(Table::Long(MapTable::SCRIPT), 0, Some("Common")),
-        Expected::Named(Table::Long(MapTable::SCRIPT), 1, None),
-        Expected::Named(Table::Long(MapTable::SCRIPT), 65561, None),
-        Expected::Named(Table::LongClasses, 230, Some("Above")),
-        Expected::Named(Table::LongClasses, 0, None),
-        Expected::Named(Table::Subtags, 25, Some("Latn")),
-        Expected::Named(Table::Subtags, 38, None),
-        Expected::Named(Table::ShortClasses, 230, Some("A")),
-        Expected::Named(Table::Short(MapTable::BLOCK), 65535, Some("X-y")),
-    ];
-    assert_rows(&rt, rt.alloc(), NAMES, &rows)
+fn long_and_short_names_are_found(rt: HostRuntime) {
+    assert_rows(&rt, rt.alloc(), NAMES, NAMED);
+}
+
+const EVERY_NAME: &[Expected] = &[
+    Expected::Named(Table::Long(Map::Script), 25, Some("Latin")),
+    Expected::Named(Table::Subtags, 25, Some("Latn")),
+    Expected::Named(Table::Subtags, 20, None),
+    Expected::Named(Table::LongClasses, 230, None),
+];
+
+#[test]
+fn long_and_short_names_of_a_text_of_every_kind_are_found(rt: HostRuntime) {
+    assert_rows(&rt, rt.alloc(), EVERY_KIND, EVERY_NAME);
+}
+
+const KEPT: &[Expected] = &[
+    Expected::Kept(Table::Long(Map::Script), true),
+    Expected::Kept(Table::Short(Map::Script), false),
+    Expected::Kept(Table::Long(Map::Class), false),
+    Expected::Kept(Table::Short(Map::Class), false),
+    Expected::Kept(Table::Long(Map::Block), false),
+    Expected::Kept(Table::Short(Map::Block), true),
+    Expected::Kept(Table::LongClasses, true),
+    Expected::Kept(Table::ShortClasses, true),
+    Expected::Kept(Table::Subtags, true),
+];
+
+/// The same tables, of which a text of `end` alone has none.
+const NOT_KEPT: &[Expected] = &[
+    Expected::Kept(Table::Long(Map::Script), false),
+    Expected::Kept(Table::Short(Map::Script), false),
+    Expected::Kept(Table::Long(Map::Class), false),
+    Expected::Kept(Table::Short(Map::Class), false),
+    Expected::Kept(Table::Long(Map::Block), false),
+    Expected::Kept(Table::Short(Map::Block), false),
+    Expected::Kept(Table::LongClasses, false),
+    Expected::Kept(Table::ShortClasses, false),
+    Expected::Kept(Table::Subtags, false),
+];
+
+#[test]
+fn each_table_is_kept_in_one_kind(rt: HostRuntime) {
+    assert_rows(&rt, rt.alloc(), NAMES, KEPT);
+    assert_rows(&rt, rt.alloc(), "end", NOT_KEPT);
+}
+
+const SUBTAGS: &[Expected] = &[
+    Expected::Subtag(25, Some("Latn")),
+    Expected::Subtag(38, None),
+];
+
+#[test]
+fn subtags_are_given_as_such(rt: HostRuntime) {
+    assert_rows(&rt, rt.alloc(), NAMES, SUBTAGS);
 }
 
 #[test]
-fn long_and_short_names_of_a_text_of_every_kind_are_found(rt: HostRuntime) -> Result<(), Fail> {
-    let rows: [Expected; 4] = [
-        Expected::Named(Table::Long(MapTable::SCRIPT), 25, Some("Latin")),
-        Expected::Named(Table::Subtags, 25, Some("Latn")),
-        Expected::Named(Table::Subtags, 20, None),
-        Expected::Named(Table::LongClasses, 230, None),
-    ];
-    assert_rows(&rt, rt.alloc(), EVERY_KIND, &rows)
-}
-
-/// Asserts that a text of `end` alone has none of the tables.
-fn assert_none_kept(rt: &impl Abort, alloc: Global) -> Result<(), Fail> {
-    let rows: [Expected; 9] = [
-        Expected::Kept(Table::Long(MapTable::SCRIPT), false),
-        Expected::Kept(Table::Short(MapTable::SCRIPT), false),
-        Expected::Kept(Table::Long(MapTable::CANONICAL_COMBINING_CLASS), false),
-        Expected::Kept(Table::Short(MapTable::CANONICAL_COMBINING_CLASS), false),
-        Expected::Kept(Table::Long(MapTable::BLOCK), false),
-        Expected::Kept(Table::Short(MapTable::BLOCK), false),
-        Expected::Kept(Table::LongClasses, false),
-        Expected::Kept(Table::ShortClasses, false),
-        Expected::Kept(Table::Subtags, false),
-    ];
-    assert_rows(rt, alloc, "end", &rows)
-}
-
-#[test]
-fn each_table_is_kept_in_one_kind(rt: HostRuntime) -> Result<(), Fail> {
-    assert_none_kept(&rt, rt.alloc())?;
-    let rows: [Expected; 9] = [
-        Expected::Kept(Table::Long(MapTable::SCRIPT), true),
-        Expected::Kept(Table::Short(MapTable::SCRIPT), false),
-        Expected::Kept(Table::Long(MapTable::CANONICAL_COMBINING_CLASS), false),
-        Expected::Kept(Table::Short(MapTable::CANONICAL_COMBINING_CLASS), false),
-        Expected::Kept(Table::Long(MapTable::BLOCK), false),
-        Expected::Kept(Table::Short(MapTable::BLOCK), true),
-        Expected::Kept(Table::LongClasses, true),
-        Expected::Kept(Table::ShortClasses, true),
-        Expected::Kept(Table::Subtags, true),
-    ];
-    assert_rows(&rt, rt.alloc(), NAMES, &rows)
-}
-
-#[test]
-fn subtags_are_given_as_such(rt: HostRuntime) -> Result<(), Fail> {
-    let rows = [
-        Expected::Subtag(25, Some("Latn")),
-        Expected::Subtag(38, None),
-    ];
-    assert_rows(&rt, rt.alloc(), NAMES, &rows)
-}
-
-#[test]
-fn a_copy_of_long_names_answers_alike(rt: HostRuntime) -> Result<(), Fail> {
+fn a_copy_of_long_names_answers_alike(rt: HostRuntime) {
     let rows = [Expected::CopiedScript(rt.alloc(), 25, "Latin")];
-    assert_rows(&rt, rt.alloc(), NAMES, &rows)
+    assert_rows(&rt, rt.alloc(), NAMES, &rows);
 }
 
 #[test]
-fn a_copy_of_classes_answers_alike(rt: HostRuntime) -> Result<(), Fail> {
+fn a_copy_of_classes_answers_alike(rt: HostRuntime) {
     let rows = [Expected::CopiedClass(rt.alloc(), 230, "Above")];
-    assert_rows(&rt, rt.alloc(), NAMES, &rows)
+    assert_rows(&rt, rt.alloc(), NAMES, &rows);
 }
 
 #[test]
-fn a_copy_of_subtags_answers_alike(rt: HostRuntime) -> Result<(), Fail> {
+fn a_copy_of_subtags_answers_alike(rt: HostRuntime) {
     let rows = [Expected::CopiedSubtag(rt.alloc(), 25, "Latn")];
-    assert_rows(&rt, rt.alloc(), NAMES, &rows)
+    assert_rows(&rt, rt.alloc(), NAMES, &rows);
 }
 
 /// A list of names, the second of which is no empty text.
@@ -219,22 +218,25 @@ fn listed(alloc: Global) -> Result<PropertyEnumToValueNameLinearMap, AllocError>
     Ok(PropertyEnumToValueNameLinearMap::from_names(names))
 }
 
-/// Asserts that the numbers have these names.
-fn assert_listed(
-    rt: &impl Abort,
-    names: &PropertyEnumToValueNameLinearMap,
-    rows: &[(u32, Option<&str>)],
-) {
-    for (number, name) in rows {
-        assert_eq!(rt; names.get(*number), *name, "at {number}");
+/// The first number that has another name in the list.
+fn wrong_in(names: &PropertyEnumToValueNameLinearMap) -> Option<u32> {
+    for (number, name) in [(0, None), (1, Some("a")), (2, None), (u32::MAX, None)] {
+        if names.get(number) != name {
+            return Some(number);
+        }
     }
+    None
+}
+
+/// The first number that has another name in the list, if memory is left for it.
+fn wrong_in_list(alloc: Global) -> Result<Option<u32>, AllocError> {
+    let names = listed(alloc)?;
+    Ok(wrong_in(&names))
 }
 
 #[test]
-fn names_are_listed_by_their_numbers(rt: HostRuntime) -> Result<(), Fail> {
-    let rows = &[(0, None), (1, Some("a")), (2, None), (u32::MAX, None)];
-    assert_listed(&rt, &listed(rt.alloc())?, rows);
-    Ok(())
+fn names_are_listed_by_their_numbers(rt: HostRuntime) {
+    assert_eq!(rt; wrong_in_list(rt.alloc()), Ok(None));
 }
 
 /// Names that are none, a second name of a value, and numbers of no value.
