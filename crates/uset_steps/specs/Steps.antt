@@ -1,5 +1,5 @@
 -- Steps that are put off, and what they make of a set.
-use Rattle.std.specs.Prelude.{ℕ, ◌<◌, Bool, true, false, not, ◌&&◌, ◌||◌, ◌==◌, List, [], ◌∷◌, Option, Some, None, slice_get}
+use Rattle.std.specs.Prelude.{◌≡◌, ℕ, ◌<◌, Bool, true, false, not, ◌&&◌, ◌||◌, ◌==◌, List, [], ◌∷◌, Option, Some, None, slice_get}
 use Rattle.std.specs.List.{list_any}
 use Rattle.std.specs.String.{string_bytes}
 use Rattle.uset_grammar.specs.Tree.{Member, in_range}
@@ -33,6 +33,10 @@ step_done sets (Named operation place) m b = with_kept operation (slice_get sets
 abbrev pub steps_done : List NamedSet → List Step → Member → Bool → Bool
 steps_done sets [] m b = b
 steps_done sets (s ∷ ss) m b = steps_done sets ss m (step_done sets s m b)
+
+-- both lists of steps make the same of every set, whatever sets are kept
+abbrev pub MakeSame : List Step → List Step → Type 0
+MakeSame ss others = (sets : List NamedSet) (m : Member) (b : Bool) → steps_done sets ss m b ≡ steps_done sets others m b
 
 -- the step names no set that is kept but one of so many
 abbrev pub IsWithin : ℕ → Step → Type 0

@@ -1,9 +1,7 @@
 //! The steps that count.
-ghost use Rattle.std.specs.Prelude.{◌≡◌, ◌⊎◌, ℕ, Bool, true, Some, List, reverse, slice_get, IfOk};
+ghost use Rattle.std.specs.Prelude.{◌≡◌, ◌⊎◌, ℕ, true, Some, reverse, slice_get, IfOk};
 ghost use Rattle.std.specs.Bool.{OnTrue};
-ghost use Rattle.uset_grammar.specs.Tree.{Member};
-ghost use Rattle.uset_steps.specs.declared.named_set.NamedSet.{NamedSet};
-ghost use Rattle.uset_steps.specs.Steps.{steps_done};
+ghost use Rattle.uset_steps.specs.Steps.{MakeSame};
 
 use crate::step::{Operation, Step};
 use cp_invlist::NoMemory;
@@ -68,7 +66,7 @@ pub(crate) fn counting(
     mut steps: Vec<Step>,
     sets: usize,
 ) -> Result<Vec<Step>, NoMemory>
-    ensures { IfOk result (λ kept. (sets : List NamedSet) (m : Member) (b : Bool) → steps_done sets (reverse kept.items) m b ≡ steps_done sets steps.items m b) }
+    ensures { IfOk result (λ kept. MakeSame (reverse kept.items) steps.items) }
 {
     let mut seen = Seen::new(alloc, sets)?;
     let mut kept = Vec::new(alloc);
