@@ -325,8 +325,10 @@ def memory_of_maps(program):
     """Prints what a map takes beside its text: its runs, and its page tables at four bytes a value."""
     runs = category_runs()
     rows = "".join(f"{start:X}-{end:X} {value}\n" for start, end, value in runs if value)
-    maps = [with_table("".join(f"map {name} 0\n{rows}" for name in MAPS[:count])) for count in (1, len(MAPS))]
-    few, many = (peak(program, text) - len(text) for text in maps)
+    # an answer that fills a pipe
+    script = "pat [" + "".join(ELEMENTS[:20_000]) + "]\n"
+    texts = [with_table("".join(f"map {name} 0\n{rows}" for name in MAPS[:count])) + script for count in (1, len(MAPS))]
+    few, many = (peak_at_answer(program, text) - len(text.encode("utf-8")) for text in texts)
     print()
     print("| a map of General_Category | runs | kB of memory |")
     print("|---|---|---|")
@@ -357,7 +359,6 @@ def main():
     program = sys.argv[1] if len(sys.argv) > 1 else str(TOP / "crates" / "uset" / "out" / "uset")
     # First, while this process is small: what it has resident counts towards the peak of a process that it starts.
     memory(program)
-    memory_of_maps(program)
     print()
     start, _ = seconds(program, lines(2))
     print(f"start: {start * 1000:.1f} ms")
@@ -378,6 +379,7 @@ def main():
     growing(program, start, FAULTS, status=1)
     gathering(program, start)
     memory_of_elements(program)
+    memory_of_maps(program)
 
 
 if __name__ == "__main__":
