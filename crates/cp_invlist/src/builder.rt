@@ -16,9 +16,6 @@ use std::alloc::Global;
 use std::marker::Model;
 use std::sync::ledger::Ledger;
 
-#[cfg(test)]
-mod tests;
-
 /// Builds a set by adding members. A contract sees it as the inversion list of what was added.
 #[derive(Drop)]
 pub struct CodePointInversionListBuilder {

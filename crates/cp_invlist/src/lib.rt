@@ -9,8 +9,6 @@ mod merge;
 mod ranges;
 mod set;
 mod steps;
-#[cfg(test)]
-mod tests;
 
 pub use builder::CodePointInversionListBuilder;
 pub use error::{InversionListError, NoMemory};

@@ -17,8 +17,6 @@ ghost use Rattle.cp_strset.specs.StringSet.{contains_text, same_members, HaveSam
 
 pub mod laws;
 mod pattern_text;
-#[cfg(test)]
-mod tests;
 
 use cp_invlist::{CodePointInversionList, NoMemory};
 use pattern_text::{push_ranges, push_strings};
@@ -52,10 +50,19 @@ pub enum StringListError {
 
 /// A set of code points and of strings. The strings are strictly ascending by bytes, and none has exactly one character,
 /// since that is a code point. A contract sees it as both lists, and each string by its bytes.
-#[derive(Drop)]
 pub struct CodePointInversionListAndStringList {
     code_points: CodePointInversionList,
     strings: Vec<String>,
+}
+
+// By hand, so that letting a value go is one call in each proof.
+impl Drop for CodePointInversionListAndStringList {
+    fn drop(self) {
+        let Self {
+            code_points: _,
+            strings: _,
+        } = self;
+    }
 }
 
 impl Model for CodePointInversionListAndStringList {

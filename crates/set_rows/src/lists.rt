@@ -1,0 +1,178 @@
+//! Sets of code points by their inversion lists.
+use cp_invlist::laws::{
+    faultless, first_fault, members_are_code_points, one_list_of_ranges, same_members,
+};
+use cp_invlist::{CodePointInversionList, CodePointRange, InversionListError};
+use std::alloc::{AllocError, Global};
+use std::test::Fail;
+
+/// What is expected of a set.
+#[derive(Clone, Copy)]
+enum Expected {
+    List(&'static [u32]),
+    /// How many code points it has.
+    Size(usize),
+    Ranges(&'static [CodePointRange]),
+    /// The ranges of the other code points.
+    Gaps(&'static [CodePointRange]),
+    Char(char, bool),
+    Number(u32, bool),
+    Empty(bool),
+}
+
+impl Expected {
+    fn holds(&self, alloc: Global, set: &CodePointInversionList) -> Result<bool, AllocError> {
+        Ok(match *self {
+            Expected::List(list) => set.get_inversion_list() == list,
+            Expected::Size(size) => set.size() == size,
+            Expected::Ranges(ranges) => has_ranges(alloc, set, ranges)?,
+            Expected::Gaps(gaps) => has_gaps(alloc, set, gaps)?,
+            Expected::Char(ch, is_member) => set.contains(ch) == is_member,
+            Expected::Number(c, is_member) => set.contains32(c) == is_member,
+            Expected::Empty(is_empty) => set.is_empty() == is_empty,
+        })
+    }
+}
+
+fn has_ranges(
+    alloc: Global,
+    set: &CodePointInversionList,
+    expected: &[CodePointRange],
+) -> Result<bool, AllocError> {
+    let ranges: Vec<CodePointRange> = set.iter_ranges().collect(alloc)?;
+    Ok(ranges.as_slice() == expected)
+}
+
+fn has_gaps(
+    alloc: Global,
+    set: &CodePointInversionList,
+    expected: &[CodePointRange],
+) -> Result<bool, AllocError> {
+    let gaps: Vec<CodePointRange> = set.iter_ranges_complemented().collect(alloc)?;
+    Ok(gaps.as_slice() == expected)
+}
+
+/// The index of the first row that does not hold.
+fn first_wrong(
+    alloc: Global,
+    set: &CodePointInversionList,
+    rows: &[Expected],
+) -> Result<Option<usize>, AllocError> {
+    for (index, row) in rows.iter().enumerate() {
+        if !row.holds(alloc, set)? {
+            return Ok(Some(index));
+        }
+    }
+    Ok(None)
+}
+
+/// The index of the first row that does not hold of the list's set.
+fn first_wrong_of(
+    alloc: Global,
+    list: &[u32],
+    rows: &[Expected],
+) -> Result<Option<usize>, InversionListError> {
+    let set = CodePointInversionList::try_from_inversion_list(alloc, list)?;
+    Ok(first_wrong(alloc, &set, rows)?)
+}
+
+const LETTERS: &[u32] = &[0x41, 0x5B, 0x61, 0x7B];
+
+const OF_LETTERS: &[Expected] = &[
+    Expected::List(LETTERS),
+    Expected::Size(52),
+    Expected::Ranges(&[
+        CodePointRange {
+            start: 0x41,
+            end: 0x5A,
+        },
+        CodePointRange {
+            start: 0x61,
+            end: 0x7A,
+        },
+    ]),
+    Expected::Gaps(&[
+        CodePointRange {
+            start: 0,
+            end: 0x40,
+        },
+        CodePointRange {
+            start: 0x5B,
+            end: 0x60,
+        },
+        CodePointRange {
+            start: 0x7B,
+            end: 0x10_FFFF,
+        },
+    ]),
+    Expected::Char('Z', true),
+    Expected::Char('[', false),
+    Expected::Number(0x11_0041, false),
+    Expected::Empty(false),
+];
+
+#[test]
+fn a_list_gives_its_set(rt: HostRuntime) {
+    assert_eq!(rt; first_wrong_of(rt.alloc(), LETTERS, OF_LETTERS), Ok(None));
+}
+
+const OF_NOTHING: &[Expected] = &[Expected::Empty(true), Expected::Size(0)];
+
+#[test]
+fn the_empty_list_gives_the_empty_set(rt: HostRuntime) {
+    assert_eq!(rt; first_wrong_of(rt.alloc(), &[], OF_NOTHING), Ok(None));
+}
+
+/// Whether a copy of the list's set equals it.
+fn is_copied(alloc: Global, list: &[u32]) -> Result<bool, Fail> {
+    let set = CodePointInversionList::try_from_inversion_list(alloc, list)?;
+    let copy = set.copy(alloc)?;
+    Ok(copy == set)
+}
+
+#[test]
+fn a_copy_equals_its_set(rt: HostRuntime) -> Result<(), Fail> {
+    let is_copied = is_copied(rt.alloc(), LETTERS)?;
+    assert!(rt; is_copied);
+    Ok(())
+}
+
+/// Lists with a fault at index 1.
+const FAULTY: &[&[u32]] = &[&[0x41, 0x41], &[0x41], &[0x41, 0x11_0001]];
+
+/// Why the list is refused, if it is.
+fn refusal(alloc: Global, list: &[u32]) -> Option<InversionListError> {
+    CodePointInversionList::try_from_inversion_list(alloc, list).err()
+}
+
+#[test]
+fn a_list_out_of_order_is_refused(rt: HostRuntime) {
+    for list in FAULTY {
+        let refused = Some(InversionListError::Invalid { index: 1 });
+        assert_eq!(rt; refusal(rt.alloc(), list), refused);
+    }
+}
+
+const OF_ALL: &[Expected] = &[Expected::List(&[0, 0x11_0000]), Expected::Size(1_114_112)];
+
+/// The index of the first row that does not hold of the set of all code points.
+fn first_wrong_of_all(alloc: Global) -> Result<Option<usize>, Fail> {
+    let all = CodePointInversionList::all(alloc)?;
+    Ok(first_wrong(alloc, &all, OF_ALL)?)
+}
+
+#[test]
+fn all_code_points_are_one_range(rt: HostRuntime) -> Result<(), Fail> {
+    let wrong = first_wrong_of_all(rt.alloc())?;
+    assert_eq!(rt; wrong, None);
+    Ok(())
+}
+
+#[test]
+fn the_laws_hold() {
+    same_members();
+    first_fault();
+    faultless();
+    members_are_code_points();
+    one_list_of_ranges();
+}

@@ -1,0 +1,138 @@
+//! Sets of code points together with strings.
+use cp_invlist::{CodePointInversionList, NoMemory};
+use cp_strset::laws::{faultless, one_list};
+use cp_strset::{CodePointInversionListAndStringList, StringListError};
+use std::alloc::{AllocError, Global};
+use std::test::Fail;
+
+/// The hyphen and the letters `a` to `c`, as an inversion list.
+const LETTERS: &[u32] = &[0x2D, 0x2E, 0x61, 0x64];
+
+fn strings(alloc: Global, texts: &[&str]) -> Result<Vec<String>, AllocError> {
+    let mut strings = Vec::new(alloc);
+    for text in texts {
+        strings.push(String::from_str(alloc, text)?)?;
+    }
+    Ok(strings)
+}
+
+/// What becomes of the letters with these strings.
+fn set_of(
+    alloc: Global,
+    texts: &[&str],
+) -> Result<Result<CodePointInversionListAndStringList, StringListError>, Fail> {
+    let letters = CodePointInversionList::try_from_inversion_list(alloc, LETTERS)?;
+    let strings = strings(alloc, texts)?;
+    Ok(CodePointInversionListAndStringList::try_from(letters, strings))
+}
+
+/// What is expected of a set.
+#[derive(Clone, Copy)]
+enum Expected {
+    /// How many code points and strings it has.
+    Size(usize),
+    Text(&'static str, bool),
+    Bytes(&'static [u8], bool),
+    Char(char, bool),
+    Number(u32, bool),
+    CodePoints(&'static [u32]),
+    /// How many strings it has.
+    Strings(usize),
+}
+
+impl Expected {
+    fn holds(&self, set: &CodePointInversionListAndStringList) -> bool {
+        match *self {
+            Expected::Size(size) => set.size() == size,
+            Expected::Text(text, is_member) => set.contains_str(text) == is_member,
+            Expected::Bytes(bytes, is_member) => set.contains_utf8(bytes) == is_member,
+            Expected::Char(ch, is_member) => set.contains(ch) == is_member,
+            Expected::Number(c, is_member) => set.contains32(c) == is_member,
+            Expected::CodePoints(list) => set.code_points().get_inversion_list() == list,
+            Expected::Strings(count) => set.strings().len() == count,
+        }
+    }
+}
+
+const OF_LETTERS: &[Expected] = &[
+    Expected::Size(6),
+    Expected::Text("a", true),
+    Expected::Text("ab", true),
+    Expected::Text("", true),
+    Expected::Text("d", false),
+    Expected::Text("abc", false),
+    Expected::Char('-', true),
+    Expected::Number(0x11_002D, false),
+    Expected::Bytes(b"ab", true),
+    Expected::Bytes(&[0xFF], false),
+    Expected::CodePoints(LETTERS),
+    Expected::Strings(2),
+];
+
+/// The index of the first row that does not hold.
+fn first_wrong(set: &CodePointInversionListAndStringList) -> Option<usize> {
+    for (index, row) in OF_LETTERS.iter().enumerate() {
+        if !row.holds(set) {
+            return Some(index);
+        }
+    }
+    None
+}
+
+#[test]
+fn a_set_holds_code_points_and_strings(rt: HostRuntime) -> Result<(), Fail> {
+    let set = set_of(rt.alloc(), &["", "ab"])??;
+    assert_eq!(rt; first_wrong(&set), None);
+    Ok(())
+}
+
+/// Whether a copy of the set equals it.
+fn is_copied(alloc: Global, set: &CodePointInversionListAndStringList) -> Result<bool, NoMemory> {
+    let copy = set.copy(alloc)?;
+    Ok(copy == *set)
+}
+
+#[test]
+fn a_copy_equals_its_set(rt: HostRuntime) -> Result<(), Fail> {
+    let set = set_of(rt.alloc(), &["", "ab"])??;
+    assert_eq!(rt; is_copied(rt.alloc(), &set), Ok(true));
+    Ok(())
+}
+
+#[test]
+fn a_set_is_written_as_a_pattern(rt: HostRuntime) -> Result<(), Fail> {
+    let set = set_of(rt.alloc(), &["", "ab"])??;
+    let pattern = set.to_pattern(rt.alloc())?;
+    assert_eq!(rt;
+        pattern.as_str(),
+        "[\\u{2d}\\u{61}-\\u{63}{}{\\u{61}\\u{62}}]"
+    );
+    Ok(())
+}
+
+/// Lists of strings, and why they are refused.
+const FAULTY: &[(&[&str], StringListError)] = &[
+    (&["b"], StringListError::StringOfOne { index: 0 }),
+    (&["bc", "ab"], StringListError::NotSorted { index: 1 }),
+    (&["ab", "ab"], StringListError::NotUnique { index: 1 }),
+];
+
+/// Why the letters with these strings are refused, if they are.
+fn refusal(alloc: Global, texts: &[&str]) -> Result<Option<StringListError>, Fail> {
+    Ok(set_of(alloc, texts)?.err())
+}
+
+#[test]
+fn the_first_faulty_string_is_named(rt: HostRuntime) -> Result<(), Fail> {
+    for (texts, expected) in FAULTY {
+        let found = refusal(rt.alloc(), texts)?;
+        assert_eq!(rt; found, Some(*expected));
+    }
+    Ok(())
+}
+
+#[test]
+fn the_laws_hold() {
+    faultless();
+    one_list();
+}
