@@ -20,12 +20,21 @@ const RUNS_A_ROW: usize = 7;
 const OUTER: usize = 272;
 
 /// What the values of a map are read from.
-#[derive(Drop)]
 pub(crate) enum Pages<V> {
     /// The value of all code points, where the map has one run.
     One(V),
     /// Page tables, where it has several.
     Several(Tables<V>),
+}
+
+// By hand, so that letting a value go is one call in each proof.
+impl<V: Drop> Drop for Pages<V> {
+    fn drop(self) {
+        match self {
+            Pages::One(_) => {}
+            Pages::Several(_) => {}
+        }
+    }
 }
 
 impl<V: TrieValue> Pages<V> {
@@ -66,11 +75,21 @@ impl<V: TrieValue> Pages<V> {
 
 /// The 272 places of the outer table lead to blocks of 64 page numbers, and a page number to a page of 64 values. A page
 /// inside one run is the page of its value, and equal pages and equal blocks are kept once.
-#[derive(Drop)]
 pub(crate) struct Tables<V> {
     outer: Table<u16>,
     blocks: Table<u16>,
     values: Table<V>,
+}
+
+// By hand, so that letting a value go is one call in each proof.
+impl<V: Drop> Drop for Tables<V> {
+    fn drop(self) {
+        let Self {
+            outer: _,
+            blocks: _,
+            values: _,
+        } = self;
+    }
 }
 
 impl<V> Model for Tables<V> {
@@ -91,8 +110,8 @@ impl<V: TrieValue> Tables<V> {
         let outer = outer_of(alloc, &blocks.numbers)?;
         Ok(Tables {
             outer: Table::new(outer),
-            blocks: Table::new(blocks.shelf.values),
-            values: Table::new(pages.shelf.values),
+            blocks: Table::new(blocks.into_values()),
+            values: Table::new(pages.into_values()),
         })
     }
 

@@ -37,12 +37,18 @@ struct Link {
 
 /// Chains of rows whose fingerprints begin alike. They only say which rows may be equal to one, so nothing is promised
 /// of them.
-#[derive(Drop)]
 struct Chains {
     /// For each chain the number of its last row.
     last: Vec<u16>,
     /// For each row its link.
     links: Vec<Link>,
+}
+
+// By hand, so that letting a value go is one call in each proof.
+impl Drop for Chains {
+    fn drop(self) {
+        let Self { last: _, links: _ } = self;
+    }
 }
 
 impl Chains {
@@ -76,10 +82,19 @@ impl Chains {
 }
 
 /// Rows one behind another, each kept once. The number of a row says how many stand in front of it.
-#[derive(Drop)]
 pub(crate) struct Shelf<V> {
     pub(crate) values: Vec<V>,
     chains: Chains,
+}
+
+// By hand, so that letting a value go is one call in each proof.
+impl<V: Drop> Drop for Shelf<V> {
+    fn drop(self) {
+        let Self {
+            values: _,
+            chains: _,
+        } = self;
+    }
 }
 
 impl<V: TrieValue> Shelf<V> {
@@ -92,6 +107,13 @@ impl<V: TrieValue> Shelf<V> {
             values: Vec::with_capacity(alloc, expected * ROW)?,
             chains: Chains::new(alloc, expected)?,
         })
+    }
+
+    fn into_values(self) -> Vec<V>
+        ensures { result.items ≡ self.values.items }
+    {
+        let Self { values, chains: _ } = self;
+        values
     }
 
     /// Whether the row of the number has these values by `==` in all 64 places.
@@ -221,11 +243,21 @@ impl<V: TrieValue> Begun<V> {
 }
 
 /// A list of values that is taken piece by piece: its whole rows, and the row that is begun.
-#[derive(Drop)]
 pub(crate) struct Rows<V> {
     pub(crate) shelf: Shelf<V>,
     pub(crate) numbers: Vec<Repeated>,
     pub(crate) begun: Begun<V>,
+}
+
+// By hand, so that letting a value go is one call in each proof.
+impl<V: Drop> Drop for Rows<V> {
+    fn drop(self) {
+        let Self {
+            shelf: _,
+            numbers: _,
+            begun: _,
+        } = self;
+    }
 }
 
 impl<V: TrieValue> Rows<V> {
@@ -240,6 +272,18 @@ impl<V: TrieValue> Rows<V> {
             numbers: Vec::with_capacity(alloc, expected)?,
             begun: Begun::new(alloc)?,
         })
+    }
+
+    /// The values of the rows, without those of the row that is begun.
+    pub(crate) fn into_values(self) -> Vec<V>
+        ensures { result.items ≡ self.shelf.values.items }
+    {
+        let Self {
+            shelf,
+            numbers: _,
+            begun: _,
+        } = self;
+        shelf.into_values()
     }
 
     /// Takes the value so many times.

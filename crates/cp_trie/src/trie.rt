@@ -23,11 +23,21 @@ use std::sync::ledger::{Blank, Ledger};
 
 /// A map from code points, surrogates included, to values, with one value for all numbers past 10FFFF. A contract
 /// sees it as its maximal runs and that value, and speaks of the value at each number.
-#[derive(Drop)]
 pub struct CodePointTrie<T: TrieValue> {
     runs: Runs<T>,
     pages: Pages<T>,
     error_value: T,
+}
+
+// By hand, so that letting a value go is one call in each proof.
+impl<T: TrieValue> Drop for CodePointTrie<T> {
+    fn drop(self) {
+        let Self {
+            runs: _,
+            pages: _,
+            error_value: _,
+        } = self;
+    }
 }
 
 impl<T: TrieValue> Model for CodePointTrie<T> {

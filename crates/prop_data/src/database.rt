@@ -29,7 +29,6 @@ use std::collections::BTreeMap;
 use text_lines::split_line;
 
 /// The tables of a table text. Every table may be absent.
-#[derive(Drop)]
 pub struct PropertyDatabase {
     pub(crate) sets: BTreeMap<u8, CodePointInversionList>,
     pub(crate) maps: BTreeMap<u8, CodePointTrie<u32>>,
@@ -45,6 +44,25 @@ pub struct PropertyDatabase {
     pub(crate) lists: BTreeMap<u64, ListedScripts>,
     ghost allowed: { (table : ℕ) (set : List ℕ) → get nat_cmp sets table ≡ Some set → IsAllowed table (contains set) },
     ghost accepted: { (table : ℕ) (map : CodePointMap ℕ) → get nat_cmp maps table ≡ Some map → AreAccepted table (value_at map) },
+}
+
+// By hand, so that letting a value go is one call in each proof.
+impl Drop for PropertyDatabase {
+    fn drop(self) {
+        let Self {
+            sets: _,
+            maps: _,
+            names: _,
+            long_linear: _,
+            long_ccc: _,
+            short_linear: _,
+            short_ccc: _,
+            short_script: _,
+            emoji: _,
+            scripts: _,
+            lists: _,
+        } = self;
+    }
 }
 
 impl PropertyDatabase {

@@ -36,7 +36,6 @@ pub(crate) use texts::Length;
 use texts::{OpenTexts, text_table};
 
 /// A table whose rows are being read.
-#[derive(Drop)]
 pub(crate) enum OpenTable {
     Set(OpenSet),
     Map(OpenMap),
@@ -45,6 +44,21 @@ pub(crate) enum OpenTable {
     Emoji(OpenEmoji),
     Scripts(OpenScripts),
     List(OpenList),
+}
+
+// By hand, so that letting a value go is one call in each proof.
+impl Drop for OpenTable {
+    fn drop(self) {
+        match self {
+            OpenTable::Set(_) => {}
+            OpenTable::Map(_) => {}
+            OpenTable::Names(_) => {}
+            OpenTable::Texts(_) => {}
+            OpenTable::Emoji(_) => {}
+            OpenTable::Scripts(_) => {}
+            OpenTable::List(_) => {}
+        }
+    }
 }
 
 impl OpenTable {
@@ -80,12 +94,23 @@ impl OpenTable {
 }
 
 /// What was read so far.
-#[derive(Drop)]
 pub(crate) struct Loader {
     alloc: Global,
     database: PropertyDatabase,
     open_table: Option<OpenTable>,
     is_closed: bool,
+}
+
+// By hand, so that letting a value go is one call in each proof.
+impl Drop for Loader {
+    fn drop(self) {
+        let Self {
+            alloc: _,
+            database: _,
+            open_table: _,
+            is_closed: _,
+        } = self;
+    }
 }
 
 impl Loader {
@@ -322,7 +347,13 @@ impl Loader {
     fn into_database(self) -> PropertyDatabase
         ensures { result ≡ self.database }
     {
-        self.database
+        let Self {
+            alloc: _,
+            database,
+            open_table: _,
+            is_closed: _,
+        } = self;
+        database
     }
 
     /// The database of the lines that were read, where they end with `end`. `number` is that of the

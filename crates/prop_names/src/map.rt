@@ -10,11 +10,20 @@ use std::marker::Model;
 
 /// The values of a property by their names. A contract sees it as the names with the numbers of their values, in the
 /// order of the names.
-#[derive(Drop)]
 pub struct PropertyValueNameToEnumMap {
     names: NameList,
     /// The foldings of the names.
     foldings: NameList,
+}
+
+// By hand, so that letting a value go is one call in each proof.
+impl Drop for PropertyValueNameToEnumMap {
+    fn drop(self) {
+        let Self {
+            names: _,
+            foldings: _,
+        } = self;
+    }
 }
 
 impl Model for PropertyValueNameToEnumMap {

@@ -26,10 +26,19 @@ pub trait PropertyEnumToValueNameLookup {
 }
 
 /// Names by number: as a list, where an empty text is none, or in the order of the numbers that have one.
-#[derive(Drop)]
 pub(crate) enum LinearNames {
     Listed(Vec<String>),
     Ordered(BTreeMap<u32, String>),
+}
+
+// By hand, so that letting a value go is one call in each proof.
+impl Drop for LinearNames {
+    fn drop(self) {
+        match self {
+            LinearNames::Listed(_) => {}
+            LinearNames::Ordered(_) => {}
+        }
+    }
 }
 
 /// The names of values whose numbers begin at 0.

@@ -35,13 +35,24 @@ pub(crate) struct Opening {
 }
 
 /// A bracket whose closing `]` is still to come.
-#[derive(Drop)]
 pub(crate) struct OpenBracket<'a> {
     pub(crate) gathered: Gathering<'a>,
     opening: Opening,
     pub(crate) awaits: Awaits,
     /// The number of bytes of the source before the bracket.
     pub(crate) before: usize,
+}
+
+// By hand, so that letting a value go is one call in each proof.
+impl Drop for OpenBracket<'_> {
+    fn drop(self) {
+        let Self {
+            gathered: _,
+            opening: _,
+            awaits: _,
+            before: _,
+        } = self;
+    }
 }
 
 /// What became of an item.

@@ -50,7 +50,6 @@ impl VariableString {
 }
 
 /// What a variable is bound to.
-#[derive(Drop)]
 pub enum VariableValue {
     /// A set with strings.
     UnicodeSet(CodePointInversionListAndStringList),
@@ -58,6 +57,17 @@ pub enum VariableValue {
     Char(char),
     /// A string.
     String(VariableString),
+}
+
+// By hand, so that letting a value go is one call in each proof.
+impl Drop for VariableValue {
+    fn drop(self) {
+        match self {
+            VariableValue::UnicodeSet(_) => {}
+            VariableValue::Char(_) => {}
+            VariableValue::String(_) => {}
+        }
+    }
 }
 
 impl VariableValue {

@@ -29,5 +29,5 @@ returns g c =
     let pages = laid-whole c.in_ok-pages.pages _ 17408 c.in_ok-pages.ensures.cut c.in_ok-pages.ensures.begun c.in_ok-pages.ensures.taken size in
     let numbers = c.in_ok-blocks.ensures.taken ∙ ap spelled c.deref.ensures.value in
     let blocks = laid-whole c.in_ok-blocks.blocks _ 272 c.in_ok-blocks.ensures.cut c.in_ok-blocks.ensures.begun numbers pages.1 in
-    rw (c.new.ensures, c.new-2.ensures, c.new-3.ensures, c.in_ok-outer.ensures ∙ ap spelled c.deref-2.ensures.value)
+    rw (c.new.ensures, c.new-2.ensures ∙ c.into_values.ensures, c.new-3.ensures ∙ c.into_values-2.ensures, c.in_ok-outer.ensures ∙ ap spelled c.deref-2.ensures.value)
     (stand_for c.in_ok-pages.pages.shelf.values.items (spelled c.in_ok-pages.pages.numbers.items) c.in_ok-blocks.blocks.shelf.values.items (spelled c.in_ok-blocks.blocks.numbers.items) c.args.runs.now c.in_ok-pages.ensures.cut.within c.in_ok-blocks.ensures.cut.within pages.0 blocks.0 cover)
