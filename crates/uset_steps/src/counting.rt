@@ -9,12 +9,21 @@ use std::alloc::Global;
 use std::mem::replace;
 
 /// Which of the sets that are kept are named in the steps behind a place.
-#[derive(Drop)]
 struct Seen {
     /// Those that are joined or taken away: each step decides what becomes of all that their set has.
     inside: Vec<bool>,
     /// Those of which alone members are kept: each step decides what becomes of all that their set lacks.
     outside: Vec<bool>,
+}
+
+// By hand, so that letting a value go is one call in each proof.
+impl Drop for Seen {
+    fn drop(self) {
+        let Self {
+            inside: _,
+            outside: _,
+        } = self;
+    }
 }
 
 /// Marks the place, where there is one. The answer is true where it was marked already.

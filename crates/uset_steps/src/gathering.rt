@@ -11,10 +11,19 @@ use uset_read::Query;
 
 /// What a bracket gathers. From the first large set with a name on, steps are put off: once the set is needed, a set that was
 /// named again and again is gathered no more than twice. So each step costs no more than its name does.
-#[derive(Drop)]
 pub struct Gathering<'a> {
     gathered: Gathered,
     later: Option<Box<Later<'a>>>,
+}
+
+// By hand, so that letting a value go is one call in each proof.
+impl Drop for Gathering<'_> {
+    fn drop(self) {
+        let Self {
+            gathered: _,
+            later: _,
+        } = self;
+    }
 }
 
 /// Where a set that was named before is kept.
@@ -151,7 +160,7 @@ impl<'a> Gathering<'a> {
     }
 
     /// Gathers the set that is kept at this place, as `gather_named` does the set that its name stands for, and nothing where
-    /// none is kept there, as at a place that another bracket told.
+    /// none is kept there. A place that another bracket told may hold another set here, or none.
     pub fn gather_again(&mut self, operation: Operation, place: Place) -> Result<(), NoMemory>
         ensures gathers { OnOk result (GathersKept operation place self.old self.new) }
         ensures elsewhere { OnOk result (kept_at self.old place ≡ None → Settles self.old self.new) }

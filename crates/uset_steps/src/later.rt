@@ -16,13 +16,24 @@ const SHARE: usize = 32;
 const FULL: usize = 1 << 20;
 
 /// Steps that are put off, the first in front, and the sets that they name, each once.
-#[derive(Drop)]
 pub(crate) struct Later<'a> {
     places: Places,
     sets: Vec<NamedSet<'a>>,
     steps: Vec<Step>,
     /// About how much memory is kept, in ranges.
     kept: usize,
+}
+
+// By hand, so that letting a value go is one call in each proof.
+impl Drop for Later<'_> {
+    fn drop(self) {
+        let Self {
+            places: _,
+            sets: _,
+            steps: _,
+            kept: _,
+        } = self;
+    }
 }
 
 impl<'a> Later<'a> {
@@ -141,7 +152,12 @@ impl<'a> Later<'a> {
     pub(crate) fn done(self, alloc: Global, gathered: Gathered) -> Result<Gathered, NoMemory>
         ensures { IfOk result (λ g. (m : Member) → gathered_in g m ≡ later_done self.entry m (gathered_in gathered m)) }
     {
-        let Later { sets, steps, .. } = self;
+        let Later {
+            places: _,
+            sets,
+            steps,
+            kept: _,
+        } = self;
         let mut left = counting(alloc, steps, sets.len())?;
         let mut set = gathered;
         while let Some(step) = left.pop() {

@@ -6,10 +6,19 @@ use std::collections::BTreeMap;
 use uset_read::Query;
 
 /// The place of each set that is kept, by its name.
-#[derive(Drop)]
 pub(crate) struct Places {
     variables: BTreeMap<String, usize>,
     properties: BTreeMap<Query, usize>,
+}
+
+// By hand, so that letting a value go is one call in each proof.
+impl Drop for Places {
+    fn drop(self) {
+        let Self {
+            variables: _,
+            properties: _,
+        } = self;
+    }
 }
 
 impl Places {
@@ -38,7 +47,8 @@ impl Places {
 
     /// The place of the set with this name, if it is kept.
     pub(crate) fn of(&self, name: &Name) -> Option<usize>
-        ensures { IfSome result (IsPlaceIn self.now (name_seen name.now)) }
+        ensures found { IfSome result (IsPlaceIn self.now (name_seen name.now)) }
+        ensures absent { IfNone result (HasNoPlace self.now (name_seen name.now)) }
     {
         match name {
             Name::Variable(name) => self.variables.get(name.as_str()).copied(),
