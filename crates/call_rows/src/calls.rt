@@ -1,20 +1,13 @@
 //! The four calls that read a source.
-use crate::fixtures::with_tables;
-use cp_invlist::CodePointInversionList;
+use crate::fixtures::{NO_TABLES, Row, SYNTAX, assert_rows_of_text, is_set, is_shown};
 use cp_strset::CodePointInversionListAndStringList;
 use prop_data::PropertyDatabase;
-use std::alloc::{AllocError, Global};
-use std::process::Abort;
-use std::test::Fail;
+use std::alloc::Global;
 use uset_parse::{
     ParseError, ParseErrorKind, VariableMap, parse, parse_unstable, parse_unstable_with_variables,
     parse_with_variables,
 };
 use uset_reader::{Syntax, read_set};
-
-/// The three syntax tables for ASCII.
-const SYNTAX: &str =
-    "set XID_Start\n41-5A\n61-7A\nset XID_Continue\n30-39\n41-5A\n5F\n61-7A\nset Pattern_White_Space\n9-D\n20\nend\n";
 
 /// Which call reads the source.
 #[derive(Clone, Copy)]
@@ -23,9 +16,26 @@ enum Call {
     Unstable,
     WithVariables,
     UnstableWithVariables,
+    /// That of the reader below the four.
+    Below,
 }
 
+/// The four calls.
+const CALLS: &[Call] = &[
+    Call::Plain,
+    Call::Unstable,
+    Call::WithVariables,
+    Call::UnstableWithVariables,
+];
+
 type Answer = Result<(CodePointInversionListAndStringList, usize), ParseError>;
+
+/// The answer of the reader below the calls.
+fn read_below(alloc: Global, syntax: &Syntax<'_>, source: &str) -> Answer {
+    let (gathered, place) = read_set(alloc, syntax, source)?;
+    let set = gathered.into_set(alloc)?;
+    Ok((set, place.offset()))
+}
 
 /// The answer of the call.
 fn ask(
@@ -42,152 +52,165 @@ fn ask(
         Call::UnstableWithVariables => {
             parse_unstable_with_variables(alloc, source, variables, database)
         }
+        Call::Below => match Syntax::of(variables, database) {
+            Some(syntax) => read_below(alloc, &syntax, source),
+            None => Err(ParseErrorKind::Internal.into()),
+        },
     }
-}
-
-fn text(alloc: Global, s: &str) -> Result<String, AllocError> {
-    String::from_str(alloc, s)
-}
-
-/// The hyphen, the letters `a` to `c`, the empty string and the string `ab`.
-fn letters(alloc: Global) -> Result<CodePointInversionListAndStringList, Fail> {
-    let code_points = CodePointInversionList::try_from_inversion_list(
-        alloc,
-        &[0x2D, 0x2E, 0x61, 0x64],
-    )?;
-    let mut strings = Vec::new(alloc);
-    strings.push(text(alloc, "")?)?;
-    strings.push(text(alloc, "ab")?)?;
-    Ok(CodePointInversionListAndStringList::try_from(code_points, strings)?)
 }
 
 /// A map in which `a` is the character and `v` the string `ab`.
-fn variables(alloc: Global) -> Result<VariableMap, Fail> {
+fn variables(alloc: Global) -> Option<VariableMap> {
     let mut variables = VariableMap::new(alloc);
-    if variables.insert_char(text(alloc, "a")?, 'a').is_err() {
-        return Err("not bound".into());
-    }
-    if variables.insert_str(text(alloc, "v")?, "ab").is_err() {
-        return Err("not bound".into());
-    }
-    Ok(variables)
+    let a = String::from_str(alloc, "a").ok()?;
+    variables.insert_char(a, 'a').ok()?;
+    let v = String::from_str(alloc, "v").ok()?;
+    variables.insert_str(v, "ab").ok()?;
+    Some(variables)
 }
 
-/// Whether so many bytes were read, and the set is the expected one.
-fn is_read(answer: &Answer, expected: &CodePointInversionListAndStringList, length: usize) -> bool {
-    match answer {
-        Ok((set, bytes)) => set == expected && *bytes == length,
-        Err(_) => false,
-    }
-}
-
-/// Each call reads its source as the expected set.
-fn assert_each_reads(
-    rt: &impl Abort,
+/// The answer of the call where `a` and `v` are bound.
+fn ask_bound(
     alloc: Global,
-    expected: &CodePointInversionListAndStringList,
-    variables: &VariableMap,
-    database: &PropertyDatabase,
-) {
-    for (call, source, length) in [
-        (Call::Plain, "[a-c{}{ab}-]]", 12),
-        (Call::Unstable, "[a-c{}{ab}-]]", 12),
-        (Call::WithVariables, "[$a-c{}$v-]]", 11),
-        (Call::UnstableWithVariables, "[$a-c{}$v-]]", 11),
-    ] {
-        let answer = ask(alloc, call, source, variables, database);
-        assert!(rt; is_read(&answer, expected, length), "at {source}");
-    }
-}
-
-#[test]
-fn each_call_reads_a_pattern(rt: HostRuntime) -> Result<(), Fail> {
-    let alloc = rt.alloc();
-    let database = PropertyDatabase::from_text(alloc, SYNTAX)?;
-    let expected = letters(alloc)?;
-    let map = variables(alloc)?;
-    assert_each_reads(&rt, alloc, &expected, &map, &database);
-    Ok(())
-}
-
-/// How many bytes the reader below the calls reads, and whether it reads the expected set.
-fn read_by(
-    alloc: Global,
-    syntax: &Syntax<'_>,
-    source: &str,
-    expected: &CodePointInversionListAndStringList,
-) -> Result<(usize, bool), Fail> {
-    let (gathered, place) = read_set(alloc, syntax, source)?;
-    let length = place.offset();
-    let set = gathered.into_set(alloc)?;
-    Ok((length, set == *expected))
-}
-
-/// The same under the tables and the variables.
-fn read_below(
-    alloc: Global,
-    source: &str,
-    expected: &CodePointInversionListAndStringList,
-) -> Result<(usize, bool), Fail> {
-    let database = PropertyDatabase::from_text(alloc, SYNTAX)?;
-    let map = variables(alloc)?;
-    let syntax = Syntax::of(&map, &database).ok_or("no syntax")?;
-    read_by(alloc, &syntax, source, expected)
-}
-
-#[test]
-fn the_reader_below_the_calls_reads_a_pattern(rt: HostRuntime) -> Result<(), Fail> {
-    let expected = letters(rt.alloc())?;
-    let answer = read_below(rt.alloc(), "[$a-c{}$v-]]", &expected)?;
-    assert_eq!(rt; answer, (11, true));
-    Ok(())
-}
-
-/// The kind and the place of the fault, if the answer is one.
-fn fault_of(answer: Answer) -> Option<(ParseErrorKind, Option<usize>)> {
-    match answer {
-        Ok(_) => None,
-        Err(error) => Some((error.kind(), error.offset())),
-    }
-}
-
-/// The kind and the place of the fault, if the source has one under the tables.
-fn fault_under(
-    alloc: Global,
-    tables: &str,
     call: Call,
     source: &str,
-) -> Result<Option<(ParseErrorKind, Option<usize>)>, Fail> {
-    let database = PropertyDatabase::from_text(alloc, tables)?;
-    let map = variables(alloc)?;
-    Ok(fault_of(ask(alloc, call, source, &map, &database)))
+    database: &PropertyDatabase,
+) -> Option<Answer> {
+    let variables = variables(alloc)?;
+    Some(ask(alloc, call, source, &variables, database))
 }
+
+/// A call, its source, and how many bytes of that it reads: as the hyphen, the letters `a` to `c`, the empty string and
+/// the string `ab`.
+type Read = (Call, &'static str, usize);
+
+impl Row<PropertyDatabase> for Read {
+    fn holds(&self, alloc: Global, database: &PropertyDatabase) -> bool {
+        let (call, source, length) = *self;
+        match ask_bound(alloc, call, source, database) {
+            Some(Ok((set, bytes))) => {
+                bytes == length && is_set(&set, &[0x2D, 0x2E, 0x61, 0x64], &["", "ab"])
+            }
+            _ => false,
+        }
+    }
+}
+
+const READ: &[Read] = &[
+    (Call::Plain, "[a-c{}{ab}-]]", 12),
+    (Call::Unstable, "[a-c{}{ab}-]]", 12),
+    (Call::WithVariables, "[$a-c{}$v-]]", 11),
+    (Call::UnstableWithVariables, "[$a-c{}$v-]]", 11),
+];
 
 #[test]
-fn each_call_refuses_a_pattern(rt: HostRuntime) -> Result<(), Fail> {
-    let unknown = ParseErrorKind::UnknownVariable;
-    let unexpected = ParseErrorKind::UnexpectedVariable;
-    let internal = ParseErrorKind::Internal;
-    let reversed = ParseErrorKind::UnexpectedChar('a');
-    for (tables, call, source, kind, offset) in [
-        (SYNTAX, Call::Plain, "[$a]", unknown, Some(2)),
-        (SYNTAX, Call::Plain, "[", ParseErrorKind::Eof, None),
-        (SYNTAX, Call::Unstable, "[ä$vä]", unknown, Some(4)),
-        (SYNTAX, Call::WithVariables, "[ä$vä-$a]", reversed, Some(9)),
-        (SYNTAX, Call::WithVariables, "[a-$v]", unexpected, Some(4)),
-        ("end\n", Call::Plain, "[", internal, None),
-        ("end\n", Call::Unstable, "[", internal, None),
-        ("end\n", Call::WithVariables, "[$a]", internal, None),
-        ("end\n", Call::UnstableWithVariables, "[$a]", internal, None),
-    ] {
-        let found = fault_under(rt.alloc(), tables, call, source)?;
-        assert_eq!(rt; found, Some((kind, offset)), "at {source}");
-    }
-    Ok(())
+fn each_call_reads_a_pattern(rt: HostRuntime) {
+    assert_rows_of_text(&rt, rt.alloc(), SYNTAX, READ);
 }
 
-/// Sources with a fault where no name is bound: its kind, and its place in bytes.
-const FAULTS: &[(&str, ParseErrorKind, Option<usize>)] = &[
+const READ_BELOW: &[Read] = &[(Call::Below, "[$a-c{}$v-]]", 11)];
+
+#[test]
+fn the_reader_below_the_calls_reads_a_pattern(rt: HostRuntime) {
+    assert_rows_of_text(&rt, rt.alloc(), SYNTAX, READ_BELOW);
+}
+
+/// Whether the answer is the fault of this kind, at this place.
+fn is_fault(answer: Answer, kind: ParseErrorKind, offset: Option<usize>) -> bool {
+    match answer {
+        Ok(_) => false,
+        Err(error) => error.kind() == kind && error.offset() == offset,
+    }
+}
+
+/// A call, its source, and the kind and the place of the fault that it has where `a` and `v` are bound.
+type Refused = (Call, &'static str, ParseErrorKind, Option<usize>);
+
+impl Row<PropertyDatabase> for Refused {
+    fn holds(&self, alloc: Global, database: &PropertyDatabase) -> bool {
+        let (call, source, kind, offset) = *self;
+        match ask_bound(alloc, call, source, database) {
+            Some(answer) => is_fault(answer, kind, offset),
+            None => false,
+        }
+    }
+}
+
+const REFUSED: &[Refused] = &[
+    (
+        Call::Plain,
+        "[$a]",
+        ParseErrorKind::UnknownVariable,
+        Some(2),
+    ),
+    (Call::Plain, "[", ParseErrorKind::Eof, None),
+    (
+        Call::Unstable,
+        "[ä$vä]",
+        ParseErrorKind::UnknownVariable,
+        Some(4),
+    ),
+    (
+        Call::WithVariables,
+        "[ä$vä-$a]",
+        ParseErrorKind::UnexpectedChar('a'),
+        Some(9),
+    ),
+    (
+        Call::WithVariables,
+        "[a-$v]",
+        ParseErrorKind::UnexpectedVariable,
+        Some(4),
+    ),
+];
+
+const REFUSED_WITHOUT_TABLES: &[Refused] = &[
+    (Call::Plain, "[", ParseErrorKind::Internal, None),
+    (Call::Unstable, "[", ParseErrorKind::Internal, None),
+    (Call::WithVariables, "[$a]", ParseErrorKind::Internal, None),
+    (
+        Call::UnstableWithVariables,
+        "[$a]",
+        ParseErrorKind::Internal,
+        None,
+    ),
+];
+
+#[test]
+fn each_call_refuses_a_pattern(rt: HostRuntime) {
+    assert_rows_of_text(&rt, rt.alloc(), SYNTAX, REFUSED);
+    assert_rows_of_text(&rt, rt.alloc(), NO_TABLES, REFUSED_WITHOUT_TABLES);
+}
+
+/// Whether each of the four calls has this fault of the source.
+fn is_fault_of_each(
+    alloc: Global,
+    source: &str,
+    kind: ParseErrorKind,
+    offset: Option<usize>,
+    variables: &VariableMap,
+    database: &PropertyDatabase,
+) -> bool {
+    for call in CALLS {
+        if !is_fault(ask(alloc, *call, source, variables, database), kind, offset) {
+            return false;
+        }
+    }
+    true
+}
+
+/// A source with a fault where no name is bound: its kind, and its place in bytes.
+type Faulty = (&'static str, ParseErrorKind, Option<usize>);
+
+impl Row<PropertyDatabase> for Faulty {
+    fn holds(&self, alloc: Global, database: &PropertyDatabase) -> bool {
+        let (source, kind, offset) = *self;
+        let none = VariableMap::new(alloc);
+        is_fault_of_each(alloc, source, kind, offset, &none, database)
+    }
+}
+
+const FAULTS: &[Faulty] = &[
     ("[z-y]", ParseErrorKind::UnexpectedChar('y'), Some(3)),
     ("ä", ParseErrorKind::UnexpectedChar('ä'), Some(0)),
     ("[a", ParseErrorKind::Eof, None),
@@ -198,67 +221,49 @@ const FAULTS: &[(&str, ParseErrorKind, Option<usize>)] = &[
     ("[:blk=x:]", ParseErrorKind::Internal, Some(6)),
 ];
 
-/// Asserts that the call refuses each source for its fault.
-fn assert_faults(
-    rt: &impl Abort,
-    alloc: Global,
-    call: Call,
-    variables: &VariableMap,
-    database: &PropertyDatabase,
-) {
-    for (source, kind, offset) in FAULTS {
-        let found = fault_of(ask(alloc, call, source, variables, database));
-        assert_eq!(rt; found, Some((*kind, *offset)), "at {source}");
+#[test]
+fn each_call_gives_the_fault_of_a_source(rt: HostRuntime) {
+    assert_rows_of_text(&rt, rt.alloc(), SYNTAX, FAULTS);
+}
+
+/// Whether the database has a syntax.
+struct HasSyntax(bool);
+
+impl Row<PropertyDatabase> for HasSyntax {
+    fn holds(&self, alloc: Global, database: &PropertyDatabase) -> bool {
+        let none = VariableMap::new(alloc);
+        Syntax::of(&none, database).is_some() == self.0
     }
 }
 
 #[test]
-fn each_call_gives_the_fault_of_a_source(rt: HostRuntime) -> Result<(), Fail> {
-    let none = VariableMap::new(rt.alloc());
-    with_tables(rt.alloc(), SYNTAX, |database| {
-        assert_faults(&rt, rt.alloc(), Call::Plain, &none, database);
-        assert_faults(&rt, rt.alloc(), Call::Unstable, &none, database);
-        assert_faults(&rt, rt.alloc(), Call::WithVariables, &none, database);
-        assert_faults(
-            &rt,
-            rt.alloc(),
-            Call::UnstableWithVariables,
-            &none,
-            database,
-        );
-        Ok(())
-    })
+fn without_tables_there_is_no_syntax(rt: HostRuntime) {
+    assert_rows_of_text(&rt, rt.alloc(), NO_TABLES, &[HasSyntax(false)]);
 }
 
-#[test]
-fn without_tables_there_is_no_syntax(rt: HostRuntime) -> Result<(), Fail> {
-    let none = PropertyDatabase::from_text(rt.alloc(), "end\n")?;
-    let map = VariableMap::new(rt.alloc());
-    assert!(rt; Syntax::of(&map, &none).is_none());
-    Ok(())
-}
+/// A source, and what its fault is shown as with another.
+type Shown = (&'static str, &'static str, &'static str);
 
-/// The fault of the first source, shown with the second.
-fn shown(alloc: Global, source: &str, other: &str) -> Result<String, Fail> {
-    let database = PropertyDatabase::from_text(alloc, SYNTAX)?;
-    match parse(alloc, source, &database) {
-        Ok(_) => Err("no fault".into()),
-        Err(error) => Ok(error.fmt_with_source(alloc, other)?),
+impl Row<PropertyDatabase> for Shown {
+    fn holds(&self, alloc: Global, database: &PropertyDatabase) -> bool {
+        let (source, other, shown) = *self;
+        match parse(alloc, source, database) {
+            Ok(_) => false,
+            Err(error) => is_shown(alloc, error, other, shown),
+        }
     }
 }
 
+const SHOWN: &[Shown] = &[
+    (
+        "[[set]&]",
+        "[[set]&]",
+        "[[set]&]← error: unexpected character ']'",
+    ),
+    ("[[set]&]", "[", "error: unexpected character ']'"),
+];
+
 #[test]
-fn a_fault_is_shown_with_its_source_or_another(rt: HostRuntime) -> Result<(), Fail> {
-    for (source, other, expected) in [
-        (
-            "[[set]&]",
-            "[[set]&]",
-            "[[set]&]← error: unexpected character ']'",
-        ),
-        ("[[set]&]", "[", "error: unexpected character ']'"),
-    ] {
-        let found = shown(rt.alloc(), source, other)?;
-        assert_eq!(rt; found.as_str(), expected, "at {other}");
-    }
-    Ok(())
+fn a_fault_is_shown_with_its_source_or_another(rt: HostRuntime) {
+    assert_rows_of_text(&rt, rt.alloc(), SYNTAX, SHOWN);
 }

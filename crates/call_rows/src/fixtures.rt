@@ -1,20 +1,94 @@
 //! What tests of several subjects share.
 use cp_invlist::CodePointInversionList;
 use cp_strset::CodePointInversionListAndStringList;
-use prop_data::PropertyDatabase;
-use std::alloc::Global;
-use std::test::Fail;
+use prop_data::{LoadError, PropertyDatabase};
+use std::alloc::{AllocError, Global};
+use std::process::Abort;
+use uset_fault::ParseError;
 
-/// Calls the assertions on the database of the text. They borrow it, since it is proved slowly where it is owned.
-pub(crate) fn with_tables<F: Fn(&PropertyDatabase) -> Result<(), Fail> + Copy>(
+/// The three syntax tables for ASCII.
+pub(crate) const SYNTAX: &str =
+    "set XID_Start\n41-5A\n61-7A\nset XID_Continue\n30-39\n41-5A\n5F\n61-7A\nset Pattern_White_Space\n9-D\n20\nend\n";
+
+/// No table.
+pub(crate) const NO_TABLES: &str = "end\n";
+
+/// A question, with the answer that is expected. What the question needs is lent to it.
+pub(crate) trait Row<T> {
+    /// Whether the answer is this one.
+    fn holds(&self, alloc: Global, lent: &T) -> bool;
+}
+
+/// The index of the first row that does not hold.
+pub(crate) fn first_wrong<T, R: Row<T>>(alloc: Global, lent: &T, rows: &[R]) -> Option<usize> {
+    for (index, row) in rows.iter().enumerate() {
+        if !row.holds(alloc, lent) {
+            return Some(index);
+        }
+    }
+    None
+}
+
+/// Asserts that each row holds, with nothing lent to it. A failure tells the index of the first that does not.
+pub(crate) fn assert_rows<R: Row<()>>(rt: &impl Abort, alloc: Global, rows: &[R]) {
+    assert_eq!(rt; first_wrong(alloc, &(), rows), None);
+}
+
+/// The index of the first row that does not hold of the text's database. This function alone owns a database, since it
+/// is proved slowly where it is owned.
+fn first_wrong_of_text<R: Row<PropertyDatabase>>(
     alloc: Global,
     text: &str,
-    assertions: F,
-) -> Result<(), Fail>
-    requires { F.IsAlwaysCallable assertions }
-{
+    rows: &[R],
+) -> Result<Option<usize>, LoadError> {
     let database = PropertyDatabase::from_text(alloc, text)?;
-    assertions(&database)
+    Ok(first_wrong(alloc, &database, rows))
+}
+
+/// Asserts that each row holds of the text's database. A failure tells the index of the first that does not.
+pub(crate) fn assert_rows_of_text<R: Row<PropertyDatabase>>(
+    rt: &impl Abort,
+    alloc: Global,
+    text: &str,
+    rows: &[R],
+) {
+    assert_eq!(rt;
+        first_wrong_of_text(alloc, text, rows),
+        Ok(None),
+        "at {text}"
+    );
+}
+
+/// The index of the first row that does not hold of the set of an inversion list and strings.
+fn first_wrong_of_set<R: Row<CodePointInversionListAndStringList>>(
+    alloc: Global,
+    list: &[u32],
+    texts: &[&str],
+    rows: &[R],
+) -> Option<Option<usize>> {
+    let set = set_of(alloc, list, texts)?;
+    Some(first_wrong(alloc, &set, rows))
+}
+
+/// Asserts that each row holds of the set of an inversion list and strings. A failure tells the index of the first that
+/// does not.
+pub(crate) fn assert_rows_of_set<R: Row<CodePointInversionListAndStringList>>(
+    rt: &impl Abort,
+    alloc: Global,
+    list: &[u32],
+    texts: &[&str],
+    rows: &[R],
+) {
+    assert_eq!(rt; first_wrong_of_set(alloc, list, texts, rows), Some(None));
+}
+
+/// Strings of these texts.
+fn strings_of(alloc: Global, texts: &[&str]) -> Result<Vec<String>, AllocError> {
+    let mut strings = Vec::new(alloc);
+    for text in texts {
+        strings.push(String::from_str(alloc, text)?)?;
+    }
+    Ok(strings)
 }
 
 /// A set by its inversion list and its strings.
@@ -22,11 +96,38 @@ pub(crate) fn set_of(
     alloc: Global,
     list: &[u32],
     texts: &[&str],
-) -> Result<CodePointInversionListAndStringList, Fail> {
-    let code_points = CodePointInversionList::try_from_inversion_list(alloc, list)?;
-    let mut strings = Vec::new(alloc);
-    for text in texts {
-        strings.push(String::from_str(alloc, text)?)?;
+) -> Option<CodePointInversionListAndStringList> {
+    let code_points = CodePointInversionList::try_from_inversion_list(alloc, list).ok()?;
+    let strings = strings_of(alloc, texts).ok()?;
+    CodePointInversionListAndStringList::try_from(code_points, strings).ok()
+}
+
+/// Whether the strings are these texts, in order.
+fn are_texts(strings: &[String], texts: &[&str]) -> bool {
+    if strings.len() != texts.len() {
+        return false;
     }
-    Ok(CodePointInversionListAndStringList::try_from(code_points, strings)?)
+    for (string, text) in strings.iter().zip(texts) {
+        if string.as_str() != *text {
+            return false;
+        }
+    }
+    true
+}
+
+/// Whether the set has this inversion list and these strings.
+pub(crate) fn is_set(
+    set: &CodePointInversionListAndStringList,
+    list: &[u32],
+    texts: &[&str],
+) -> bool {
+    set.code_points().get_inversion_list() == list && are_texts(set.strings(), texts)
+}
+
+/// Whether the error is shown so with the source.
+pub(crate) fn is_shown(alloc: Global, error: ParseError, source: &str, shown: &str) -> bool {
+    match error.fmt_with_source(alloc, source) {
+        Ok(text) => text.as_str() == shown,
+        Err(_) => false,
+    }
 }

@@ -1,13 +1,12 @@
 //! What a bracket gathers.
-use crate::fixtures::set_of;
-use cp_invlist::CodePointRange;
+use crate::fixtures::{Row, assert_rows_of_set, is_set};
+use cp_invlist::{CodePointRange, NoMemory};
 use cp_strset::{CodePointInversionListAndStringList, sole_char};
 use std::alloc::Global;
-use std::test::Fail;
 use uset_gather::{Gathered, Operand, Source};
 
 /// What is done with the letters.
-#[derive(Clone, Copy, Debug)]
+#[derive(Clone, Copy)]
 enum Step {
     Join,
     Remove,
@@ -16,7 +15,7 @@ enum Step {
 }
 
 /// What an operand is made of the other set.
-#[derive(Clone, Copy, Debug)]
+#[derive(Clone, Copy)]
 enum Made {
     Gathered,
     Set,
@@ -25,23 +24,31 @@ enum Made {
 }
 
 /// Adds the string, which is not one character.
-fn add_text(alloc: Global, gathered: &mut Gathered, text: &str) -> Result<(), Fail> {
+fn add_text(alloc: Global, gathered: &mut Gathered, text: &str) -> Result<(), NoMemory> {
     let text = String::from_str(alloc, text)?;
     match sole_char(&text) {
-        None => Ok(gathered.add_text(text)?),
-        Some(_) => Err("one character".into()),
+        None => gathered.add_text(text),
+        Some(_) => Ok(()),
     }
 }
 
-/// The letters `a` to `e`, the empty string and the string `ab`.
-fn letters(alloc: Global) -> Result<Gathered, Fail> {
-    let mut gathered = Gathered::new(alloc);
+/// Adds the letters `a` to `e`, the empty string and the string `ab`.
+fn add_letters(alloc: Global, gathered: &mut Gathered) -> Result<(), NoMemory> {
     gathered.add_range(CodePointRange {
         start: 0x61,
         end: 0x65,
     })?;
-    add_text(alloc, &mut gathered, "ab")?;
-    add_text(alloc, &mut gathered, "")?;
+    add_text(alloc, gathered, "ab")?;
+    add_text(alloc, gathered, "")
+}
+
+/// What a bracket with the members of the set gathered.
+fn gathered_of(
+    alloc: Global,
+    set: &CodePointInversionListAndStringList,
+) -> Result<Gathered, NoMemory> {
+    let mut gathered = Gathered::new(alloc);
+    gathered.join(Operand::Set(set), alloc)?;
     Ok(gathered)
 }
 
@@ -50,13 +57,9 @@ fn operand_of(
     alloc: Global,
     made: Made,
     set: &CodePointInversionListAndStringList,
-) -> Result<Operand<'_>, Fail> {
+) -> Result<Operand<'_>, NoMemory> {
     match made {
-        Made::Gathered => {
-            let mut gathered = Gathered::new(alloc);
-            gathered.join(Operand::Set(set), alloc)?;
-            Ok(Operand::Gathered(gathered))
-        }
+        Made::Gathered => Ok(Operand::Gathered(gathered_of(alloc, set)?)),
         Made::Set => Ok(Operand::Set(set)),
         Made::CodePoints => Ok(Operand::CodePoints(Source::Lent(set.code_points()))),
         Made::Complement => {
@@ -66,37 +69,60 @@ fn operand_of(
     }
 }
 
-/// The set that the step makes of the letters with the operand.
-fn stepped(
+/// Takes the step with the operand.
+fn take_step(
     alloc: Global,
+    gathered: &mut Gathered,
     step: Step,
     operand: Operand<'_>,
-) -> Result<CodePointInversionListAndStringList, Fail> {
-    let mut gathered = letters(alloc)?;
+) -> Result<(), NoMemory> {
     match step {
-        Step::Join => gathered.join(operand, alloc)?,
-        Step::Remove => gathered.remove(operand)?,
-        Step::Retain => gathered.retain(operand, alloc)?,
-        Step::Negate => gathered.negate(alloc),
+        Step::Join => gathered.join(operand, alloc),
+        Step::Remove => gathered.remove(operand),
+        Step::Retain => gathered.retain(operand, alloc),
+        Step::Negate => {
+            gathered.negate(alloc);
+            Ok(())
+        }
     }
-    Ok(gathered.into_set(alloc)?)
 }
 
-/// Whether the step makes this set of the letters with the operand of the other set.
-fn becomes(
+/// Adds the letters, and takes the step with the operand of the other set.
+fn gather(
+    alloc: Global,
+    gathered: &mut Gathered,
+    step: Step,
+    made: Made,
+    other: &CodePointInversionListAndStringList,
+) -> Result<(), NoMemory> {
+    add_letters(alloc, gathered)?;
+    take_step(alloc, gathered, step, operand_of(alloc, made, other)?)
+}
+
+/// The set that the step makes of the letters with the operand of the other set.
+fn stepped(
     alloc: Global,
     step: Step,
     made: Made,
     other: &CodePointInversionListAndStringList,
-    list: &[u32],
-    texts: &[&str],
-) -> Result<bool, Fail> {
-    let set = stepped(alloc, step, operand_of(alloc, made, other)?)?;
-    Ok(set == set_of(alloc, list, texts)?)
+) -> Result<CodePointInversionListAndStringList, NoMemory> {
+    let mut gathered = Gathered::new(alloc);
+    gather(alloc, &mut gathered, step, made, other)?;
+    gathered.into_set(alloc)
 }
 
 /// A step, its operand, and the inversion list and the strings of what the letters become.
 type Stepped = (Step, Made, &'static [u32], &'static [&'static str]);
+
+impl Row<CodePointInversionListAndStringList> for Stepped {
+    fn holds(&self, alloc: Global, other: &CodePointInversionListAndStringList) -> bool {
+        let (step, made, list, texts) = *self;
+        match stepped(alloc, step, made, other) {
+            Ok(set) => is_set(&set, list, texts),
+            Err(_) => false,
+        }
+    }
+}
 
 /// The letters `a` to `e`, the empty string and `ab` with `c` to `g`, `ab` and `cd`.
 const STEPPED: &[Stepped] = &[
@@ -121,11 +147,6 @@ const STEPPED: &[Stepped] = &[
 ];
 
 #[test]
-fn letters_become_what_the_step_makes_of_them(rt: HostRuntime) -> Result<(), Fail> {
-    let other = set_of(rt.alloc(), &[0x63, 0x68], &["ab", "cd"])?;
-    for (step, made, list, texts) in STEPPED {
-        let same = becomes(rt.alloc(), *step, *made, &other, list, texts)?;
-        assert!(rt; same, "at {step:?} {made:?}");
-    }
-    Ok(())
+fn letters_become_what_the_step_makes_of_them(rt: HostRuntime) {
+    assert_rows_of_set(&rt, rt.alloc(), &[0x63, 0x68], &["ab", "cd"], STEPPED);
 }

@@ -1,39 +1,46 @@
 //! Sets written as patterns, and read back.
-use crate::fixtures::set_of;
+use crate::fixtures::{NO_TABLES, Row, SYNTAX, assert_rows_of_text, set_of};
 use cp_invlist::CodePointInversionList;
 use cp_strset::CodePointInversionListAndStringList;
 use prop_data::PropertyDatabase;
-use std::alloc::Global;
-use std::test::Fail;
+use std::alloc::{AllocError, Global};
 use uset_parse::{ParseError, ParseErrorKind, VariableMap, parse, read_back};
 
-/// The three syntax tables for ASCII.
-const SYNTAX: &str = "set XID_Start\n41-5A\n61-7A\nset XID_Continue\n30-39\n41-5A\n5F\n61-7A\n\
-    set Pattern_White_Space\n9-D\n20\nend\n";
-
-/// Whether the text is read as the set, and all of it.
-fn is_read_back(
-    alloc: Global,
-    set: &CodePointInversionListAndStringList,
-    text: &str,
-) -> Result<bool, Fail> {
-    let database = PropertyDatabase::from_text(alloc, SYNTAX)?;
-    match parse(alloc, text, &database) {
-        Ok((read, length)) => Ok(read == *set && length == text.len()),
-        Err(_) => Ok(false),
+/// Whether the pattern of the set is this text.
+fn is_written(alloc: Global, set: &CodePointInversionListAndStringList, text: &str) -> bool {
+    match set.to_pattern(alloc) {
+        Ok(pattern) => pattern.as_str() == text,
+        Err(_) => false,
     }
 }
 
-/// The pattern of a set, and whether it is read back.
-fn written(alloc: Global, list: &[u32], texts: &[&str]) -> Result<(String, bool), Fail> {
-    let set = set_of(alloc, list, texts)?;
-    let text = set.to_pattern(alloc)?;
-    let back = is_read_back(alloc, &set, &text)?;
-    Ok((text, back))
+/// Whether the text is read as the set, and all of it.
+fn is_read(
+    alloc: Global,
+    set: &CodePointInversionListAndStringList,
+    text: &str,
+    database: &PropertyDatabase,
+) -> bool {
+    match parse(alloc, text, database) {
+        Ok((read, length)) => length == text.len() && read == *set,
+        Err(_) => false,
+    }
 }
 
-/// An inversion list, strings, and the pattern of both.
+/// An inversion list, strings, and the pattern of both, which is read back.
 type Written = (&'static [u32], &'static [&'static str], &'static str);
+
+impl Row<PropertyDatabase> for Written {
+    fn holds(&self, alloc: Global, database: &PropertyDatabase) -> bool {
+        let (list, texts, pattern) = *self;
+        match set_of(alloc, list, texts) {
+            Some(set) => {
+                is_written(alloc, &set, pattern) && is_read(alloc, &set, pattern, database)
+            }
+            None => false,
+        }
+    }
+}
 
 const WRITTEN: &[Written] = &[
     (&[], &[], "[]"),
@@ -56,59 +63,106 @@ const WRITTEN: &[Written] = &[
 ];
 
 #[test]
-fn a_set_is_written_and_read_back(rt: HostRuntime) -> Result<(), Fail> {
-    for (list, texts, expected) in WRITTEN {
-        let (text, back) = written(rt.alloc(), list, texts)?;
-        assert_eq!(rt; text.as_str(), *expected);
-        assert!(rt; back, "at {expected}");
-    }
-    Ok(())
+fn a_set_is_written_and_read_back(rt: HostRuntime) {
+    assert_rows_of_text(&rt, rt.alloc(), SYNTAX, WRITTEN);
 }
 
-/// Each thousandth code point, and a thousand strings.
-fn large_set(alloc: Global) -> Result<CodePointInversionListAndStringList, Fail> {
+/// The inversion list of each thousandth code point.
+fn thousandths(alloc: Global) -> Result<Vec<u32>, AllocError> {
     let mut list = Vec::new(alloc);
     for step in 0..1_114u32 {
         let code_point = step.saturating_mul(1_000);
         list.push(code_point)?;
         list.push(code_point.saturating_add(1))?;
     }
+    Ok(list)
+}
+
+/// The numbers below a thousand, with four digits each.
+fn numerals(alloc: Global) -> Result<Vec<String>, AllocError> {
     let mut strings = Vec::new(alloc);
     for number in 0..1_000u32 {
         strings.push(format!(in alloc; "{number:04}")?)?;
     }
-    let code_points = CodePointInversionList::try_from_inversion_list(alloc, &list)?;
-    Ok(CodePointInversionListAndStringList::try_from(code_points, strings)?)
+    Ok(strings)
 }
 
-/// Whether the set is read back, and how many bytes its pattern has.
-fn read_back_from(
+/// Each thousandth code point, and a thousand strings.
+fn large_set(alloc: Global) -> Option<CodePointInversionListAndStringList> {
+    let list = thousandths(alloc).ok()?;
+    let code_points = CodePointInversionList::try_from_inversion_list(alloc, &list).ok()?;
+    let strings = numerals(alloc).ok()?;
+    CodePointInversionListAndStringList::try_from(code_points, strings).ok()
+}
+
+/// Whether the pattern of the set has so many bytes.
+fn has_length(alloc: Global, set: &CodePointInversionListAndStringList, length: usize) -> bool {
+    match set.to_pattern(alloc) {
+        Ok(pattern) => pattern.len() == length,
+        Err(_) => false,
+    }
+}
+
+/// Whether the set is read back, from all of its pattern.
+fn is_read_back(
     alloc: Global,
     set: &CodePointInversionListAndStringList,
     database: &PropertyDatabase,
-) -> Result<(bool, usize), Fail> {
-    let (read, length) = read_back(alloc, set, &VariableMap::new(alloc), database)?;
-    Ok((read == *set, length))
+) -> bool {
+    match read_back(alloc, set, &VariableMap::new(alloc), database) {
+        Ok((read, length)) => read == *set && has_length(alloc, set, length),
+        Err(_) => false,
+    }
+}
+
+/// How many code points and strings the large set has, which is read back.
+struct Large(usize);
+
+impl Row<PropertyDatabase> for Large {
+    fn holds(&self, alloc: Global, database: &PropertyDatabase) -> bool {
+        match large_set(alloc) {
+            Some(set) => set.size() == self.0 && is_read_back(alloc, &set, database),
+            None => false,
+        }
+    }
 }
 
 #[test]
-fn a_large_set_is_read_back(rt: HostRuntime) -> Result<(), Fail> {
-    let alloc = rt.alloc();
-    let set = large_set(alloc)?;
-    let database = PropertyDatabase::from_text(alloc, SYNTAX)?;
-    let (same, length) = read_back_from(alloc, &set, &database)?;
-    assert!(rt; same);
-    assert_eq!(rt; length, set.to_pattern(alloc)?.len());
-    assert_eq!(rt; set.size(), 2_114);
-    Ok(())
+fn a_large_set_is_read_back(rt: HostRuntime) {
+    assert_rows_of_text(&rt, rt.alloc(), SYNTAX, &[Large(2_114)]);
+}
+
+/// The kind of the fault, which has no place, that the empty set is not read back for.
+struct NotReadBack(ParseErrorKind);
+
+impl Row<PropertyDatabase> for NotReadBack {
+    fn holds(&self, alloc: Global, database: &PropertyDatabase) -> bool {
+        match set_of(alloc, &[], &[]) {
+            Some(set) => is_not_read_back(alloc, &set, self.0, database),
+            None => false,
+        }
+    }
+}
+
+/// Whether the set is not read back, for a fault of this kind without a place.
+fn is_not_read_back(
+    alloc: Global,
+    set: &CodePointInversionListAndStringList,
+    kind: ParseErrorKind,
+    database: &PropertyDatabase,
+) -> bool {
+    match read_back(alloc, set, &VariableMap::new(alloc), database) {
+        Ok(_) => false,
+        Err(error) => error == ParseError::from(kind),
+    }
 }
 
 #[test]
-fn nothing_is_read_back_without_a_syntax(rt: HostRuntime) -> Result<(), Fail> {
-    let alloc = rt.alloc();
-    let set = set_of(alloc, &[], &[])?;
-    let database = PropertyDatabase::from_text(alloc, "end\n")?;
-    let error = read_back(alloc, &set, &VariableMap::new(alloc), &database).err();
-    assert_eq!(rt; error, Some(ParseError::from(ParseErrorKind::Internal)));
-    Ok(())
+fn nothing_is_read_back_without_a_syntax(rt: HostRuntime) {
+    assert_rows_of_text(
+        &rt,
+        rt.alloc(),
+        NO_TABLES,
+        &[NotReadBack(ParseErrorKind::Internal)],
+    );
 }

@@ -1,9 +1,7 @@
 //! What properties resolve to.
-use crate::fixtures::with_tables;
+use crate::fixtures::{Row, assert_rows_of_text};
 use prop_data::PropertyDatabase;
 use std::alloc::Global;
-use std::process::Abort;
-use std::test::Fail;
 use uset_resolve::{Resolution, resolve};
 
 /// The digits as a set and as a general category, and names of blocks without their map.
@@ -21,8 +19,30 @@ enum Expected {
     Lacking,
 }
 
+/// Whether the property resolves to what is expected.
+fn is_expected(resolution: &Resolution<'_>, expected: Expected) -> bool {
+    match (resolution, expected) {
+        (Resolution::Found(source, falsy), Expected::Found(list, negates)) => {
+            *falsy == negates && source.list().get_inversion_list() == list
+        }
+        (Resolution::Unknown, Expected::Unknown) => true,
+        (Resolution::Lacking, Expected::Lacking) => true,
+        _ => false,
+    }
+}
+
 /// A key, its value and what both resolve to.
 type Resolved = (&'static str, Option<&'static str>, Expected);
+
+impl Row<PropertyDatabase> for Resolved {
+    fn holds(&self, alloc: Global, database: &PropertyDatabase) -> bool {
+        let (key, value, expected) = *self;
+        match resolve(alloc, database, key, value) {
+            Ok(resolution) => is_expected(&resolution, expected),
+            Err(_) => false,
+        }
+    }
+}
 
 const DIGITS: Expected = Expected::Found(&[0x30, 0x3A], false);
 
@@ -46,39 +66,7 @@ const RESOLVED: &[Resolved] = &[
     ("blk", Some("basic latin"), Expected::Lacking),
 ];
 
-/// Whether the key and the value resolve to what is expected.
-fn resolves(
-    alloc: Global,
-    database: &PropertyDatabase,
-    key: &str,
-    value: Option<&str>,
-    expected: Expected,
-) -> Result<bool, Fail> {
-    match (resolve(alloc, database, key, value)?, expected) {
-        (Resolution::Found(source, falsy), Expected::Found(list, negates)) => {
-            Ok(source.list().get_inversion_list() == list && falsy == negates)
-        }
-        (Resolution::Unknown, Expected::Unknown) => Ok(true),
-        (Resolution::Lacking, Expected::Lacking) => Ok(true),
-        _ => Ok(false),
-    }
-}
-
-fn assert_resolved(
-    rt: &impl Abort,
-    alloc: Global,
-    database: &PropertyDatabase,
-) -> Result<(), Fail> {
-    for (key, value, expected) in RESOLVED {
-        let holds = resolves(alloc, database, key, *value, *expected)?;
-        assert!(rt; holds, "at {key} {value:?}");
-    }
-    Ok(())
-}
-
 #[test]
-fn a_property_is_found_unknown_or_lacks_a_table(rt: HostRuntime) -> Result<(), Fail> {
-    with_tables(rt.alloc(), TABLES, |database| {
-        assert_resolved(&rt, rt.alloc(), database)
-    })
+fn a_property_is_found_unknown_or_lacks_a_table(rt: HostRuntime) {
+    assert_rows_of_text(&rt, rt.alloc(), TABLES, RESOLVED);
 }

@@ -1,46 +1,79 @@
 //! Units at the front of a text: escapes, strings, properties and names.
-use cp_invlist::CodePointInversionList;
-use std::test::Fail;
+ghost use Rattle.std.specs.Prelude.{◌≤◌, length};
+ghost use Rattle.uset_read.specs.Stops.{left_at};
+ghost use Rattle.uset_read.specs.Cursors.{left_of};
+
+use crate::fixtures::{Row, assert_rows, first_wrong};
+use cp_invlist::{CodePointInversionList, InversionListError};
+use std::alloc::Global;
+use std::process::Abort;
 use uset_read::{
-    Around, Cursor, Form, Kind, Spelled, Stop, close_property, read_escape, read_name,
+    Around, Cursor, Form, Kind, Query, Spelled, Stop, close_property, read_escape, read_name,
     read_property, read_string,
 };
 
 /// White space of patterns.
-const SPACES: [u32; 10] = [
+const SPACES: &[u32] = &[
     0x9, 0xE, 0x20, 0x21, 0x85, 0x86, 0x200E, 0x2010, 0x2028, 0x202A,
 ];
 
-#[test]
-fn escapes_are_read(rt: HostRuntime) -> Result<(), Fail> {
-    let alloc = rt.alloc();
-    let white_space = CodePointInversionList::try_from_inversion_list(alloc, &SPACES)?;
-    for (text, first, count, rest) in [
-        ("\\u0041]", 0x41, 1, "]"),
-        ("\\x{ 61 0062   63 }-", 0x61, 3, "-"),
-        ("\\U0010FFFFx", 0x10_FFFF, 1, "x"),
-        ("\\u{d800}", 0xD800, 1, ""),
-        ("\\n]", 0xA, 0, "]"),
-        ("\\ ]", 0x20, 0, "]"),
-    ] {
-        let Ok((spelled, behind)) = read_escape(alloc, &white_space, Around::Bracket(true), text)
-        else {
-            assert!(rt; false, "at {text}");
-            continue;
-        };
-        assert_eq!(rt; behind, rest, "at {text}");
-        match spelled {
-            Spelled::Itself(c) => {
-                assert_eq!(rt; c as u32, first, "at {text}");
-                assert_eq!(rt; count, 0, "at {text}");
-            }
-            Spelled::Numbers(number, more) => {
-                assert_eq!(rt; number, first, "at {text}");
-                assert_eq!(rt; Some(count), more.len().checked_add(1), "at {text}");
-            }
+/// The index of the first row that does not hold of the code points of an inversion list, which are white space where
+/// nothing else is said.
+fn first_wrong_of_list<R: Row<CodePointInversionList>>(
+    alloc: Global,
+    list: &[u32],
+    rows: &[R],
+) -> Result<Option<usize>, InversionListError> {
+    let code_points = CodePointInversionList::try_from_inversion_list(alloc, list)?;
+    Ok(first_wrong(alloc, &code_points, rows))
+}
+
+/// Asserts that each row holds of the code points of an inversion list. A failure tells the index of the first that does not.
+fn assert_rows_of_list<R: Row<CodePointInversionList>>(
+    rt: &impl Abort,
+    alloc: Global,
+    list: &[u32],
+    rows: &[R],
+) {
+    assert_eq!(rt; first_wrong_of_list(alloc, list, rows), Ok(None));
+}
+
+/// Whether the escape spells so many numbers, the first of which this is, or this character where the count is 0.
+fn spells(spelled: &Spelled, first: u32, count: usize) -> bool {
+    match spelled {
+        Spelled::Itself(c) => count == 0 && *c as u32 == first,
+        Spelled::Numbers(number, more) => {
+            *number == first && count != 0 && more.len() == count - 1
         }
     }
-    Ok(())
+}
+
+/// A text, the first number or the character that the escape in front spells, the count of the numbers, and the text
+/// behind the escape.
+type Escape = (&'static str, u32, usize, &'static str);
+
+impl Row<CodePointInversionList> for Escape {
+    fn holds(&self, alloc: Global, white_space: &CodePointInversionList) -> bool {
+        let (text, first, count, rest) = *self;
+        match read_escape(alloc, white_space, Around::Bracket(true), text) {
+            Ok((spelled, behind)) => behind == rest && spells(&spelled, first, count),
+            Err(_) => false,
+        }
+    }
+}
+
+const ESCAPES: &[Escape] = &[
+    ("\\u0041]", 0x41, 1, "]"),
+    ("\\x{ 61 0062   63 }-", 0x61, 3, "-"),
+    ("\\U0010FFFFx", 0x10_FFFF, 1, "x"),
+    ("\\u{d800}", 0xD800, 1, ""),
+    ("\\n]", 0xA, 0, "]"),
+    ("\\ ]", 0x20, 0, "]"),
+];
+
+#[test]
+fn escapes_are_read(rt: HostRuntime) {
+    assert_rows_of_list(&rt, rt.alloc(), SPACES, ESCAPES);
 }
 
 /// The character of an unexpected character, and a letter for each other kind.
@@ -53,143 +86,230 @@ fn letter_of(kind: Kind) -> char {
     }
 }
 
-#[test]
-fn a_fault_of_an_escape_has_one_place(rt: HostRuntime) -> Result<(), Fail> {
-    let alloc = rt.alloc();
-    let white_space = CodePointInversionList::try_from_inversion_list(alloc, &SPACES)?;
-    for (source, around, kind, offset) in [
-        ("\\xag", Around::Bracket(true), 'g', 3),
-        ("\\x{}", Around::Bracket(true), '}', 3),
-        ("\\x{10ffff0}", Around::Bracket(true), '0', 9),
-        ("\\u{41 42}", Around::Bracket(false), '\\', 0),
-        ("\\x{dabeef}", Around::Bracket(true), 'E', 8),
-        ("\\N{DASH}", Around::Bracket(true), 'U', 1),
-        ("\\uD800", Around::String, 'E', 0),
-        ("\\u{D800 62}", Around::String, 'E', 0),
-        ("\\x{61 D800}", Around::String, 'E', 6),
-    ] {
-        let cursor = Cursor::new(source);
-        match read_escape(alloc, &white_space, around, cursor.rest()) {
-            Err(Stop::Fault(found, rest)) => {
-                assert_eq!(rt; letter_of(found), kind, "at {source}");
-                assert_eq!(rt; cursor.at(rest).offset(), offset, "at {source}");
-            }
-            _ => assert!(rt; false, "at {source}"),
+/// Why a unit is not read.
+#[derive(Clone, Copy)]
+enum Why {
+    /// It has a fault of the kind with this letter, at this place in bytes.
+    Fault(char, usize),
+    /// The text ends inside it.
+    Ended,
+}
+
+/// Whether a unit at the cursor is not read for this.
+fn is_stopped(cursor: Cursor<'_>, stop: Stop<'_>, why: Why) -> bool
+    requires { left_at stop ≤ length (left_of cursor) }
+{
+    match (stop, why) {
+        (Stop::Fault(kind, rest), Why::Fault(letter, offset)) => {
+            letter_of(kind) == letter && cursor.at(rest).offset() == offset
         }
+        (Stop::Ended, Why::Ended) => true,
+        _ => false,
     }
-    for text in ["\\", "\\u", "\\u{", "\\u{6", "\\u{61 ", "\\U00"] {
-        let answer = read_escape(alloc, &white_space, Around::String, text);
-        assert!(rt; matches!(answer, Err(Stop::Ended)), "at {text}");
+}
+
+/// What is read at the front of a text.
+#[derive(Clone, Copy)]
+enum Unit {
+    Escape(Around),
+    String,
+    Property,
+}
+
+/// Whether the unit at the cursor is not read for this.
+fn is_not_read(
+    alloc: Global,
+    white_space: &CodePointInversionList,
+    unit: Unit,
+    cursor: Cursor<'_>,
+    why: Why,
+) -> bool {
+    match unit {
+        Unit::Escape(around) => match read_escape(alloc, white_space, around, cursor.rest()) {
+            Ok(_) => false,
+            Err(stop) => is_stopped(cursor, stop, why),
+        },
+        Unit::String => match read_string(alloc, white_space, cursor.rest()) {
+            Ok(_) => false,
+            Err(stop) => is_stopped(cursor, stop, why),
+        },
+        Unit::Property => match read_property(alloc, white_space, cursor.rest()) {
+            Ok(_) => false,
+            Err(stop) => is_stopped(cursor, stop, why),
+        },
     }
-    Ok(())
+}
+
+/// A unit, a source, and why the unit is not read at the front of that.
+type Stopped = (Unit, &'static str, Why);
+
+impl Row<CodePointInversionList> for Stopped {
+    fn holds(&self, alloc: Global, white_space: &CodePointInversionList) -> bool {
+        let (unit, source, why) = *self;
+        is_not_read(alloc, white_space, unit, Cursor::new(source), why)
+    }
+}
+
+/// An escape in a bracket, where an escape of several numbers fits.
+const IN_BRACKET: Unit = Unit::Escape(Around::Bracket(true));
+
+/// An escape in a bracket, where an escape of several numbers does not fit.
+const IN_RANGE: Unit = Unit::Escape(Around::Bracket(false));
+
+/// An escape in a string.
+const IN_STRING: Unit = Unit::Escape(Around::String);
+
+const STOPPED_ESCAPES: &[Stopped] = &[
+    (IN_BRACKET, "\\xag", Why::Fault('g', 3)),
+    (IN_BRACKET, "\\x{}", Why::Fault('}', 3)),
+    (IN_BRACKET, "\\x{10ffff0}", Why::Fault('0', 9)),
+    (IN_RANGE, "\\u{41 42}", Why::Fault('\\', 0)),
+    (IN_BRACKET, "\\x{dabeef}", Why::Fault('E', 8)),
+    (IN_BRACKET, "\\N{DASH}", Why::Fault('U', 1)),
+    (IN_STRING, "\\uD800", Why::Fault('E', 0)),
+    (IN_STRING, "\\u{D800 62}", Why::Fault('E', 0)),
+    (IN_STRING, "\\x{61 D800}", Why::Fault('E', 6)),
+    (IN_STRING, "\\", Why::Ended),
+    (IN_STRING, "\\u", Why::Ended),
+    (IN_STRING, "\\u{", Why::Ended),
+    (IN_STRING, "\\u{6", Why::Ended),
+    (IN_STRING, "\\u{61 ", Why::Ended),
+    (IN_STRING, "\\U00", Why::Ended),
+];
+
+#[test]
+fn a_fault_of_an_escape_has_one_place(rt: HostRuntime) {
+    assert_rows_of_list(&rt, rt.alloc(), SPACES, STOPPED_ESCAPES);
 }
 
 #[test]
-fn a_cursor_counts_bytes(rt: HostRuntime) -> Result<(), Fail> {
+fn a_cursor_counts_bytes(rt: HostRuntime) {
     let cursor = Cursor::new("ä]");
-    assert_eq!(rt; cursor.offset(), 0);
-    assert_eq!(rt; cursor.rest(), "ä]");
-    assert_eq!(rt; cursor.at("]").offset(), 2);
-    Ok(())
+    assert_eq!(rt;
+        (cursor.offset(), cursor.rest(), cursor.at("]").offset()),
+        (0, "ä]", 2)
+    );
 }
 
-#[test]
-fn strings_are_read(rt: HostRuntime) -> Result<(), Fail> {
-    let alloc = rt.alloc();
-    let white_space = CodePointInversionList::try_from_inversion_list(alloc, &SPACES)?;
-    for (text, characters, rest) in [
-        ("{}}]", "", "}]"),
-        ("{ [ a - z } ]", "[a-z", " ]"),
-        ("{h\\u{65}llo\\ world}", "hello world", ""),
-        ("{\\x{61 62  1F600}\\p}x", "ab\u{1F600}p", "x"),
-    ] {
-        let Ok((string, behind)) = read_string(alloc, &white_space, text) else {
-            assert!(rt; false, "at {text}");
-            continue;
-        };
-        assert_eq!(rt; string.as_str(), characters, "at {text}");
-        assert_eq!(rt; behind, rest, "at {text}");
-    }
-    Ok(())
-}
+/// A text, the characters of the string in front, and the text behind the string.
+type Braced = (&'static str, &'static str, &'static str);
 
-#[test]
-fn a_fault_of_a_string_has_one_place(rt: HostRuntime) -> Result<(), Fail> {
-    let alloc = rt.alloc();
-    let white_space = CodePointInversionList::try_from_inversion_list(alloc, &SPACES)?;
-    for (source, kind, offset) in [
-        ("{\\uD800}", 'E', 1),
-        ("{a\\x{61 D800g}", 'E', 8),
-        ("{a\\x{61 62g}", 'g', 10),
-        ("{{\\udFFF ]", 'E', 2),
-        ("{ab\\N{DASH}}", 'U', 4),
-        ("{\\u{65}\\xag}", 'g', 10),
-    ] {
-        let cursor = Cursor::new(source);
-        match read_string(alloc, &white_space, cursor.rest()) {
-            Err(Stop::Fault(found, rest)) => {
-                assert_eq!(rt; letter_of(found), kind, "at {source}");
-                assert_eq!(rt; cursor.at(rest).offset(), offset, "at {source}");
-            }
-            _ => assert!(rt; false, "at {source}"),
+impl Row<CodePointInversionList> for Braced {
+    fn holds(&self, alloc: Global, white_space: &CodePointInversionList) -> bool {
+        let (text, characters, rest) = *self;
+        match read_string(alloc, white_space, text) {
+            Ok((string, behind)) => behind == rest && string.as_str() == characters,
+            Err(_) => false,
         }
     }
-    assert!(rt; matches!(read_string(alloc, &white_space, "{a"), Err(Stop::Ended)));
-    Ok(())
 }
 
-#[test]
-fn the_longest_name_is_read(rt: HostRuntime) -> Result<(), Fail> {
-    let alloc = rt.alloc();
-    let letters = CodePointInversionList::try_from_inversion_list(
-        alloc,
-        &[0x61, 0x7B, 0xE4, 0xE5],
-    )?;
-    let continuing = CodePointInversionList::try_from_inversion_list(
-        alloc,
-        &[0x30, 0x3A, 0x61, 0x7B, 0xE4, 0xE5],
-    )?;
-    assert_eq!(rt;
-        read_name(&letters, &continuing, "ab1-x"),
-        Some(("ab1", "-x"))
-    );
-    assert_eq!(rt; read_name(&letters, &continuing, "äö"), Some(("ä", "ö")));
-    assert_eq!(rt; read_name(&letters, &continuing, "1a"), None);
-    assert_eq!(rt; read_name(&letters, &continuing, ""), None);
-    Ok(())
-}
+const STRINGS: &[Braced] = &[
+    ("{}}]", "", "}]"),
+    ("{ [ a - z } ]", "[a-z", " ]"),
+    ("{h\\u{65}llo\\ world}", "hello world", ""),
+    ("{\\x{61 62  1F600}\\p}x", "ab\u{1F600}p", "x"),
+];
 
 #[test]
-fn properties_are_read(rt: HostRuntime) -> Result<(), Fail> {
-    let alloc = rt.alloc();
-    let white_space = CodePointInversionList::try_from_inversion_list(alloc, &SPACES)?;
-    for (text, negated, key, value, rest) in [
-        ("[:^AHex≠True:]", false, "AHex", Some("True"), ":]"),
-        ("\\p{AHex≠False}", true, "AHex", Some("False"), "}"),
-        (
-            "[:gc=lower-case-letter:]",
-            false,
-            "gc",
-            Some("lower-case-letter"),
-            ":]",
-        ),
-        ("\\P{ L l }]", true, "Ll", None, "}]"),
-    ] {
-        let Ok((_, query, at)) = read_property(alloc, &white_space, text) else {
-            assert!(rt; false, "at {text}");
-            continue;
-        };
-        assert_eq!(rt; query.negated, negated, "at {text}");
-        assert_eq!(rt; query.key.as_str(), key, "at {text}");
-        assert_eq!(rt; query.value.as_deref(), value, "at {text}");
-        assert_eq!(rt; at, rest, "at {text}");
+fn strings_are_read(rt: HostRuntime) {
+    assert_rows_of_list(&rt, rt.alloc(), SPACES, STRINGS);
+}
+
+const STOPPED_STRINGS: &[Stopped] = &[
+    (Unit::String, "{\\uD800}", Why::Fault('E', 1)),
+    (Unit::String, "{a\\x{61 D800g}", Why::Fault('E', 8)),
+    (Unit::String, "{a\\x{61 62g}", Why::Fault('g', 10)),
+    (Unit::String, "{{\\udFFF ]", Why::Fault('E', 2)),
+    (Unit::String, "{ab\\N{DASH}}", Why::Fault('U', 4)),
+    (Unit::String, "{\\u{65}\\xag}", Why::Fault('g', 10)),
+    (Unit::String, "{a", Why::Ended),
+];
+
+#[test]
+fn a_fault_of_a_string_has_one_place(rt: HostRuntime) {
+    assert_rows_of_list(&rt, rt.alloc(), SPACES, STOPPED_STRINGS);
+}
+
+/// A text, and the name in front and the text behind that, if it begins with one.
+type Front = (&'static str, Option<(&'static str, &'static str)>);
+
+impl Row<CodePointInversionList> for Front {
+    fn holds(&self, alloc: Global, continuing: &CodePointInversionList) -> bool {
+        let (text, expected) = *self;
+        match CodePointInversionList::try_from_inversion_list(alloc, LETTERS) {
+            Ok(letters) => read_name(&letters, continuing, text) == expected,
+            Err(_) => false,
+        }
     }
-    let signs = CodePointInversionList::try_from_inversion_list(alloc, &[0x2260, 0x2261])?;
-    match read_property(alloc, &signs, "\\p{A≠Hex}") {
-        Ok((_, query, _)) => assert_eq!(rt; query.key.as_str(), "AHex"),
-        Err(_) => assert!(rt; false),
+}
+
+/// The letters that begin a name.
+const LETTERS: &[u32] = &[0x61, 0x7B, 0xE4, 0xE5];
+
+/// The letters and the digits that continue a name.
+const CONTINUING: &[u32] = &[0x30, 0x3A, 0x61, 0x7B, 0xE4, 0xE5];
+
+const NAMES: &[Front] = &[
+    ("ab1-x", Some(("ab1", "-x"))),
+    ("äö", Some(("ä", "ö"))),
+    ("1a", None),
+    ("", None),
+];
+
+#[test]
+fn the_longest_name_is_read(rt: HostRuntime) {
+    assert_rows_of_list(&rt, rt.alloc(), CONTINUING, NAMES);
+}
+
+/// Whether the property asks this.
+fn asks(query: &Query, negated: bool, key: &str, value: Option<&str>) -> bool {
+    query.negated == negated && query.key.as_str() == key && query.value.as_deref() == value
+}
+
+/// A text, what the property in front asks (whether it is negated, its key and its value), and the text from its end
+/// mark on.
+type Asked = (
+    &'static str,
+    bool,
+    &'static str,
+    Option<&'static str>,
+    &'static str,
+);
+
+impl Row<CodePointInversionList> for Asked {
+    fn holds(&self, alloc: Global, white_space: &CodePointInversionList) -> bool {
+        let (text, negated, key, value, rest) = *self;
+        match read_property(alloc, white_space, text) {
+            Ok((_, query, at)) => at == rest && asks(&query, negated, key, value),
+            Err(_) => false,
+        }
     }
-    Ok(())
+}
+
+const PROPERTIES: &[Asked] = &[
+    ("[:^AHex≠True:]", false, "AHex", Some("True"), ":]"),
+    ("\\p{AHex≠False}", true, "AHex", Some("False"), "}"),
+    (
+        "[:gc=lower-case-letter:]",
+        false,
+        "gc",
+        Some("lower-case-letter"),
+        ":]",
+    ),
+    ("\\P{ L l }]", true, "Ll", None, "}]"),
+];
+
+#[test]
+fn properties_are_read(rt: HostRuntime) {
+    assert_rows_of_list(&rt, rt.alloc(), SPACES, PROPERTIES);
+}
+
+const SIGNED: &[Asked] = &[("\\p{A≠Hex}", false, "AHex", None, "}")];
+
+#[test]
+fn a_sign_that_is_white_space_is_dropped(rt: HostRuntime) {
+    assert_rows_of_list(&rt, rt.alloc(), &[0x2260, 0x2261], SIGNED);
 }
 
 /// The character that can't close the property, if there is one, and the text behind what closes it or from that character
@@ -202,50 +322,52 @@ fn closed(form: Form, text: &str) -> Option<(Option<char>, &str)> {
     }
 }
 
-#[test]
-fn properties_are_closed(rt: HostRuntime) {
-    for (form, text, expected) in [
-        (Form::Posix, ":]x", Some((None, "x"))),
-        (Form::Posix, ": ]", Some((Some(' '), " ]"))),
-        (Form::Posix, "}]", Some((Some('}'), "}]"))),
-        (Form::Posix, ":", None),
-        (Form::Posix, "", None),
-        (Form::Perl, "}x", Some((None, "x"))),
-        (Form::Perl, ":]", Some((Some(':'), ":]"))),
-        (Form::Perl, "", None),
-    ] {
-        assert_eq!(rt; closed(form, text), expected, "at {text}");
+/// How a property is written, what follows it, and how that closes it, as `closed` tells.
+type Closed = (Form, &'static str, Option<(Option<char>, &'static str)>);
+
+impl Row<()> for Closed {
+    fn holds(&self, _alloc: Global, _lent: &()) -> bool {
+        let (form, text, expected) = *self;
+        closed(form, text) == expected
     }
 }
 
+const CLOSED: &[Closed] = &[
+    (Form::Posix, ":]x", Some((None, "x"))),
+    (Form::Posix, ": ]", Some((Some(' '), " ]"))),
+    (Form::Posix, "}]", Some((Some('}'), "}]"))),
+    (Form::Posix, ":", None),
+    (Form::Posix, "", None),
+    (Form::Perl, "}x", Some((None, "x"))),
+    (Form::Perl, ":]", Some((Some(':'), ":]"))),
+    (Form::Perl, "", None),
+];
+
 #[test]
-fn a_fault_of_a_property_has_one_place(rt: HostRuntime) -> Result<(), Fail> {
-    let alloc = rt.alloc();
-    let white_space = CodePointInversionList::try_from_inversion_list(alloc, &SPACES)?;
-    for (source, character, offset) in [
-        ("[:=", '=', 2),
-        ("[:=hello:]", '=', 2),
-        ("[::]", ':', 2),
-        ("[:gc=:]", ':', 5),
-        ("[:L]", ']', 3),
-        ("[:]", ']', 2),
-        ("\\p {L}", ' ', 2),
-        ("\\p{lower-case}", '-', 8),
-    ] {
-        let cursor = Cursor::new(source);
-        match read_property(alloc, &white_space, cursor.rest()) {
-            Err(Stop::Fault(Kind::UnexpectedChar(c), rest)) => {
-                assert_eq!(rt; c, character, "at {source}");
-                assert_eq!(rt; cursor.at(rest).offset(), offset, "at {source}");
-            }
-            _ => assert!(rt; false, "at {source}"),
-        }
-    }
-    for text in [
-        "[:", "[:^", "[:L", "[:gc≠ ", "\\", "\\P", "\\p{", "\\p{a=b:",
-    ] {
-        let answer = read_property(alloc, &white_space, text);
-        assert!(rt; matches!(answer, Err(Stop::Ended)), "at {text}");
-    }
-    Ok(())
+fn properties_are_closed(rt: HostRuntime) {
+    assert_rows(&rt, rt.alloc(), CLOSED);
+}
+
+const STOPPED_PROPERTIES: &[Stopped] = &[
+    (Unit::Property, "[:=", Why::Fault('=', 2)),
+    (Unit::Property, "[:=hello:]", Why::Fault('=', 2)),
+    (Unit::Property, "[::]", Why::Fault(':', 2)),
+    (Unit::Property, "[:gc=:]", Why::Fault(':', 5)),
+    (Unit::Property, "[:L]", Why::Fault(']', 3)),
+    (Unit::Property, "[:]", Why::Fault(']', 2)),
+    (Unit::Property, "\\p {L}", Why::Fault(' ', 2)),
+    (Unit::Property, "\\p{lower-case}", Why::Fault('-', 8)),
+    (Unit::Property, "[:", Why::Ended),
+    (Unit::Property, "[:^", Why::Ended),
+    (Unit::Property, "[:L", Why::Ended),
+    (Unit::Property, "[:gc≠ ", Why::Ended),
+    (Unit::Property, "\\", Why::Ended),
+    (Unit::Property, "\\P", Why::Ended),
+    (Unit::Property, "\\p{", Why::Ended),
+    (Unit::Property, "\\p{a=b:", Why::Ended),
+];
+
+#[test]
+fn a_fault_of_a_property_has_one_place(rt: HostRuntime) {
+    assert_rows_of_list(&rt, rt.alloc(), SPACES, STOPPED_PROPERTIES);
 }

@@ -1,24 +1,17 @@
 //! Maps of variables.
-use cp_invlist::CodePointInversionList;
+use crate::fixtures::set_of;
 use cp_strset::CodePointInversionListAndStringList;
-use std::alloc::{AllocError, Global};
+use std::alloc::Global;
 use std::process::Abort;
-use std::test::Fail;
 use uset_variables::{InsertError, VariableMap, VariableString, VariableValue};
 
-fn text(alloc: Global, s: &str) -> Result<String, AllocError> {
-    String::from_str(alloc, s)
+/// The hyphen, the letters `a` to `c` and the string `ab`.
+fn letters(alloc: Global) -> Option<CodePointInversionListAndStringList> {
+    set_of(alloc, &[0x2D, 0x2E, 0x61, 0x64], &["ab"])
 }
 
-/// The hyphen, the letters `a` to `c` and the string `ab`.
-fn letters(alloc: Global) -> Result<CodePointInversionListAndStringList, Fail> {
-    let code_points = CodePointInversionList::try_from_inversion_list(
-        alloc,
-        &[0x2D, 0x2E, 0x61, 0x64],
-    )?;
-    let mut strings = Vec::new(alloc);
-    strings.push(text(alloc, "ab")?)?;
-    Ok(CodePointInversionListAndStringList::try_from(code_points, strings)?)
+fn text(alloc: Global, s: &str) -> Option<String> {
+    String::from_str(alloc, s).ok()
 }
 
 /// What a name is to be bound to, and the call that binds it.
@@ -31,67 +24,6 @@ enum Given {
     Letters,
 }
 
-/// What became of an insertion.
-#[derive(Clone, Copy, Debug, PartialEq, Eq)]
-enum Inserted {
-    Bound,
-    /// The name was bound, to this character if it was one.
-    Present(Option<char>),
-    NoMemory,
-}
-
-/// The character that the value is.
-fn as_char(value: &VariableValue) -> Option<char> {
-    match value {
-        VariableValue::Char(c) => Some(*c),
-        _ => None,
-    }
-}
-
-fn outcome_of(answer: Result<(), InsertError<'_>>) -> Inserted {
-    match answer {
-        Ok(()) => Inserted::Bound,
-        Err(InsertError::Present(value)) => Inserted::Present(as_char(value)),
-        Err(InsertError::NoMemory) => Inserted::NoMemory,
-    }
-}
-
-/// Inserts what is given by its call.
-fn insert(
-    alloc: Global,
-    variables: &mut VariableMap,
-    name: &str,
-    given: Given,
-) -> Result<Inserted, Fail> {
-    let name = text(alloc, name)?;
-    match given {
-        Given::Value(s) => {
-            let spelled = VariableString::new(text(alloc, s)?);
-            Ok(outcome_of(variables.insert(name, VariableValue::String(spelled))))
-        }
-        Given::Char(c) => Ok(outcome_of(variables.insert_char(name, c))),
-        Given::String(s) => {
-            let s = text(alloc, s)?;
-            Ok(outcome_of(variables.insert_string(name, s)))
-        }
-        Given::Str(s) => Ok(outcome_of(variables.insert_str(name, s))),
-        Given::Letters => {
-            let set = letters(alloc)?;
-            Ok(outcome_of(variables.insert_set(name, set)))
-        }
-    }
-}
-
-/// A map of these names.
-fn map_of(rt: &impl Abort, alloc: Global, rows: &[(&str, Given)]) -> Result<VariableMap, Fail> {
-    let mut variables = VariableMap::new(alloc);
-    for (name, given) in rows {
-        let answer = insert(alloc, &mut variables, name, *given)?;
-        assert_eq!(rt; answer, Inserted::Bound, "at {name}");
-    }
-    Ok(variables)
-}
-
 /// What a name is bound to.
 #[derive(Clone, Copy)]
 enum Kept {
@@ -99,6 +31,69 @@ enum Kept {
     Char(char),
     String(&'static str),
     Letters,
+}
+
+/// What is done with a map or asked of it, and the answer that is expected.
+#[derive(Clone, Copy)]
+enum Step {
+    /// The name is bound to what is given.
+    Binds(&'static str, Given),
+    /// What is given is refused, since the name is bound to the character.
+    Refuses(&'static str, Given, char),
+    /// The name is freed, and was bound to the character, if it was to one.
+    Frees(&'static str, Option<char>),
+    /// The name is bound to this.
+    Keeps(&'static str, Kept),
+}
+
+/// Whether the value is the character.
+fn is_char(value: &VariableValue, expected: char) -> bool {
+    match value {
+        VariableValue::Char(c) => *c == expected,
+        _ => false,
+    }
+}
+
+/// Whether the name was bound, or was bound before to the character where one is expected.
+fn is_inserted(answer: Result<(), InsertError<'_>>, present: Option<char>) -> bool {
+    match (answer, present) {
+        (Ok(()), None) => true,
+        (Err(InsertError::Present(value)), Some(c)) => is_char(value, c),
+        _ => false,
+    }
+}
+
+/// The value that is a string of this text.
+fn string_value(alloc: Global, s: &str) -> Option<VariableValue> {
+    Some(VariableValue::String(VariableString::new(text(alloc, s)?)))
+}
+
+/// Inserts what is given by its call. The answer is whether that ended as expected.
+fn inserts(
+    alloc: Global,
+    variables: &mut VariableMap,
+    name: &str,
+    given: Given,
+    present: Option<char>,
+) -> Option<bool> {
+    let name = text(alloc, name)?;
+    let answer = match given {
+        Given::Value(s) => variables.insert(name, string_value(alloc, s)?),
+        Given::Char(c) => variables.insert_char(name, c),
+        Given::String(s) => variables.insert_string(name, text(alloc, s)?),
+        Given::Str(s) => variables.insert_str(name, s),
+        Given::Letters => variables.insert_set(name, letters(alloc)?),
+    };
+    Some(is_inserted(answer, present))
+}
+
+/// Frees the name. The answer is whether it was bound to the character, or to nothing where none is expected.
+fn frees(variables: &mut VariableMap, name: &str, expected: Option<char>) -> bool {
+    match (variables.remove(name), expected) {
+        (None, None) => true,
+        (Some(value), Some(c)) => is_char(&value, c),
+        _ => false,
+    }
 }
 
 /// Whether the value is as it is to be kept.
@@ -116,133 +111,205 @@ fn is_kept(
     }
 }
 
-/// Asserts what the names are bound to.
-fn assert_kept(
-    rt: &impl Abort,
+/// Whether the step has its answer.
+fn holds(
+    alloc: Global,
+    variables: &mut VariableMap,
+    letters: &CodePointInversionListAndStringList,
+    step: Step,
+) -> bool {
+    match step {
+        Step::Binds(name, given) => inserts(alloc, variables, name, given, None) == Some(true),
+        Step::Refuses(name, given, c) => {
+            inserts(alloc, variables, name, given, Some(c)) == Some(true)
+        }
+        Step::Frees(name, expected) => frees(variables, name, expected),
+        Step::Keeps(name, expected) => is_kept(variables.get(name), expected, letters),
+    }
+}
+
+/// The index of the first step that has another answer.
+fn first_wrong(
+    alloc: Global,
+    variables: &mut VariableMap,
+    letters: &CodePointInversionListAndStringList,
+    steps: &[Step],
+) -> Option<usize> {
+    for (index, step) in steps.iter().enumerate() {
+        if !holds(alloc, variables, letters, *step) {
+            return Some(index);
+        }
+    }
+    None
+}
+
+/// The index of the first step of a copy of the map that has another answer.
+fn first_wrong_of_copy(
     alloc: Global,
     variables: &VariableMap,
-    rows: &[(&str, Kept)],
-) -> Result<(), Fail> {
+    letters: &CodePointInversionListAndStringList,
+    steps: &[Step],
+) -> Option<Option<usize>> {
+    let mut copied = variables.copy(alloc).ok()?;
+    Some(first_wrong(alloc, &mut copied, letters, steps))
+}
+
+/// Steps of a map that binds no name at first, then those of a copy of it, and then those of the map again.
+type Course = (&'static [Step], &'static [Step], &'static [Step]);
+
+/// The index of the first step of each part that has another answer.
+type Wrong = (Option<usize>, Option<usize>, Option<usize>);
+
+/// The steps of the course that have another answer, from this map on.
+fn wrong_from(
+    alloc: Global,
+    variables: &mut VariableMap,
+    letters: &CodePointInversionListAndStringList,
+    course: Course,
+) -> Option<Wrong> {
+    let (steps, of_copy, afterwards) = course;
+    let first = first_wrong(alloc, variables, letters, steps);
+    let second = first_wrong_of_copy(alloc, variables, letters, of_copy)?;
+    let third = first_wrong(alloc, variables, letters, afterwards);
+    Some((first, second, third))
+}
+
+/// The steps of the course that have another answer.
+fn wrong_of(alloc: Global, course: Course) -> Option<Wrong> {
     let letters = letters(alloc)?;
-    for (name, expected) in rows {
-        assert!(rt;
-            is_kept(variables.get(name), *expected, &letters),
-            "at {name}"
-        );
+    let mut variables = VariableMap::new(alloc);
+    wrong_from(alloc, &mut variables, &letters, course)
+}
+
+/// Asserts that each step of the course has its answer. A failure tells the index of the first of each part that has not.
+fn assert_course(rt: &impl Abort, alloc: Global, course: Course) {
+    assert_eq!(rt; wrong_of(alloc, course), Some((None, None, None)));
+}
+
+const BOUND: &[Step] = &[
+    Step::Binds("a", Given::Value("xyz")),
+    Step::Binds("b", Given::Char('é')),
+    Step::Binds("ab", Given::String("éé")),
+    Step::Binds("", Given::Str("")),
+    Step::Binds("é", Given::Letters),
+    Step::Keeps("a", Kept::String("xyz")),
+    Step::Keeps("b", Kept::Char('é')),
+    Step::Keeps("ab", Kept::String("éé")),
+    Step::Keeps("", Kept::String("")),
+    Step::Keeps("é", Kept::Letters),
+    Step::Keeps("c", Kept::Nothing),
+];
+
+#[test]
+fn names_are_bound_to_what_is_inserted(rt: HostRuntime) {
+    assert_course(&rt, rt.alloc(), (BOUND, &[], &[]));
+}
+
+const OF_ONE_CHARACTER: &[Step] = &[
+    Step::Binds("a", Given::Value("x")),
+    Step::Binds("b", Given::String("é")),
+    Step::Binds("c", Given::Str("\u{10FFFF}")),
+    Step::Keeps("a", Kept::Char('x')),
+    Step::Keeps("b", Kept::Char('é')),
+    Step::Keeps("c", Kept::Char('\u{10FFFF}')),
+];
+
+#[test]
+fn a_string_of_one_character_is_kept_as_that_character(rt: HostRuntime) {
+    assert_course(&rt, rt.alloc(), (OF_ONE_CHARACTER, &[], &[]));
+}
+
+const REFUSED: &[Step] = &[
+    Step::Binds("a", Given::Str("x")),
+    Step::Binds("b", Given::Char('z')),
+    Step::Refuses("a", Given::Value("y"), 'x'),
+    Step::Refuses("a", Given::Char('y'), 'x'),
+    Step::Refuses("a", Given::String("yy"), 'x'),
+    Step::Refuses("a", Given::Str("yy"), 'x'),
+    Step::Refuses("a", Given::Letters, 'x'),
+    Step::Keeps("a", Kept::Char('x')),
+    Step::Keeps("b", Kept::Char('z')),
+];
+
+#[test]
+fn a_name_that_is_bound_is_refused_with_its_value(rt: HostRuntime) {
+    assert_course(&rt, rt.alloc(), (REFUSED, &[], &[]));
+}
+
+const FREED: &[Step] = &[
+    Step::Binds("a", Given::Char('x')),
+    Step::Frees("b", None),
+    Step::Frees("a", Some('x')),
+    Step::Keeps("a", Kept::Nothing),
+    Step::Binds("a", Given::Str("yy")),
+    Step::Keeps("a", Kept::String("yy")),
+];
+
+#[test]
+fn a_freed_name_is_bound_anew(rt: HostRuntime) {
+    assert_course(&rt, rt.alloc(), (FREED, &[], &[]));
+}
+
+const COPIED: &[Step] = &[
+    Step::Binds("a", Given::Char('x')),
+    Step::Binds("b", Given::Str("yy")),
+    Step::Binds("c", Given::Letters),
+];
+
+const OF_COPY: &[Step] = &[
+    Step::Keeps("b", Kept::String("yy")),
+    Step::Keeps("c", Kept::Letters),
+    Step::Keeps("d", Kept::Nothing),
+    Step::Frees("a", Some('x')),
+];
+
+const AFTERWARDS: &[Step] = &[Step::Keeps("a", Kept::Char('x'))];
+
+#[test]
+fn a_copy_binds_the_same_names(rt: HostRuntime) {
+    assert_course(&rt, rt.alloc(), (COPIED, OF_COPY, AFTERWARDS));
+}
+
+/// The value that is as it is to be kept.
+fn value_of(alloc: Global, kept: Kept) -> Option<VariableValue> {
+    match kept {
+        Kept::Nothing => None,
+        Kept::Char(c) => Some(VariableValue::Char(c)),
+        Kept::String(s) => string_value(alloc, s),
+        Kept::Letters => Some(VariableValue::UnicodeSet(letters(alloc)?)),
     }
-    Ok(())
+}
+
+/// Whether a copy of the value is as it is to be kept, and whether it is a set.
+fn copied(
+    alloc: Global,
+    value: &VariableValue,
+    expected: Kept,
+    letters: &CodePointInversionListAndStringList,
+) -> Option<(bool, bool)> {
+    let copied = value.copy(alloc).ok()?;
+    Some((
+        is_kept(Some(&copied), expected, letters),
+        copied.as_set().is_some(),
+    ))
+}
+
+/// The same of a copy of that value.
+fn copied_of(alloc: Global, expected: Kept) -> Option<(bool, bool)> {
+    let letters = letters(alloc)?;
+    let value = value_of(alloc, expected)?;
+    copied(alloc, &value, expected, &letters)
 }
 
 #[test]
-fn names_are_bound_to_what_is_inserted(rt: HostRuntime) -> Result<(), Fail> {
-    let given = [
-        ("a", Given::Value("xyz")),
-        ("b", Given::Char('é')),
-        ("ab", Given::String("éé")),
-        ("", Given::Str("")),
-        ("é", Given::Letters),
-    ];
-    let kept = [
-        ("a", Kept::String("xyz")),
-        ("b", Kept::Char('é')),
-        ("ab", Kept::String("éé")),
-        ("", Kept::String("")),
-        ("é", Kept::Letters),
-        ("c", Kept::Nothing),
-    ];
-    let variables = map_of(&rt, rt.alloc(), &given)?;
-    assert_kept(&rt, rt.alloc(), &variables, &kept)
+fn a_copy_of_a_value_is_the_same(rt: HostRuntime) {
+    assert_eq!(rt; copied_of(rt.alloc(), Kept::Letters), Some((true, true)));
 }
 
 #[test]
-fn a_string_of_one_character_is_kept_as_that_character(rt: HostRuntime) -> Result<(), Fail> {
-    let given = [
-        ("a", Given::Value("x")),
-        ("b", Given::String("é")),
-        ("c", Given::Str("\u{10FFFF}")),
-    ];
-    let kept = [
-        ("a", Kept::Char('x')),
-        ("b", Kept::Char('é')),
-        ("c", Kept::Char('\u{10FFFF}')),
-    ];
-    let variables = map_of(&rt, rt.alloc(), &given)?;
-    assert_kept(&rt, rt.alloc(), &variables, &kept)
-}
-
-#[test]
-fn a_name_that_is_bound_is_refused_with_its_value(rt: HostRuntime) -> Result<(), Fail> {
-    let alloc = rt.alloc();
-    let given = [("a", Given::Str("x")), ("b", Given::Char('z'))];
-    let mut variables = map_of(&rt, alloc, &given)?;
-    for given in [
-        Given::Value("y"),
-        Given::Char('y'),
-        Given::String("yy"),
-        Given::Str("yy"),
-        Given::Letters,
-    ] {
-        let answer = insert(alloc, &mut variables, "a", given)?;
-        assert_eq!(rt; answer, Inserted::Present(Some('x')));
-    }
-    let kept = [("a", Kept::Char('x')), ("b", Kept::Char('z'))];
-    assert_kept(&rt, alloc, &variables, &kept)
-}
-
-/// Frees the name, and gives the character that it was bound to.
-fn free(variables: &mut VariableMap, name: &str) -> Option<char> {
-    let freed = variables.remove(name)?;
-    as_char(&freed)
-}
-
-#[test]
-fn a_freed_name_is_bound_anew(rt: HostRuntime) -> Result<(), Fail> {
-    let alloc = rt.alloc();
-    let mut variables = map_of(&rt, alloc, &[("a", Given::Char('x'))])?;
-    assert_eq!(rt; free(&mut variables, "b"), None);
-    assert_eq!(rt; free(&mut variables, "a"), Some('x'));
-    assert_kept(&rt, alloc, &variables, &[("a", Kept::Nothing)])?;
-    let answer = insert(alloc, &mut variables, "a", Given::Str("yy"))?;
-    assert_eq!(rt; answer, Inserted::Bound);
-    assert_kept(&rt, alloc, &variables, &[("a", Kept::String("yy"))])
-}
-
-#[test]
-fn a_copy_binds_the_same_names(rt: HostRuntime) -> Result<(), Fail> {
-    let alloc = rt.alloc();
-    let given = [
-        ("a", Given::Char('x')),
-        ("b", Given::Str("yy")),
-        ("c", Given::Letters),
-    ];
-    let variables = map_of(&rt, alloc, &given)?;
-    let mut copied = variables.copy(alloc)?;
-    let kept = [
-        ("b", Kept::String("yy")),
-        ("c", Kept::Letters),
-        ("d", Kept::Nothing),
-    ];
-    assert_kept(&rt, alloc, &copied, &kept)?;
-    assert_eq!(rt; free(&mut copied, "a"), Some('x'));
-    assert_kept(&rt, alloc, &variables, &[("a", Kept::Char('x'))])
-}
-
-#[test]
-fn a_copy_of_a_value_is_the_same(rt: HostRuntime) -> Result<(), Fail> {
-    let alloc = rt.alloc();
-    let set = VariableValue::UnicodeSet(letters(alloc)?);
-    let copied = set.copy(alloc)?;
-    assert!(rt; is_kept(Some(&copied), Kept::Letters, &letters(alloc)?));
-    assert!(rt; copied.as_set().is_some());
-    Ok(())
-}
-
-#[test]
-fn a_copy_of_a_string_is_the_same(rt: HostRuntime) -> Result<(), Fail> {
-    let alloc = rt.alloc();
-    let value = VariableValue::String(VariableString::new(text(alloc, "z")?));
-    let copied = value.copy(alloc)?;
-    assert!(rt; is_kept(Some(&copied), Kept::String("z"), &letters(alloc)?));
-    assert!(rt; copied.as_set().is_none());
-    Ok(())
+fn a_copy_of_a_string_is_the_same(rt: HostRuntime) {
+    assert_eq!(rt;
+        copied_of(rt.alloc(), Kept::String("z")),
+        Some((true, false))
+    );
 }

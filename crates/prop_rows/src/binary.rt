@@ -1,4 +1,5 @@
 //! The rows of the binary properties.
+use crate::fixtures::first_false;
 use prop_binary::{EmojiTable, SetTable, ecma262_table, laws};
 use std::test::Fail;
 
@@ -90,38 +91,59 @@ fn tables_are_found_by_the_names_that_they_have(rt: HostRuntime) -> Result<(), F
 
 #[test]
 fn types_have_their_names(rt: HostRuntime) {
-    assert!(rt; laws::names_to_emoji_presentation()[2].1 == "Alpha".as_bytes());
-    assert!(rt; laws::names_from_extender()[0].1 == "Ext".as_bytes());
-    assert!(rt; laws::names_from_pattern_syntax()[15].1 == "WSpace".as_bytes());
+    let alphabetic = laws::names_to_emoji_presentation()[2].1;
+    let extender = laws::names_from_extender()[0].1;
+    let white_space = laws::names_from_pattern_syntax()[15].1;
     let (long, short) = laws::names_of_basic_emoji();
-    assert!(rt; long == "Basic_Emoji".as_bytes() && short == long);
-    assert!(rt; EmojiTable::BASIC_EMOJI.name() == long);
-    assert_eq!(rt; EmojiTable::BASIC_EMOJI.number(), 0);
+    let facts = [
+        (alphabetic == "Alpha".as_bytes(), "Alpha"),
+        (extender == "Ext".as_bytes(), "Ext"),
+        (white_space == "WSpace".as_bytes(), "WSpace"),
+        (long == "Basic_Emoji".as_bytes(), "Basic_Emoji"),
+        (short == long, "one name of the emoji set"),
+        (
+            EmojiTable::BASIC_EMOJI.name() == long,
+            "the name of its table",
+        ),
+        (
+            EmojiTable::BASIC_EMOJI.number() == 0,
+            "the number of its table",
+        ),
+    ];
+    assert_eq!(rt; first_false(&facts), None);
 }
 
 #[test]
 fn tables_are_found_by_their_exact_long_names(rt: HostRuntime) {
-    assert_eq!(rt;
-        SetTable::from_name(b"XID_Start"),
-        Some(SetTable::XID_START)
-    );
-    assert_eq!(rt; SetTable::from_name(b"XIDS"), None);
-    assert_eq!(rt; SetTable::from_name(b"xid_start"), None);
-    assert!(rt; SetTable::GRAPHEME_LINK.name() == "Grapheme_Link".as_bytes());
+    let start = SetTable::from_name(b"XID_Start");
+    let facts = [
+        (start == Some(SetTable::XID_START), "XID_Start"),
+        (SetTable::from_name(b"XIDS").is_none(), "XIDS"),
+        (SetTable::from_name(b"xid_start").is_none(), "xid_start"),
+        (
+            SetTable::GRAPHEME_LINK.name() == "Grapheme_Link".as_bytes(),
+            "Grapheme_Link",
+        ),
+    ];
+    assert_eq!(rt; first_false(&facts), None);
 }
 
 #[test]
 fn names_of_ecma_262_are_long_or_short(rt: HostRuntime) {
-    assert_eq!(rt; ecma262_table(b"AHex"), Some(SetTable::ASCII_HEX_DIGIT));
-    assert_eq!(rt;
-        ecma262_table(b"ASCII_Hex_Digit"),
-        Some(SetTable::ASCII_HEX_DIGIT)
-    );
-    assert_eq!(rt; ecma262_table(b"Emoji"), Some(SetTable::EMOJI));
-    assert_eq!(rt; ecma262_table(b"WSpace"), Some(SetTable::WHITE_SPACE));
-    for name in [
-        "ahex", "space", "Any", "ASCII", "Assigned", "Hyphen", "Gr_Link", "",
+    for (name, table) in [
+        ("AHex", Some(SetTable::ASCII_HEX_DIGIT)),
+        ("ASCII_Hex_Digit", Some(SetTable::ASCII_HEX_DIGIT)),
+        ("Emoji", Some(SetTable::EMOJI)),
+        ("WSpace", Some(SetTable::WHITE_SPACE)),
+        ("ahex", None),
+        ("space", None),
+        ("Any", None),
+        ("ASCII", None),
+        ("Assigned", None),
+        ("Hyphen", None),
+        ("Gr_Link", None),
+        ("", None),
     ] {
-        assert_eq!(rt; ecma262_table(name.as_bytes()), None);
+        assert_eq!(rt; ecma262_table(name.as_bytes()), table, "for {name}");
     }
 }

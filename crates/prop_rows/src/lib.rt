@@ -7,6 +7,8 @@ mod binary;
 #[cfg(test)]
 mod bounds;
 #[cfg(test)]
+mod fixtures;
+#[cfg(test)]
 mod names;
 #[cfg(test)]
 mod values;

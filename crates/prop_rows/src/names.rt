@@ -1,4 +1,5 @@
 //! The tables of names that the property types have.
+use crate::fixtures::first_false;
 use cp_trie::TrieValue;
 use prop_values::{
     Block, CanonicalCombiningClass, GeneralCategory, GeneralCategoryGroup,
@@ -22,23 +23,23 @@ fn a_table_of_names_accepts_the_numbers_that_unpack(rt: HostRuntime) {
         (256, false, false),
         (65535, false, false),
     ] {
-        assert_eq!(rt;
-            answers::<GeneralCategory>(number),
-            (category, category),
-            "at {number}"
-        );
-        assert_eq!(rt;
-            answers::<CanonicalCombiningClass>(number),
-            (class, class),
-            "at {number}"
-        );
-        assert_eq!(rt; answers::<Script>(number), (true, true), "at {number}");
-        assert_eq!(rt; answers::<Block>(number), (true, true), "at {number}");
-        assert_eq!(rt;
-            answers::<GeneralCategoryGroup>(number),
-            (true, true),
-            "at {number}"
-        );
+        let facts = [
+            (
+                answers::<GeneralCategory>(number) == (category, category),
+                "a category",
+            ),
+            (
+                answers::<CanonicalCombiningClass>(number) == (class, class),
+                "a class",
+            ),
+            (answers::<Script>(number) == (true, true), "a script"),
+            (answers::<Block>(number) == (true, true), "a block"),
+            (
+                answers::<GeneralCategoryGroup>(number) == (true, true),
+                "a group",
+            ),
+        ];
+        assert_eq!(rt; first_false(&facts), None, "at {number}");
     }
 }
 

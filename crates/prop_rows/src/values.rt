@@ -1,4 +1,5 @@
 //! The rows of the enumerated properties and of their values.
+use crate::fixtures::first_false;
 use cp_invlist::CodePointRange;
 use cp_trie::{CodePointMapRange, CodePointTrie, ConvertError, TrieValue, ValueError};
 use prop_values::{
@@ -67,19 +68,39 @@ fn the_default_script_is_unknown(rt: HostRuntime) {
 
 #[test]
 fn tables_are_found_by_their_exact_names(rt: HostRuntime) {
-    assert_eq!(rt;
-        NamesTable::from_name(b"General_Category_Mask"),
-        Some(NamesTable::GENERAL_CATEGORY_MASK)
-    );
-    assert_eq!(rt; NamesTable::from_name(b"Bidi_Mirroring_Glyph"), None);
-    assert_eq!(rt;
-        NamesTable::from_name(b"Word_Break"),
-        Some(NamesTable::WORD_BREAK)
-    );
-    assert_eq!(rt; MapTable::from_name(b"General_Category_Mask"), None);
-    assert_eq!(rt; MapTable::from_name(b"word_break"), None);
-    assert!(rt; NamesTable::GENERAL_CATEGORY_MASK.accepts(u16::MAX));
-    assert!(rt; !NamesTable::GENERAL_CATEGORY.accepts(30));
+    let mask = NamesTable::from_name(b"General_Category_Mask");
+    let word_break = NamesTable::from_name(b"Word_Break");
+    let facts = [
+        (
+            mask == Some(NamesTable::GENERAL_CATEGORY_MASK),
+            "names of groups",
+        ),
+        (
+            word_break == Some(NamesTable::WORD_BREAK),
+            "names of word breaks",
+        ),
+        (
+            NamesTable::from_name(b"Bidi_Mirroring_Glyph").is_none(),
+            "no names of glyphs",
+        ),
+        (
+            MapTable::from_name(b"General_Category_Mask").is_none(),
+            "no map of groups",
+        ),
+        (
+            MapTable::from_name(b"word_break").is_none(),
+            "no map by a name in other letters",
+        ),
+        (
+            NamesTable::GENERAL_CATEGORY_MASK.accepts(u16::MAX),
+            "all groups have names",
+        ),
+        (
+            !NamesTable::GENERAL_CATEGORY.accepts(30),
+            "30 is no category",
+        ),
+    ];
+    assert_eq!(rt; first_false(&facts), None);
 }
 
 #[test]
@@ -91,52 +112,58 @@ fn tables_accept_the_numbers_of_their_types(rt: HostRuntime) {
         (MapTable::SCRIPT, 65_535),
         (MapTable::VERTICAL_ORIENTATION, 255),
     ] {
-        assert!(rt; table.accepts(last));
-        assert!(rt; !table.accepts(last + 1));
+        assert_eq!(rt;
+            (table.accepts(last), table.accepts(last + 1)),
+            (true, false)
+        );
     }
-    assert_eq!(rt;
-        GeneralCategory::try_from_u32(30),
-        Err(ValueError { value: 30 })
-    );
-    assert_eq!(rt;
-        BidiClass::try_from_u32(256),
-        Err(ValueError { value: 256 })
-    );
-    assert_eq!(rt;
-        Script::try_from_u32(65_536),
-        Err(ValueError { value: 65_536 })
-    );
+}
+
+#[test]
+fn numbers_past_the_last_of_a_type_are_refused(rt: HostRuntime) {
+    let category = GeneralCategory::try_from_u32(30).err();
+    let class = BidiClass::try_from_u32(256).err();
+    let script = Script::try_from_u32(65_536).err();
+    let facts = [
+        (
+            category == Some(ValueError { value: 30 }),
+            "30 of a category",
+        ),
+        (class == Some(ValueError { value: 256 }), "256 of a class"),
+        (
+            script == Some(ValueError { value: 65_536 }),
+            "65,536 of a script",
+        ),
+    ];
+    assert_eq!(rt; first_false(&facts), None);
+}
+
+fn unpacks_to(number: u32, group: GeneralCategoryGroup) -> bool {
+    GeneralCategoryGroup::try_from_u32(number) == Ok(group)
 }
 
 #[test]
 fn groups_pack_to_their_numbers(rt: HostRuntime) {
-    assert_eq!(rt; GeneralCategoryGroup::Letter.to_u32(), 65_534);
-    assert_eq!(rt; GeneralCategoryGroup::Sc.to_u32(), 25);
-    assert_eq!(rt;
-        GeneralCategoryGroup::Lu
-            .union(GeneralCategoryGroup::Nd)
-            .to_u32(),
-        0xFF00
-    );
-    for number in [0xFF00, 30] {
-        assert_eq!(rt;
-            GeneralCategoryGroup::try_from_u32(number),
-            Ok(GeneralCategoryGroup::empty())
-        );
-    }
-    assert_eq!(rt;
-        GeneralCategoryGroup::try_from_u32(0xFFF8),
-        Ok(GeneralCategoryGroup::Symbol)
-    );
-    assert_eq!(rt;
-        GeneralCategoryGroup::try_from_u32(65_536),
-        Err(ValueError { value: 65_536 })
-    );
-    assert_eq!(rt;
-        GeneralCategoryGroup::from(u32::MAX),
-        GeneralCategoryGroup::all()
-    );
-    assert_eq!(rt; u32::from(GeneralCategoryGroup::all()), 0x3FFF_FFFF);
+    let both = GeneralCategoryGroup::Lu.union(GeneralCategoryGroup::Nd);
+    let past_end = GeneralCategoryGroup::try_from_u32(65_536);
+    let facts = [
+        (GeneralCategoryGroup::Letter.to_u32() == 65_534, "letters"),
+        (GeneralCategoryGroup::Sc.to_u32() == 25, "currency symbols"),
+        (both.to_u32() == 0xFF00, "a group without a number"),
+        (unpacks_to(0xFF00, GeneralCategoryGroup::empty()), "FF00"),
+        (unpacks_to(30, GeneralCategoryGroup::empty()), "30"),
+        (unpacks_to(0xFFF8, GeneralCategoryGroup::Symbol), "FFF8"),
+        (past_end == Err(ValueError { value: 65_536 }), "65,536"),
+        (
+            GeneralCategoryGroup::from(u32::MAX) == GeneralCategoryGroup::all(),
+            "all bits",
+        ),
+        (
+            u32::from(GeneralCategoryGroup::all()) == 0x3FFF_FFFF,
+            "all categories",
+        ),
+    ];
+    assert_eq!(rt; first_false(&facts), None);
 }
 
 #[test]
@@ -159,25 +186,36 @@ fn groups_with_a_number_of_their_own_pack_to_it(rt: HostRuntime) {
 #[test]
 fn groups_are_sets_of_categories(rt: HostRuntime) {
     let cased = GeneralCategoryGroup::CasedLetter;
-    assert!(rt; cased.contains(GeneralCategory::TitlecaseLetter));
-    assert!(rt; !cased.contains(GeneralCategory::ModifierLetter));
-    assert!(rt;
-        !cased
-            .complement()
-            .contains(GeneralCategory::TitlecaseLetter)
-    );
-    assert_eq!(rt;
-        GeneralCategoryGroup::from(GeneralCategory::UppercaseLetter),
-        GeneralCategoryGroup::Lu
-    );
-    assert_eq!(rt;
-        cased.intersection(GeneralCategoryGroup::Lu),
-        GeneralCategoryGroup::Lu
-    );
-    assert_eq!(rt;
-        cased.complement().union(cased),
-        GeneralCategoryGroup::all()
-    );
+    let others = cased.complement();
+    let capitals = GeneralCategoryGroup::from(GeneralCategory::UppercaseLetter);
+    let facts = [
+        (
+            cased.contains(GeneralCategory::TitlecaseLetter),
+            "a titlecase letter has case",
+        ),
+        (
+            !cased.contains(GeneralCategory::ModifierLetter),
+            "a modifier letter has none",
+        ),
+        (
+            !others.contains(GeneralCategory::TitlecaseLetter),
+            "the complement lacks what the group has",
+        ),
+        (capitals == GeneralCategoryGroup::Lu, "one category"),
+        (
+            cased.intersection(GeneralCategoryGroup::Lu) == GeneralCategoryGroup::Lu,
+            "an intersection",
+        ),
+        (
+            others.union(cased) == GeneralCategoryGroup::all(),
+            "a union",
+        ),
+    ];
+    assert_eq!(rt; first_false(&facts), None);
+}
+
+#[test]
+fn groups_have_their_short_names(rt: HostRuntime) {
     for ((name, _), expected) in GeneralCategoryGroup::names().iter().zip(&GROUP_NAMES) {
         assert_eq!(rt; *name, *expected);
     }
@@ -211,26 +249,48 @@ fn mirroring_glyphs_pack_their_three_parts(rt: HostRuntime) {
 
 #[test]
 fn scripts_with_extensions_tell_their_kind(rt: HostRuntime) {
-    assert_eq!(rt; ScriptWithExt::new(Script::Common, 0), ScriptWithExt(1024));
-    assert_eq!(rt;
-        ScriptWithExt::new(Script::Inherited, 5),
-        ScriptWithExt(2053)
-    );
-    assert_eq!(rt; ScriptWithExt::new(Script::Latin, 5), ScriptWithExt(3077));
-    assert_eq!(rt; ScriptWithExt::single(Script::Chisoi), ScriptWithExt(608));
-    assert_eq!(rt;
-        ScriptWithExt::Unknown,
-        ScriptWithExt::single(Script::Unknown)
-    );
-    assert!(rt; ScriptWithExt(1024).is_common() && ScriptWithExt(2053).is_inherited());
-    assert!(rt; ScriptWithExt(3077).is_other() && ScriptWithExt(3077).has_extensions());
-    assert!(rt; !ScriptWithExt(608).has_extensions());
-    assert_eq!(rt; Script::from(ScriptWithExt(25)), Script::Latin);
-    assert_eq!(rt; u32::from(ScriptWithExt(3077)), 3077);
-    assert_eq!(rt;
-        ScriptWithExt::try_from_u32(65_536),
-        Err(ValueError { value: 65_536 })
-    );
+    let past_end = ScriptWithExt::try_from_u32(65_536);
+    let facts = [
+        (
+            ScriptWithExt::new(Script::Common, 0) == ScriptWithExt(1024),
+            "the first list of Common",
+        ),
+        (
+            ScriptWithExt::new(Script::Inherited, 5) == ScriptWithExt(2053),
+            "a list of Inherited",
+        ),
+        (
+            ScriptWithExt::new(Script::Latin, 5) == ScriptWithExt(3077),
+            "a list of another script",
+        ),
+        (
+            ScriptWithExt::single(Script::Chisoi) == ScriptWithExt(608),
+            "a script alone",
+        ),
+        (
+            ScriptWithExt::Unknown == ScriptWithExt::single(Script::Unknown),
+            "the unknown script",
+        ),
+        (
+            Script::from(ScriptWithExt(25)) == Script::Latin,
+            "the script of 25",
+        ),
+        (u32::from(ScriptWithExt(3077)) == 3077, "the number of 3077"),
+        (past_end == Err(ValueError { value: 65_536 }), "65,536"),
+    ];
+    assert_eq!(rt; first_false(&facts), None);
+}
+
+#[test]
+fn numbers_tell_the_kind_of_their_script(rt: HostRuntime) {
+    let facts = [
+        (ScriptWithExt(1024).is_common(), "1024 is of Common"),
+        (ScriptWithExt(2053).is_inherited(), "2053 is of Inherited"),
+        (ScriptWithExt(3077).is_other(), "3077 is of another"),
+        (ScriptWithExt(3077).has_extensions(), "3077 has a list"),
+        (!ScriptWithExt(608).has_extensions(), "608 has none"),
+    ];
+    assert_eq!(rt; first_false(&facts), None);
 }
 
 #[test]
@@ -288,18 +348,34 @@ fn constants_have_their_numbers(rt: HostRuntime) {
 
 #[test]
 fn values_are_ordered_by_their_numbers(rt: HostRuntime) {
-    assert!(rt; Script::Common < Script::Latin && Script::Ethiopic == Script::Ethiopian);
-    assert!(rt; GeneralCategory::Unassigned < GeneralCategory::FinalPunctuation);
-    assert_eq!(rt;
-        HangulSyllableType::LVSyllable,
-        HangulSyllableType::LeadingVowelSyllable
-    );
-    assert_eq!(rt; BidiClass::PopDirectionalIsolate.to_icu4c_value(), 22);
-    assert_eq!(rt; BidiClass::from_icu4c_value(13), BidiClass::ArabicLetter);
-    assert_eq!(rt;
-        Script::from_icu4c_value(60_000).to_icu4c_value(),
-        Script::Chisoi.to_icu4c_value()
-    );
+    let facts = [
+        (Script::Common < Script::Latin, "Common before Latin"),
+        (
+            Script::Ethiopic == Script::Ethiopian,
+            "two names of Ethiopic",
+        ),
+        (
+            GeneralCategory::Unassigned < GeneralCategory::FinalPunctuation,
+            "the first category before the last",
+        ),
+        (
+            HangulSyllableType::LVSyllable == HangulSyllableType::LeadingVowelSyllable,
+            "two names of a syllable type",
+        ),
+        (
+            BidiClass::PopDirectionalIsolate.to_icu4c_value() == 22,
+            "the number of a class",
+        ),
+        (
+            BidiClass::from_icu4c_value(13) == BidiClass::ArabicLetter,
+            "the class of 13",
+        ),
+        (
+            Script::from_icu4c_value(60_000) == Script::Chisoi,
+            "a number past the scripts",
+        ),
+    ];
+    assert_eq!(rt; first_false(&facts), None);
 }
 
 #[test]

@@ -1,5 +1,5 @@
 //! Values by their names, and names by their values.
-use crate::fixtures::{EMPTY, EVERY_KIND, absent, with_tables};
+use crate::fixtures::{EMPTY, EVERY_KIND, Known, Row, assert_rows, lacks, script_of};
 use prop_data::{
     MapTable, NamesTable, PropertyDatabase, PropertyEnumToValueNameLinearMap,
     PropertyEnumToValueNameLookup, TableName,
@@ -10,173 +10,330 @@ use prop_query::{
 };
 use prop_values::{CanonicalCombiningClass, Script, Subtag};
 use std::alloc::Global;
-use std::process::Abort;
-use std::test::Fail;
 
-/// Names, and the numbers of the scripts that have them byte for byte and loosely.
-const NAMES: &[(&str, Option<u16>, Option<u16>)] = &[
-    ("Latn", Some(25), Some(25)),
-    ("latn", None, Some(25)),
-    ("la-TN", None, Some(25)),
-    ("LATIN", None, Some(25)),
-    ("Kana", Some(22), Some(22)),
-    ("kata kana", None, Some(22)),
-    ("Thai", None, None),
+/// A name, which is asked for as a text and by its bytes, and the number of the script that has it.
+#[derive(Clone, Copy)]
+enum Named {
+    /// The name is compared byte for byte.
+    Strictly(&'static str, Option<u16>),
+    Loosely(&'static str, Option<u16>),
+}
+
+/// Whether the name has the number.
+fn has_number(parser: PropertyParserBorrowed<'_, Script>, named: Named) -> bool {
+    match named {
+        Named::Strictly(name, number) => {
+            parser.get_strict_u16(name) == number
+                && parser.get_strict_u16_utf8(name.as_bytes()) == number
+        }
+        Named::Loosely(name, number) => {
+            parser.get_loose_u16(name) == number
+                && parser.get_loose_u16_utf8(name.as_bytes()) == number
+        }
+    }
+}
+
+/// Whether the name has the script.
+fn has_script(parser: PropertyParserBorrowed<'_, Script>, named: Named) -> bool {
+    match named {
+        Named::Strictly(name, number) => {
+            let script = number.map(Script::from_icu4c_value);
+            parser.get_strict(name) == script && parser.get_strict_utf8(name.as_bytes()) == script
+        }
+        Named::Loosely(name, number) => {
+            let script = number.map(Script::from_icu4c_value);
+            parser.get_loose(name) == script && parser.get_loose_utf8(name.as_bytes()) == script
+        }
+    }
+}
+
+/// Whether the parsers that are lent have the number.
+fn lent_have(database: &PropertyDatabase, named: Named) -> bool {
+    match (
+        PropertyParser::<Script>::new(database),
+        PropertyParserBorrowed::<Script>::new(database),
+    ) {
+        (Ok(parser), Ok(same)) => has_number(parser, named) && has_number(same, named),
+        _ => false,
+    }
+}
+
+/// Whether a copy has the number and the script.
+fn copy_has(alloc: Global, database: &PropertyDatabase, named: Named) -> bool {
+    match PropertyParser::<Script>::try_new_unstable(alloc, database) {
+        Ok(copy) => {
+            has_number(copy.as_borrowed(), named) && has_script(copy.as_borrowed(), named)
+        }
+        Err(_) => false,
+    }
+}
+
+/// Whether the script has the long name.
+fn has_long(
+    names: PropertyNamesLongBorrowed<'_, Script>,
+    known: Known,
+    name: Option<&'static str>,
+) -> bool {
+    names.get(script_of(known)) == name
+}
+
+/// Whether the script has the long name in what is lent.
+fn lent_has_long(database: &PropertyDatabase, known: Known, name: Option<&'static str>) -> bool {
+    match (
+        PropertyNamesLong::<Script>::new(database),
+        PropertyNamesLongBorrowed::<Script>::new(database),
+    ) {
+        (Ok(names), Ok(same)) => has_long(names, known, name) && has_long(same, known, name),
+        _ => false,
+    }
+}
+
+/// Whether the script has the long name in a copy.
+fn copy_has_long(
+    alloc: Global,
+    database: &PropertyDatabase,
+    known: Known,
+    name: Option<&'static str>,
+) -> bool {
+    match PropertyNamesLong::<Script>::try_new_unstable(alloc, database) {
+        Ok(copy) => has_long(copy.as_borrowed(), known, name),
+        Err(_) => false,
+    }
+}
+
+/// What is expected of the short names.
+#[derive(Clone, Copy)]
+enum Short {
+    Name(Known, Option<&'static str>),
+    Subtag(Known, &'static str),
+    NoSubtag(Known),
+}
+
+/// Whether the script has the short name or the subtag.
+fn has_short(names: PropertyNamesShortBorrowed<'_, Script>, expected: Short) -> bool {
+    match expected {
+        Short::Name(known, name) => names.get(script_of(known)) == name,
+        Short::Subtag(known, text) => match names.get_locale_script(script_of(known)) {
+            Some(subtag) => Subtag::try_from_str(text) == Some(subtag),
+            None => false,
+        },
+        Short::NoSubtag(known) => names.get_locale_script(script_of(known)).is_none(),
+    }
+}
+
+/// Whether the script has the short name or the subtag in what is lent.
+fn lent_has_short(database: &PropertyDatabase, expected: Short) -> bool {
+    match (
+        PropertyNamesShort::<Script>::new(database),
+        PropertyNamesShortBorrowed::<Script>::new(database),
+    ) {
+        (Ok(names), Ok(same)) => has_short(names, expected) && has_short(same, expected),
+        _ => false,
+    }
+}
+
+/// Whether the script has the short name or the subtag in a copy.
+fn copy_has_short(alloc: Global, database: &PropertyDatabase, expected: Short) -> bool {
+    match PropertyNamesShort::<Script>::try_new_unstable(alloc, database) {
+        Ok(copy) => has_short(copy.as_borrowed(), expected),
+        Err(_) => false,
+    }
+}
+
+/// What is expected of scripts and their names.
+#[derive(Clone, Copy)]
+enum Expected {
+    Named(Named),
+    Long(Known, Option<&'static str>),
+    Short(Short),
+}
+
+impl Row for Expected {
+    fn holds(&self, alloc: Global, database: &PropertyDatabase) -> bool {
+        match *self {
+            Expected::Named(named) => {
+                lent_have(database, named) && copy_has(alloc, database, named)
+            }
+            Expected::Long(known, name) => lent_has_long(database, known, name)
+                && copy_has_long(alloc, database, known, name),
+            Expected::Short(expected) => lent_has_short(database, expected)
+                && copy_has_short(alloc, database, expected),
+        }
+    }
+}
+
+const ANSWERS: &[Expected] = &[
+    Expected::Named(Named::Strictly("Latn", Some(25))),
+    Expected::Named(Named::Strictly("latn", None)),
+    Expected::Named(Named::Strictly("la-TN", None)),
+    Expected::Named(Named::Strictly("LATIN", None)),
+    Expected::Named(Named::Strictly("Kana", Some(22))),
+    Expected::Named(Named::Strictly("kata kana", None)),
+    Expected::Named(Named::Strictly("Thai", None)),
+    Expected::Named(Named::Loosely("Latn", Some(25))),
+    Expected::Named(Named::Loosely("latn", Some(25))),
+    Expected::Named(Named::Loosely("la-TN", Some(25))),
+    Expected::Named(Named::Loosely("LATIN", Some(25))),
+    Expected::Named(Named::Loosely("Kana", Some(22))),
+    Expected::Named(Named::Loosely("kata kana", Some(22))),
+    Expected::Named(Named::Loosely("Thai", None)),
+    Expected::Long(Known::Latin, Some("Latin")),
+    Expected::Long(Known::Thai, None),
+    Expected::Short(Short::Name(Known::Latin, Some("Latn"))),
+    Expected::Short(Short::Name(Known::Thai, None)),
+    Expected::Short(Short::Subtag(Known::Latin, "Latn")),
+    Expected::Short(Short::NoSubtag(Known::Thai)),
 ];
 
-/// Asserts which numbers the names have.
-fn assert_numbers(rt: &impl Abort, parser: PropertyParserBorrowed<'_, Script>) {
-    for (name, strict, loose) in NAMES {
-        let bytes = name.as_bytes();
-        assert_eq!(rt; parser.get_strict_u16(name), *strict, "at {name}");
-        assert_eq!(rt; parser.get_strict_u16_utf8(bytes), *strict, "at {name}");
-        assert_eq!(rt; parser.get_loose_u16(name), *loose, "at {name}");
-        assert_eq!(rt; parser.get_loose_u16_utf8(bytes), *loose, "at {name}");
+#[test]
+fn scripts_have_names_and_names_have_scripts(rt: HostRuntime) {
+    assert_rows(&rt, EVERY_KIND, ANSWERS);
+}
+
+/// A name, and the number that a parser of numbers finds. It is made of the parser of scripts.
+#[derive(Clone, Copy)]
+enum Erased {
+    Strictly(&'static str, Option<u16>),
+    Loosely(&'static str, Option<u16>),
+    LooselyByBytes(&'static [u8], Option<u16>),
+}
+
+/// Whether the parser finds the number.
+fn finds(parser: PropertyParserBorrowed<'_, u16>, expected: Erased) -> bool {
+    match expected {
+        Erased::Strictly(name, number) => parser.get_strict(name) == number,
+        Erased::Loosely(name, number) => parser.get_loose_u16(name) == number,
+        Erased::LooselyByBytes(name, number) => parser.get_loose_u16_utf8(name) == number,
     }
 }
 
-/// Asserts which scripts the names have.
-fn assert_scripts(rt: &impl Abort, parser: PropertyParserBorrowed<'_, Script>) {
-    for (name, strict, loose) in NAMES {
-        let bytes = name.as_bytes();
-        let strict = strict.map(Script::from_icu4c_value);
-        let loose = loose.map(Script::from_icu4c_value);
-        assert_eq!(rt; parser.get_strict(name), strict, "at {name}");
-        assert_eq!(rt; parser.get_strict_utf8(bytes), strict, "at {name}");
-        assert_eq!(rt; parser.get_loose(name), loose, "at {name}");
-        assert_eq!(rt; parser.get_loose_utf8(bytes), loose, "at {name}");
+impl Row for Erased {
+    fn holds(&self, alloc: Global, database: &PropertyDatabase) -> bool {
+        let Ok(copy) = PropertyParser::<Script>::try_new_unstable(alloc, database) else {
+            return false;
+        };
+        finds(copy.erase().as_borrowed(), *self)
     }
 }
 
-/// Asserts that the names with the numbers of the values have these.
-fn assert_erased(rt: &impl Abort, parser: PropertyParser<Script>) {
-    let erased = parser.erase();
-    let numbers = erased.as_borrowed();
-    assert_eq!(rt; numbers.get_loose_u16("LATIN"), Some(25));
-    assert_eq!(rt; numbers.get_loose_u16_utf8(b"LATIN"), Some(25));
-    assert_eq!(rt; numbers.get_strict("Latn"), Some(25));
-    assert_eq!(rt; numbers.get_strict("LATN"), None);
+const ERASED: &[Erased] = &[
+    Erased::Loosely("LATIN", Some(25)),
+    Erased::LooselyByBytes(b"LATIN", Some(25)),
+    Erased::Strictly("Latn", Some(25)),
+    Erased::Strictly("LATN", None),
+];
+
+#[test]
+fn a_parser_of_numbers_finds_those_of_the_scripts(rt: HostRuntime) {
+    assert_rows(&rt, EVERY_KIND, ERASED);
 }
 
-fn assert_parsers(rt: &impl Abort, alloc: Global, database: &PropertyDatabase) -> Result<(), Fail> {
-    assert_numbers(rt, PropertyParser::<Script>::new(database)?);
-    assert_numbers(rt, PropertyParserBorrowed::<Script>::new(database)?);
-    let copy = PropertyParser::<Script>::try_new_unstable(alloc, database)?;
-    assert_numbers(rt, copy.as_borrowed());
-    assert_scripts(rt, copy.as_borrowed());
-    assert_erased(rt, copy);
-    Ok(())
+/// The number of a combining class and its long name.
+#[derive(Clone, Copy)]
+struct Class(u8, Option<&'static str>);
+
+impl Row for Class {
+    fn holds(&self, alloc: Global, database: &PropertyDatabase) -> bool {
+        let Class(number, name) = *self;
+        let class = CanonicalCombiningClass::from_icu4c_value(number);
+        match PropertyNamesLong::<CanonicalCombiningClass>::try_new_unstable(alloc, database) {
+            Ok(copy) => copy.as_borrowed().get(class) == name,
+            Err(_) => false,
+        }
+    }
 }
 
-/// Asserts that Latin has its long name, and Thai has none.
-fn assert_long(rt: &impl Abort, names: PropertyNamesLongBorrowed<'_, Script>) {
-    assert_eq!(rt; names.get(Script::Latin), Some("Latin"));
-    assert_eq!(rt; names.get(Script::Thai), None);
+const CLASSES: &[Class] = &[Class(230, Some("Above")), Class(229, None)];
+
+#[test]
+fn a_copy_of_the_names_of_classes_has_them(rt: HostRuntime) {
+    assert_rows(&rt, EVERY_KIND, CLASSES);
 }
 
-/// Asserts that Latin has its short name, which is a subtag, and Thai has none.
-fn assert_short(rt: &impl Abort, names: PropertyNamesShortBorrowed<'_, Script>) {
-    assert_eq!(rt; names.get(Script::Latin), Some("Latn"));
-    assert_eq!(rt; names.get(Script::Thai), None);
-    let subtag = Subtag::try_from_str("Latn");
-    assert!(rt; subtag.is_some());
-    assert_eq!(rt; names.get_locale_script(Script::Latin), subtag);
-    assert_eq!(rt; names.get_locale_script(Script::Thai), None);
+/// A call that needs names: of scripts, or short names of combining classes.
+#[derive(Clone, Copy)]
+enum Absent {
+    Parser,
+    ParserBorrowed,
+    ParserCopy,
+    Long,
+    LongBorrowed,
+    LongCopy,
+    Short,
+    ShortBorrowed,
+    ShortCopy,
 }
 
-fn assert_names(rt: &impl Abort, alloc: Global, database: &PropertyDatabase) -> Result<(), Fail> {
-    assert_long(rt, PropertyNamesLong::<Script>::new(database)?);
-    assert_long(rt, PropertyNamesLongBorrowed::<Script>::new(database)?);
-    let long = PropertyNamesLong::<Script>::try_new_unstable(alloc, database)?;
-    assert_long(rt, long.as_borrowed());
-    assert_short(rt, PropertyNamesShort::<Script>::new(database)?);
-    assert_short(rt, PropertyNamesShortBorrowed::<Script>::new(database)?);
-    let short = PropertyNamesShort::<Script>::try_new_unstable(alloc, database)?;
-    assert_short(rt, short.as_borrowed());
-    Ok(())
+const NAMES: TableName = TableName::Names(NamesTable::SCRIPT);
+
+const LONG_NAMES: TableName = TableName::Long(MapTable::SCRIPT);
+
+const SHORT_NAMES: TableName = TableName::Short(MapTable::CANONICAL_COMBINING_CLASS);
+
+impl Row for Absent {
+    fn holds(&self, alloc: Global, database: &PropertyDatabase) -> bool {
+        match *self {
+            Absent::Parser => lacks(PropertyParser::<Script>::new(database), NAMES),
+            Absent::ParserBorrowed => {
+                lacks(PropertyParserBorrowed::<Script>::new(database), NAMES)
+            }
+            Absent::ParserCopy => lacks(
+                PropertyParser::<Script>::try_new_unstable(alloc, database),
+                NAMES,
+            ),
+            Absent::Long => lacks(PropertyNamesLong::<Script>::new(database), LONG_NAMES),
+            Absent::LongBorrowed => lacks(
+                PropertyNamesLongBorrowed::<Script>::new(database),
+                LONG_NAMES,
+            ),
+            Absent::LongCopy => lacks(
+                PropertyNamesLong::<Script>::try_new_unstable(alloc, database),
+                LONG_NAMES,
+            ),
+            Absent::Short => lacks(
+                PropertyNamesShort::<CanonicalCombiningClass>::new(database),
+                SHORT_NAMES,
+            ),
+            Absent::ShortBorrowed => lacks(
+                PropertyNamesShortBorrowed::<CanonicalCombiningClass>::new(database),
+                SHORT_NAMES,
+            ),
+            Absent::ShortCopy => lacks(
+                PropertyNamesShort::<CanonicalCombiningClass>::try_new_unstable(alloc, database),
+                SHORT_NAMES,
+            ),
+        }
+    }
+}
+
+const ABSENT: &[Absent] = &[
+    Absent::Parser,
+    Absent::ParserBorrowed,
+    Absent::ParserCopy,
+    Absent::Long,
+    Absent::LongBorrowed,
+    Absent::LongCopy,
+    Absent::Short,
+    Absent::ShortBorrowed,
+    Absent::ShortCopy,
+];
+
+#[test]
+fn a_database_without_names_says_so(rt: HostRuntime) {
+    assert_rows(&rt, EMPTY, ABSENT);
+}
+
+/// Whether a value has no name in a list where its name is the empty text.
+fn is_unnamed(alloc: Global) -> bool {
+    match Vec::from_array(alloc, [String::new(alloc)]) {
+        Ok(names) => PropertyEnumToValueNameLinearMap::from_names(names)
+            .get(0)
+            .is_none(),
+        Err(_) => false,
+    }
 }
 
 #[test]
-fn scripts_have_names_and_names_have_scripts(rt: HostRuntime) -> Result<(), Fail> {
-    with_tables(rt.alloc(), EVERY_KIND, |database| {
-        assert_parsers(&rt, rt.alloc(), database)?;
-        assert_names(&rt, rt.alloc(), database)
-    })
-}
-
-/// The tables of every kind, with the long name of a combining class.
-fn with_class(alloc: Global) -> Result<String, Fail> {
-    let tables = EVERY_KIND.strip_suffix("end\n").ok_or("no end")?;
-    let mut text = String::from_str(alloc, tables)?;
-    text.push_str("long Canonical_Combining_Class\n230 Above\nend\n")?;
-    Ok(text)
-}
-
-fn assert_class(rt: &impl Abort, alloc: Global, database: &PropertyDatabase) -> Result<(), Fail> {
-    let copy = PropertyNamesLong::<CanonicalCombiningClass>::try_new_unstable(alloc, database)?;
-    let names = copy.as_borrowed();
-    let above = CanonicalCombiningClass::from_icu4c_value(230);
-    assert_eq!(rt; names.get(above), Some("Above"));
-    let other = CanonicalCombiningClass::from_icu4c_value(229);
-    assert_eq!(rt; names.get(other), None);
-    Ok(())
-}
-
-#[test]
-fn a_copy_of_the_names_of_classes_has_them(rt: HostRuntime) -> Result<(), Fail> {
-    let text = with_class(rt.alloc())?;
-    with_tables(rt.alloc(), &text, |database| {
-        assert_class(&rt, rt.alloc(), database)
-    })
-}
-
-fn assert_absent_parsers(rt: &impl Abort, alloc: Global, database: &PropertyDatabase) {
-    let absent = absent(TableName::Names(NamesTable::SCRIPT));
-    assert_eq!(rt; PropertyParser::<Script>::new(database).err(), absent);
-    assert_eq!(rt;
-        PropertyParserBorrowed::<Script>::new(database).err(),
-        absent
-    );
-    let copy = PropertyParser::<Script>::try_new_unstable(alloc, database);
-    assert_eq!(rt; copy.err(), absent);
-}
-
-fn assert_absent_long(rt: &impl Abort, alloc: Global, database: &PropertyDatabase) {
-    let absent = absent(TableName::Long(MapTable::SCRIPT));
-    assert_eq!(rt; PropertyNamesLong::<Script>::new(database).err(), absent);
-    assert_eq!(rt;
-        PropertyNamesLongBorrowed::<Script>::new(database).err(),
-        absent
-    );
-    let copy = PropertyNamesLong::<Script>::try_new_unstable(alloc, database);
-    assert_eq!(rt; copy.err(), absent);
-}
-
-fn assert_absent_short(rt: &impl Abort, alloc: Global, database: &PropertyDatabase) {
-    let absent = absent(TableName::Short(MapTable::CANONICAL_COMBINING_CLASS));
-    let names = PropertyNamesShort::<CanonicalCombiningClass>::new(database);
-    assert_eq!(rt; names.err(), absent);
-    let names = PropertyNamesShortBorrowed::<CanonicalCombiningClass>::new(database);
-    assert_eq!(rt; names.err(), absent);
-    let names = PropertyNamesShort::<CanonicalCombiningClass>::try_new_unstable(alloc, database);
-    assert_eq!(rt; names.err(), absent);
-}
-
-#[test]
-fn a_database_without_names_says_so(rt: HostRuntime) -> Result<(), Fail> {
-    with_tables(rt.alloc(), EMPTY, |database| {
-        assert_absent_parsers(&rt, rt.alloc(), database);
-        assert_absent_long(&rt, rt.alloc(), database);
-        assert_absent_short(&rt, rt.alloc(), database);
-        Ok(())
-    })
-}
-
-#[test]
-fn an_empty_text_is_no_name(rt: HostRuntime) -> Result<(), Fail> {
-    let mut names = Vec::new(rt.alloc());
-    names.push(String::new(rt.alloc()))?;
-    let names = PropertyEnumToValueNameLinearMap::from_names(names);
-    assert_eq!(rt; names.get(0), None);
-    Ok(())
+fn an_empty_text_is_no_name(rt: HostRuntime) {
+    assert!(rt; is_unnamed(rt.alloc()));
 }

@@ -1,17 +1,31 @@
 //! The script and the script extensions of code points.
-use crate::fixtures::EVERY_KIND;
-use cp_invlist::CodePointRange;
-use prop_data::{DataError, PropertyDatabase, TableName};
-use prop_query::{ScriptExtensionsSet, ScriptWithExtensions, ScriptWithExtensionsBorrowed};
+use crate::fixtures::{EVERY_KIND, Row, assert_rows, lacks};
+use prop_data::{PropertyDatabase, TableName};
+use prop_query::{
+    ScriptExtensionsRanges, ScriptExtensionsSet, ScriptWithExtensions, ScriptWithExtensionsBorrowed,
+};
 use prop_values::Script;
 use std::alloc::Global;
-use std::process::Abort;
-use std::test::Fail;
 
 /// Numbers of every kind: alone, with a list of Common, of Inherited and of another script, and of a kind above these.
 const KINDS: &str =
     "scx 103\n41-42 25\n43 1024\n44 1025\n45 2050\n46 3075\n47 3076\n48 59392\n49 1026\n\
     ext 0\n20\n22\next 1\n25\next 2\next 3 17\n4\n17\n25\next 4 8\nend";
+
+/// What is expected of the scripts of a table text, by the numbers of scripts.
+#[derive(Clone, Copy)]
+enum Expected {
+    /// A code point with its script and its script extensions.
+    Extended(u32, u16, &'static [u16]),
+    /// A code point, and what comes of its script extensions from the back, the front, the back and the front.
+    FromEnds(u32, [Option<u16>; 4]),
+    /// Two code points, and whether their script extensions are equal.
+    Equal(u32, u32, bool),
+    /// A script, and the inversion list of the code points that have it.
+    Listed(u16, &'static [u32]),
+    /// A code point and a script, and whether the script is among the script extensions.
+    Member(u32, u16, bool),
+}
 
 fn script(number: u16) -> Script {
     Script::from_icu4c_value(number)
@@ -38,227 +52,228 @@ fn from_both_ends(set: ScriptExtensionsSet<'_>) -> [Option<u16>; 4] {
     ]
 }
 
-/// The ends of the maximal ranges of a script: each first code point, and each number past the last.
-fn ends_of(
+/// Whether the ranges are those of the inversion list.
+fn are_ranges_of(ranges: ScriptExtensionsRanges<'_>, list: &[u32]) -> bool {
+    let mut ends = list;
+    for range in ranges {
+        let [start, past, rest @ ..] = ends else {
+            return false;
+        };
+        if range.start != *start || range.end.saturating_add(1) != *past {
+            return false;
+        }
+        ends = rest;
+    }
+    ends.is_empty()
+}
+
+/// Whether the code points with the script are those of the inversion list.
+fn are_listed(
     alloc: Global,
     scripts: ScriptWithExtensionsBorrowed<'_>,
     script: Script,
-) -> Result<Vec<u32>, Fail> {
-    let mut ends = Vec::new(alloc);
-    for CodePointRange { start, end } in scripts.get_script_extensions_ranges(script) {
-        ends.push(start)?;
-        ends.push(end.saturating_add(1))?;
+    list: &[u32],
+) -> bool {
+    match scripts.get_script_extensions_set(alloc, script) {
+        Ok(set) => set.get_inversion_list() == list,
+        Err(_) => false,
     }
-    Ok(ends)
 }
 
-/// What is expected of the scripts of a table text, by the numbers of scripts.
+/// Whether the scripts answer so.
+fn answer(alloc: Global, scripts: ScriptWithExtensionsBorrowed<'_>, expected: Expected) -> bool {
+    match expected {
+        Expected::Extended(code_point, number, extensions) => {
+            scripts.get_script_val32(code_point) == script(number)
+                && has_all(scripts.get_script_extensions_val32(code_point), extensions)
+        }
+        Expected::FromEnds(code_point, numbers) => {
+            from_both_ends(scripts.get_script_extensions_val32(code_point)) == numbers
+        }
+        Expected::Equal(first, second, are_equal) => {
+            let first_set = scripts.get_script_extensions_val32(first);
+            let second_set = scripts.get_script_extensions_val32(second);
+            (first_set == second_set) == are_equal
+        }
+        Expected::Listed(number, list) => {
+            are_ranges_of(scripts.get_script_extensions_ranges(script(number)), list)
+                && are_listed(alloc, scripts, script(number), list)
+        }
+        Expected::Member(code_point, number, is_member) => {
+            scripts.has_script32(code_point, script(number)) == is_member
+        }
+    }
+}
+
+/// Whether the scripts that are lent answer so.
+fn lent_answer(alloc: Global, database: &PropertyDatabase, expected: Expected) -> bool {
+    match ScriptWithExtensions::new(database) {
+        Ok(scripts) => answer(alloc, scripts, expected),
+        Err(_) => false,
+    }
+}
+
+/// Whether a copy of the scripts answers so.
+fn copy_answers(alloc: Global, database: &PropertyDatabase, expected: Expected) -> bool {
+    match ScriptWithExtensions::try_new_unstable(alloc, database) {
+        Ok(copy) => answer(alloc, copy.as_borrowed(), expected),
+        Err(_) => false,
+    }
+}
+
+impl Row for Expected {
+    fn holds(&self, alloc: Global, database: &PropertyDatabase) -> bool {
+        lent_answer(alloc, database, *self) && copy_answers(alloc, database, *self)
+    }
+}
+
+const KINDS_EXPECTED: &[Expected] = &[
+    Expected::Extended(0x40, 103, &[103]),
+    Expected::Extended(0x42, 25, &[25]),
+    Expected::Extended(0x43, 0, &[20, 22]),
+    Expected::Extended(0x44, 0, &[25]),
+    Expected::Extended(0x45, 1, &[]),
+    Expected::Extended(0x46, 17, &[4, 17, 25]),
+    Expected::Extended(0x47, 8, &[]),
+    Expected::Extended(0x48, 59392, &[59392]),
+    Expected::Extended(0x49, 0, &[]),
+    Expected::Extended(0x10_FFFF, 103, &[103]),
+    Expected::Extended(0x11_0000, 103, &[]),
+    Expected::Listed(25, &[0x41, 0x43, 0x44, 0x45, 0x46, 0x47]),
+    Expected::Listed(103, &[0, 0x41, 0x4A, 0x11_0000]),
+    Expected::Listed(20, &[0x43, 0x44]),
+    Expected::FromEnds(0x46, [Some(25), Some(4), Some(17), None]),
+    Expected::FromEnds(0x43, [Some(22), Some(20), None, None]),
+    Expected::FromEnds(0x41, [Some(25), None, None, None]),
+    Expected::FromEnds(0x45, [None, None, None, None]),
+    Expected::Equal(0x41, 0x44, true),
+    Expected::Equal(0x44, 0x44, true),
+    Expected::Equal(0x45, 0x11_0000, true),
+    Expected::Equal(0x45, 0x47, true),
+    Expected::Equal(0x41, 0x48, false),
+    Expected::Equal(0x41, 0x43, false),
+    Expected::Equal(0x43, 0x46, false),
+    Expected::Equal(0x41, 0x45, false),
+    Expected::Member(0x46, 17, true),
+    Expected::Member(0x47, 8, false),
+    Expected::Member(0x45, 1, false),
+];
+
+#[test]
+fn a_number_of_each_kind_tells_a_script_and_its_extensions(rt: HostRuntime) {
+    assert_rows(&rt, KINDS, KINDS_EXPECTED);
+}
+
+const EVERY_EXPECTED: &[Expected] = &[
+    Expected::Extended(0x30FC, 0, &[20, 22]),
+    Expected::Extended(0x3042, 20, &[20]),
+    Expected::Extended(0x11_0000, 103, &[]),
+    Expected::Listed(20, &[0x3041, 0x3097, 0x30FC, 0x30FD]),
+    Expected::Listed(0, &[]),
+    Expected::FromEnds(0x30FC, [Some(22), Some(20), None, None]),
+    Expected::Equal(0x30FC, 0x30FC, true),
+    Expected::Equal(0x30FC, 0x3042, false),
+    Expected::Member(0x30FC, 20, true),
+    Expected::Member(0x30FC, 22, true),
+    Expected::Member(0x30FC, 0, false),
+    Expected::Member(0x30FC, 0xAFFE, false),
+    Expected::Member(0x3042, 22, false),
+    Expected::Member(0x11_0000, 103, false),
+    Expected::Member(0x11_0000, 20, false),
+];
+
+#[test]
+fn a_text_of_every_kind_tells_scripts_and_extensions(rt: HostRuntime) {
+    assert_rows(&rt, EVERY_KIND, EVERY_EXPECTED);
+}
+
+const HIGH_EXPECTED: &[Expected] = &[
+    Expected::Extended(0x41, 59392, &[59392]),
+    Expected::Listed(59392, &[0, 0x11_0000]),
+    Expected::Listed(58, &[]),
+    Expected::Member(0x41, 59392, true),
+    Expected::Member(0x41, 0, false),
+    Expected::Member(0x41, 58, false),
+    Expected::Member(0x41, 103, false),
+    Expected::Member(0x41, 59391, false),
+    Expected::Member(0x41, 59393, false),
+    Expected::Member(0x41, 65535, false),
+    Expected::Member(0x10_FFFF, 59392, true),
+    Expected::Member(0x11_0000, 59392, false),
+];
+
+#[test]
+fn a_number_of_a_high_kind_is_a_script_alone(rt: HostRuntime) {
+    assert_rows(&rt, "scx 59392\nend", HIGH_EXPECTED);
+}
+
+/// What is expected of a character.
 #[derive(Clone, Copy)]
-struct Expected<'a> {
-    /// Code points with their script and their script extensions.
-    extended: &'a [(u32, u16, &'a [u16])],
-    /// Code points and scripts, and whether the script is among the script extensions.
-    members: &'a [(u32, u16, bool)],
-    /// Scripts, and the inversion lists of the code points that have them.
-    listed: &'a [(u16, &'a [u32])],
-    /// Code points, and what comes of their script extensions from the back, the front, the back and the front.
-    from_ends: &'a [(u32, [Option<u16>; 4])],
-    /// Two code points, and whether their script extensions are equal.
-    equal: &'a [(u32, u32, bool)],
+enum Character {
+    /// That its script is Common.
+    IsCommon(char),
+    /// The numbers of its script extensions.
+    Extensions(char, &'static [u16]),
+    /// That Common is not among its script extensions.
+    LacksCommon(char),
 }
 
-fn assert_extended(
-    rt: &impl Abort,
-    scripts: ScriptWithExtensionsBorrowed<'_>,
-    expected: &Expected<'_>,
-) {
-    for (code_point, number, extensions) in expected.extended {
-        let found = scripts.get_script_val32(*code_point);
-        assert_eq!(rt; found, script(*number), "at {code_point}");
-        let set = scripts.get_script_extensions_val32(*code_point);
-        assert!(rt; has_all(set, extensions), "at {code_point}");
+/// Whether the scripts answer so.
+fn answer_of_character(scripts: ScriptWithExtensionsBorrowed<'_>, expected: Character) -> bool {
+    match expected {
+        Character::IsCommon(ch) => scripts.get_script_val(ch) == Script::Common,
+        Character::Extensions(ch, extensions) => {
+            has_all(scripts.get_script_extensions_val(ch), extensions)
+        }
+        Character::LacksCommon(ch) => !scripts.has_script(ch, Script::Common),
     }
 }
 
-fn assert_members(
-    rt: &impl Abort,
-    scripts: ScriptWithExtensionsBorrowed<'_>,
-    expected: &Expected<'_>,
-) {
-    for (code_point, number, is_member) in expected.members {
-        let found = scripts.has_script32(*code_point, script(*number));
-        assert_eq!(rt; found, *is_member, "{number} at {code_point}");
+impl Row for Character {
+    fn holds(&self, _alloc: Global, database: &PropertyDatabase) -> bool {
+        match ScriptWithExtensionsBorrowed::new(database) {
+            Ok(scripts) => answer_of_character(scripts, *self),
+            Err(_) => false,
+        }
     }
 }
 
-fn assert_from_ends(
-    rt: &impl Abort,
-    scripts: ScriptWithExtensionsBorrowed<'_>,
-    expected: &Expected<'_>,
-) {
-    for (code_point, numbers) in expected.from_ends {
-        let found = from_both_ends(scripts.get_script_extensions_val32(*code_point));
-        assert_eq!(rt; found, *numbers, "at {code_point}");
+#[test]
+fn a_character_answers_as_its_code_point(rt: HostRuntime) {
+    let rows: &[Character] = &[
+        Character::IsCommon('C'),
+        Character::Extensions('C', &[20, 22]),
+        Character::LacksCommon('C'),
+    ];
+    assert_rows(&rt, KINDS, rows);
+}
+
+/// A call that needs the scripts.
+#[derive(Clone, Copy)]
+enum Absent {
+    New,
+    NewBorrowed,
+    TryNew,
+}
+
+impl Row for Absent {
+    fn holds(&self, alloc: Global, database: &PropertyDatabase) -> bool {
+        match *self {
+            Absent::New => lacks(ScriptWithExtensions::new(database), TableName::Scripts),
+            Absent::NewBorrowed => lacks(
+                ScriptWithExtensionsBorrowed::new(database),
+                TableName::Scripts,
+            ),
+            Absent::TryNew => lacks(
+                ScriptWithExtensions::try_new_unstable(alloc, database),
+                TableName::Scripts,
+            ),
+        }
     }
 }
 
-fn assert_equal(
-    rt: &impl Abort,
-    scripts: ScriptWithExtensionsBorrowed<'_>,
-    expected: &Expected<'_>,
-) {
-    for (first, second, are_equal) in expected.equal {
-        let first_set = scripts.get_script_extensions_val32(*first);
-        let second_set = scripts.get_script_extensions_val32(*second);
-        assert_eq!(rt; first_set == second_set, *are_equal, "{first} and {second}");
-    }
-}
-
-fn assert_listed(
-    rt: &impl Abort,
-    alloc: Global,
-    scripts: ScriptWithExtensionsBorrowed<'_>,
-    expected: &Expected<'_>,
-) -> Result<(), Fail> {
-    for (number, list) in expected.listed {
-        let ends = ends_of(alloc, scripts, script(*number))?;
-        assert_eq!(rt; ends.as_slice(), *list, "ranges of {number}");
-        let set = scripts.get_script_extensions_set(alloc, script(*number))?;
-        assert_eq!(rt; set.get_inversion_list(), *list, "set of {number}");
-    }
-    Ok(())
-}
-
-/// Whether a character has the script Common and these script extensions, without Common.
-fn agrees(scripts: ScriptWithExtensionsBorrowed<'_>, ch: char, extensions: &[u16]) -> bool {
-    scripts.get_script_val(ch) == Script::Common
-        && has_all(scripts.get_script_extensions_val(ch), extensions)
-        && !scripts.has_script(ch, Script::Common)
-}
-
-/// Asserts what the scripts of the text tell, and that a copy of them tells which scripts code points have.
-fn assert_scripts(
-    rt: &impl Abort,
-    alloc: Global,
-    text: &str,
-    expected: &Expected<'_>,
-) -> Result<(), Fail> {
-    let database = PropertyDatabase::from_text(alloc, text)?;
-    let scripts = ScriptWithExtensions::new(&database)?;
-    assert_extended(rt, scripts, expected);
-    assert_from_ends(rt, scripts, expected);
-    assert_equal(rt, scripts, expected);
-    assert_listed(rt, alloc, scripts, expected)?;
-    let copy = ScriptWithExtensions::try_new_unstable(alloc, &database)?;
-    assert_members(rt, copy.as_borrowed(), expected);
-    Ok(())
-}
-
 #[test]
-fn a_number_of_each_kind_tells_a_script_and_its_extensions(rt: HostRuntime) -> Result<(), Fail> {
-    let expected = Expected {
-        extended: &[
-            (0x40, 103, &[103]),
-            (0x42, 25, &[25]),
-            (0x43, 0, &[20, 22]),
-            (0x44, 0, &[25]),
-            (0x45, 1, &[]),
-            (0x46, 17, &[4, 17, 25]),
-            (0x47, 8, &[]),
-            (0x48, 59392, &[59392]),
-            (0x49, 0, &[]),
-            (0x10_FFFF, 103, &[103]),
-            (0x11_0000, 103, &[]),
-        ],
-        members: &[(0x46, 17, true), (0x47, 8, false), (0x45, 1, false)],
-        listed: &[
-            (25, &[0x41, 0x43, 0x44, 0x45, 0x46, 0x47]),
-            (103, &[0, 0x41, 0x4A, 0x11_0000]),
-            (20, &[0x43, 0x44]),
-        ],
-        from_ends: &[
-            (0x46, [Some(25), Some(4), Some(17), None]),
-            (0x43, [Some(22), Some(20), None, None]),
-            (0x41, [Some(25), None, None, None]),
-            (0x45, [None, None, None, None]),
-        ],
-        equal: &[
-            (0x41, 0x44, true),
-            (0x44, 0x44, true),
-            (0x45, 0x11_0000, true),
-            (0x45, 0x47, true),
-            (0x41, 0x48, false),
-            (0x41, 0x43, false),
-            (0x43, 0x46, false),
-            (0x41, 0x45, false),
-        ],
-    };
-    assert_scripts(&rt, rt.alloc(), KINDS, &expected)
-}
-
-#[test]
-fn a_text_of_every_kind_tells_scripts_and_extensions(rt: HostRuntime) -> Result<(), Fail> {
-    let expected = Expected {
-        extended: &[
-            (0x30FC, 0, &[20, 22]),
-            (0x3042, 20, &[20]),
-            (0x11_0000, 103, &[]),
-        ],
-        members: &[
-            (0x30FC, 20, true),
-            (0x30FC, 22, true),
-            (0x30FC, 0, false),
-            (0x30FC, 0xAFFE, false),
-            (0x3042, 22, false),
-            (0x11_0000, 103, false),
-            (0x11_0000, 20, false),
-        ],
-        listed: &[(20, &[0x3041, 0x3097, 0x30FC, 0x30FD]), (0, &[])],
-        from_ends: &[(0x30FC, [Some(22), Some(20), None, None])],
-        equal: &[(0x30FC, 0x30FC, true), (0x30FC, 0x3042, false)],
-    };
-    assert_scripts(&rt, rt.alloc(), EVERY_KIND, &expected)
-}
-
-#[test]
-fn a_number_of_a_high_kind_is_a_script_alone(rt: HostRuntime) -> Result<(), Fail> {
-    let expected = Expected {
-        extended: &[(0x41, 59392, &[59392])],
-        members: &[
-            (0x41, 59392, true),
-            (0x41, 0, false),
-            (0x41, 58, false),
-            (0x41, 103, false),
-            (0x41, 59391, false),
-            (0x41, 59393, false),
-            (0x41, 65535, false),
-            (0x10_FFFF, 59392, true),
-            (0x11_0000, 59392, false),
-        ],
-        listed: &[(59392, &[0, 0x11_0000]), (58, &[])],
-        from_ends: &[],
-        equal: &[],
-    };
-    assert_scripts(&rt, rt.alloc(), "scx 59392\nend", &expected)
-}
-
-#[test]
-fn a_character_answers_as_its_code_point(rt: HostRuntime) -> Result<(), Fail> {
-    let database = PropertyDatabase::from_text(rt.alloc(), KINDS)?;
-    let scripts = ScriptWithExtensionsBorrowed::new(&database)?;
-    assert!(rt; agrees(scripts, 'C', &[20, 22]));
-    Ok(())
-}
-
-#[test]
-fn a_database_without_scripts_says_so(rt: HostRuntime) -> Result<(), Fail> {
-    let database = PropertyDatabase::from_text(rt.alloc(), "ext 0\n20\nend")?;
-    let absent = Some(DataError::Absent {
-        table: TableName::Scripts,
-    });
-    assert_eq!(rt; ScriptWithExtensions::new(&database).err(), absent);
-    assert_eq!(rt; ScriptWithExtensionsBorrowed::new(&database).err(), absent);
-    let owned = ScriptWithExtensions::try_new_unstable(rt.alloc(), &database);
-    assert_eq!(rt; owned.err(), absent);
-    Ok(())
+fn a_database_without_scripts_says_so(rt: HostRuntime) {
+    let rows: &[Absent] = &[Absent::New, Absent::NewBorrowed, Absent::TryNew];
+    assert_rows(&rt, "ext 0\n20\nend", rows);
 }
