@@ -1,42 +1,59 @@
 //! How many tables of each kind a text has.
-use crate::fixtures::TABLES;
-use crate::run_in_memory;
+use crate::fixtures::{TABLES, is_answered, words_of};
+use std::alloc::Global;
+use std::process::Abort;
 use std::test::Fail;
 
-/// The counts of a text with one table, of a set.
-const ONE_SET: &str = "set 1\nmap 0\nnames 0\nlong 0\nshort 0\nscx 0\next 0\nemoji 0\n";
-
-#[test]
-fn tables_are_counted_by_their_kinds(rt: HostRuntime) -> Result<(), Fail> {
-    let alloc = rt.alloc();
-    let mut words = Vec::new(alloc);
-    words.push(String::from_str(alloc, "tables")?)?;
-    for (input, expected, code) in [
-        (
-            TABLES,
-            "set 4\nmap 3\nnames 3\nlong 1\nshort 1\nscx 1\next 1\nemoji 1\n",
-            0,
-        ),
-        (
-            "end\n",
-            "set 0\nmap 0\nnames 0\nlong 0\nshort 0\nscx 0\next 0\nemoji 0\n",
-            0,
-        ),
-        ("end\npat [a]\n", "tables line 2: UnknownLine\n", 3),
-        ("set XID_Start\n", "tables line 2: NoEnd\n", 3),
-        // A CR that no LF follows belongs to its line.
-        ("set Dash\n2D\nend\r", "tables line 3: BadNumber\n", 3),
-        ("set Dash\n2D\r\nend\r\n", ONE_SET, 0),
-    ] {
-        let (status, sink) = run_in_memory(alloc, &words, input.as_bytes().to_vec(alloc)?);
-        assert_eq!(rt; sink.written(), expected.as_bytes(), "for {expected}");
-        assert_eq!(rt; status.code(), code, "for {expected}");
+/// Each table text has the answer beside it, and the run over it ends with the status of this number.
+fn assert_counted(
+    rt: &impl Abort,
+    alloc: Global,
+    rows: &[(&str, &str)],
+    code: u8,
+) -> Result<(), Fail> {
+    let words = words_of(alloc, &["tables"])?;
+    for (input, expected) in rows {
+        let input = input.as_bytes().to_vec(alloc)?;
+        assert!(rt;
+            is_answered(alloc, &words, input, expected, code),
+            "for {expected}"
+        );
     }
     Ok(())
 }
 
+/// The counts of a text with one table, of a set.
+const ONE_SET: &str = "set 1\nmap 0\nnames 0\nlong 0\nshort 0\nscx 0\next 0\nemoji 0\n";
+
+/// Texts without a fault, and their counts.
+const COUNTED: &[(&str, &str)] = &[
+    (
+        TABLES,
+        "set 4\nmap 3\nnames 3\nlong 1\nshort 1\nscx 1\next 1\nemoji 1\n",
+    ),
+    (
+        "end\n",
+        "set 0\nmap 0\nnames 0\nlong 0\nshort 0\nscx 0\next 0\nemoji 0\n",
+    ),
+    ("set Dash\n2D\r\nend\r\n", ONE_SET),
+];
+
+/// Texts with a fault at their end.
+const FAULTY: &[(&str, &str)] = &[
+    ("end\npat [a]\n", "tables line 2: UnknownLine\n"),
+    ("set XID_Start\n", "tables line 2: NoEnd\n"),
+    // A CR that no LF follows belongs to its line.
+    ("set Dash\n2D\nend\r", "tables line 3: BadNumber\n"),
+];
+
+#[test]
+fn tables_are_counted_by_their_kinds(rt: HostRuntime) -> Result<(), Fail> {
+    assert_counted(&rt, rt.alloc(), COUNTED, 0)?;
+    assert_counted(&rt, rt.alloc(), FAULTY, 3)
+}
+
 /// A text for each kind of fault, and its answer.
-const DAMAGED: [(&str, &str); 16] = [
+const DAMAGED: &[(&str, &str)] = &[
     ("hello", "tables line 1: UnknownLine\n"),
     ("set Nothing", "tables line 1: UnknownTable\n"),
     ("set Dash\nset Dash", "tables line 2: TableTwice\n"),
@@ -60,13 +77,5 @@ const DAMAGED: [(&str, &str); 16] = [
 
 #[test]
 fn a_damaged_text_is_answered_with_its_first_fault(rt: HostRuntime) -> Result<(), Fail> {
-    let alloc = rt.alloc();
-    let mut words = Vec::new(alloc);
-    words.push(String::from_str(alloc, "tables")?)?;
-    for (input, expected) in DAMAGED {
-        let (status, sink) = run_in_memory(alloc, &words, input.as_bytes().to_vec(alloc)?);
-        assert_eq!(rt; sink.written(), expected.as_bytes(), "for {expected}");
-        assert_eq!(rt; status.code(), 3, "for {expected}");
-    }
-    Ok(())
+    assert_counted(&rt, rt.alloc(), DAMAGED, 3)
 }

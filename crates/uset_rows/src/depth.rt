@@ -1,6 +1,5 @@
 //! Patterns of a million sets inside one another.
-use crate::fixtures::{TABLES, eval};
-use crate::run_in_memory;
+use crate::fixtures::{TABLES, is_evaluated};
 use std::alloc::{AllocError, Global};
 use std::process::Abort;
 use std::test::Fail;
@@ -10,8 +9,7 @@ const DEPTH: usize = 1_000_000;
 /// Whether the pattern has this answer, and the run the status of this number.
 fn has_answer(alloc: Global, pattern: &str, expected: &str, code: u8) -> Result<bool, AllocError> {
     let input = format!(in alloc; "{TABLES}pat {pattern}\n")?;
-    let (status, sink) = run_in_memory(alloc, &eval(alloc)?, input.into_bytes());
-    Ok(sink.written() == expected.as_bytes() && status.code() == code)
+    is_evaluated(alloc, input.into_bytes(), expected, code)
 }
 
 /// Whether the pattern is answered with its end as its fault.
@@ -31,8 +29,8 @@ fn assert_nested(
     let open = opening.repeat(alloc, DEPTH)?;
     let closing = "]".repeat(alloc, DEPTH)?;
     let closed = format!(in alloc; "{open}{innermost}{closing}")?;
-    assert!(rt; is_cut_short(alloc, &open)?, "{opening}");
-    assert!(rt; has_answer(alloc, &closed, expected, 0)?, "{opening}");
+    let holds = is_cut_short(alloc, &open)? && has_answer(alloc, &closed, expected, 0)?;
+    assert!(rt; holds, "{opening}");
     Ok(())
 }
 

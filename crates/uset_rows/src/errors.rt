@@ -1,40 +1,59 @@
 //! The texts that errors show.
 use cp_invlist::{InversionListError, NoMemory};
 use cp_strset::StringListError;
+use std::alloc::{AllocError, Global};
 use std::test::Fail;
 use uset_tool::{Failed, WriteError};
 
+/// An error of one of the types.
+#[derive(Clone, Copy)]
+enum Shown {
+    NoMemory(NoMemory),
+    List(InversionListError),
+    Strings(StringListError),
+    Failed(Failed),
+    Write(WriteError),
+}
+
+/// Errors, and the names that they show.
+const SHOWN: &[(Shown, &str)] = &[
+    (Shown::NoMemory(NoMemory), "NoMemory"),
+    (
+        Shown::List(InversionListError::Invalid { index: 7 }),
+        "Invalid",
+    ),
+    (Shown::List(InversionListError::NoMemory), "NoMemory"),
+    (
+        Shown::Strings(StringListError::NotUnique { index: 7 }),
+        "NotUnique",
+    ),
+    (
+        Shown::Strings(StringListError::NotSorted { index: 7 }),
+        "NotSorted",
+    ),
+    (
+        Shown::Strings(StringListError::StringOfOne { index: 7 }),
+        "StringOfOne",
+    ),
+    (Shown::Failed(Failed), "Failed"),
+    (Shown::Write(WriteError::Failed), "Failed"),
+    (Shown::Write(WriteError::NoMemory), "NoMemory"),
+];
+
+fn text_of(alloc: Global, shown: Shown) -> Result<String, AllocError> {
+    match shown {
+        Shown::NoMemory(error) => format!(in alloc; "{error}"),
+        Shown::List(error) => format!(in alloc; "{error}"),
+        Shown::Strings(error) => format!(in alloc; "{error}"),
+        Shown::Failed(error) => format!(in alloc; "{error}"),
+        Shown::Write(error) => format!(in alloc; "{error}"),
+    }
+}
+
 #[test]
 fn errors_show_their_names(rt: HostRuntime) -> Result<(), Fail> {
-    let alloc = rt.alloc();
-    let index = 7;
-    let texts = [
-        (format!(in alloc; "{NoMemory}")?, "NoMemory"),
-        (
-            format!(in alloc; "{}", InversionListError::Invalid { index })?,
-            "Invalid",
-        ),
-        (
-            format!(in alloc; "{}", InversionListError::NoMemory)?,
-            "NoMemory",
-        ),
-        (
-            format!(in alloc; "{}", StringListError::NotUnique { index })?,
-            "NotUnique",
-        ),
-        (
-            format!(in alloc; "{}", StringListError::NotSorted { index })?,
-            "NotSorted",
-        ),
-        (
-            format!(in alloc; "{}", StringListError::StringOfOne { index })?,
-            "StringOfOne",
-        ),
-        (format!(in alloc; "{Failed}")?, "Failed"),
-        (format!(in alloc; "{}", WriteError::Failed)?, "Failed"),
-        (format!(in alloc; "{}", WriteError::NoMemory)?, "NoMemory"),
-    ];
-    for (text, name) in &texts {
+    for (shown, name) in SHOWN {
+        let text = text_of(rt.alloc(), *shown)?;
         assert_eq!(rt; text.as_str(), *name);
     }
     Ok(())

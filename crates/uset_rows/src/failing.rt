@@ -42,6 +42,18 @@ fn run_failing(
     Ok((status, sink))
 }
 
+/// Whether a run whose reads and writes fail at these calls ends with the status of this number, and wrote this.
+fn ends(
+    alloc: Global,
+    words: &Vec<String>,
+    input: &str,
+    calls: (Option<u64>, Option<u64>),
+    end: (u8, &[u8]),
+) -> Result<bool, Fail> {
+    let (status, sink) = run_failing(alloc, words, input, calls.0, calls.1)?;
+    Ok(status.code() == end.0 && sink.written() == end.1)
+}
+
 /// Each read of the input, the last of which finds its end, ends the run with nothing written where it fails.
 fn assert_reads_fail(
     rt: &impl Abort,
@@ -51,13 +63,9 @@ fn assert_reads_fail(
 ) -> Result<(), Fail> {
     let reads = input.len().div_ceil(READ) as u64 + 1;
     for call in 0..reads {
-        let (status, sink) = run_failing(alloc, words, input, Some(call), None)?;
-        assert_eq!(rt; status.code(), 4, "at read {call}");
-        assert!(rt; sink.written().is_empty(), "at read {call}");
+        let holds = ends(alloc, words, input, (Some(call), None), (4, b""))?;
+        assert!(rt; holds, "at read {call}");
     }
-    let (status, sink) = run_failing(alloc, words, input, Some(reads), None)?;
-    assert_eq!(rt; status.code(), 0);
-    assert!(rt; sink.written() == ANSWER);
     Ok(())
 }
 
@@ -68,19 +76,28 @@ fn assert_writes_fail(
     words: &Vec<String>,
     input: &str,
 ) -> Result<(), Fail> {
-    for (call, written) in [
-        (0, b"".as_slice()),
-        (1, b"ok ".as_slice()),
-        (2, b"ok 3 0".as_slice()),
-        (3, b"ok 3 0061".as_slice()),
-    ] {
-        let (status, sink) = run_failing(alloc, words, input, None, Some(call))?;
-        assert_eq!(rt; status.code(), 5, "at write {call}");
-        assert!(rt; sink.written() == written, "at write {call}");
+    for (call, written) in WRITTEN {
+        let holds = ends(alloc, words, input, (None, Some(*call)), (5, written))?;
+        assert!(rt; holds, "at write {call}");
     }
-    let (status, sink) = run_failing(alloc, words, input, None, Some(4))?;
-    assert_eq!(rt; status.code(), 0);
-    assert!(rt; sink.written() == ANSWER);
+    Ok(())
+}
+
+/// The number of each write of the answer, and what was written before it.
+const WRITTEN: &[(u64, &[u8])] = &[(0, b""), (1, b"ok "), (2, b"ok 3 0"), (3, b"ok 3 0061")];
+
+/// A call behind the last read, or the last write, is none.
+fn assert_no_call_fails(
+    rt: &impl Abort,
+    alloc: Global,
+    words: &Vec<String>,
+    input: &str,
+) -> Result<(), Fail> {
+    let reads = input.len().div_ceil(READ) as u64 + 1;
+    for calls in [(Some(reads), None), (None, Some(4))] {
+        let holds = ends(alloc, words, input, calls, (0, ANSWER))?;
+        assert!(rt; holds, "at {calls:?}");
+    }
     Ok(())
 }
 
@@ -90,5 +107,6 @@ fn a_call_that_fails_ends_the_run(rt: HostRuntime) -> Result<(), Fail> {
     let words = eval(alloc)?;
     let input = input(alloc)?;
     assert_reads_fail(&rt, alloc, &words, &input)?;
-    assert_writes_fail(&rt, alloc, &words, &input)
+    assert_writes_fail(&rt, alloc, &words, &input)?;
+    assert_no_call_fails(&rt, alloc, &words, &input)
 }

@@ -1,8 +1,7 @@
 //! Patterns that are refused, with the place of each fault.
 use crate::fixtures::{
-    TABLES, assert_answer, assert_fault, assert_faults, assert_unexpected, eval,
+    TABLES, assert_answer, assert_fault, assert_faults, assert_unexpected, is_evaluated,
 };
-use crate::run_in_memory;
 use std::test::Fail;
 
 /// Patterns that end where more is due.
@@ -201,8 +200,7 @@ fn a_name_of_a_million_letters_is_read_to_its_end(rt: HostRuntime) -> Result<(),
     let expected = format!(in alloc;
         "err [${name}← error: unknown variable\nbound {name}\nok 1000003 0062\n"
     )?;
-    let (status, sink) = run_in_memory(alloc, &eval(alloc)?, input.into_bytes());
-    assert!(rt; sink.written() == expected.as_bytes());
-    assert_eq!(rt; status.code(), 1);
+    let holds = is_evaluated(alloc, input.into_bytes(), &expected, 1)?;
+    assert!(rt; holds);
     Ok(())
 }

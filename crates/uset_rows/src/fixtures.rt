@@ -33,6 +33,35 @@ pub(crate) fn eval(alloc: Global) -> Result<Vec<String>, AllocError> {
     words_of(alloc, &["eval"])
 }
 
+/// Whether a run with these words over the input writes the answer and no more, and ends with the status of this number.
+pub(crate) fn is_answered(
+    alloc: Global,
+    words: &Vec<String>,
+    input: Vec<u8>,
+    expected: &str,
+    code: u8,
+) -> bool {
+    let (status, sink) = run_in_memory(alloc, words, input);
+    sink.written() == expected.as_bytes() && status.code() == code
+}
+
+/// The same of a run with the word `eval`.
+pub(crate) fn is_evaluated(
+    alloc: Global,
+    input: Vec<u8>,
+    expected: &str,
+    code: u8,
+) -> Result<bool, AllocError> {
+    let words = eval(alloc)?;
+    Ok(is_answered(alloc, &words, input, expected, code))
+}
+
+/// Whether the lines, behind the tables, have the answers, and the run ends with the status of this number.
+fn have_answer(alloc: Global, lines: &str, expected: &str, code: u8) -> Result<bool, Fail> {
+    let input = format!(in alloc; "{TABLES}{lines}\n")?;
+    Ok(is_evaluated(alloc, input.into_bytes(), expected, code)?)
+}
+
 /// The lines, behind the tables, have the answers, and the run ends with the status of this number.
 pub(crate) fn assert_answer(
     rt: &impl Abort,
@@ -41,11 +70,8 @@ pub(crate) fn assert_answer(
     expected: &str,
     code: u8,
 ) -> Result<(), Fail> {
-    let words = eval(alloc)?;
-    let input = format!(in alloc; "{TABLES}{lines}\n")?;
-    let (status, sink) = run_in_memory(alloc, &words, input.into_bytes());
-    assert!(rt; sink.written() == expected.as_bytes(), "at {lines}");
-    assert_eq!(rt; status.code(), code, "at {lines}");
+    let holds = have_answer(alloc, lines, expected, code)?;
+    assert!(rt; holds, "at {lines}, expected {expected}");
     Ok(())
 }
 

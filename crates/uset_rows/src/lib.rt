@@ -13,8 +13,6 @@ mod counts;
 #[cfg(test)]
 mod depth;
 #[cfg(test)]
-mod devices;
-#[cfg(test)]
 mod errors;
 #[cfg(test)]
 mod failing;

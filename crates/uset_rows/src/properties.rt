@@ -1,6 +1,7 @@
 //! Properties.
 use crate::fixtures::{SYNTAX, assert_faults, assert_read, assert_unexpected, eval};
 use crate::run_in_memory;
+use std::alloc::Global;
 use std::test::Fail;
 
 /// Binary properties, in words and under a caret, a `P` and an unequal sign.
@@ -283,15 +284,21 @@ const PARTIAL: [(&str, &str, &str); 9] = [
     ),
 ];
 
+/// Whether the pattern has the answer under the tables of the syntax and these.
+fn is_resolved(alloc: Global, tables: &str, pattern: &str, answer: &str) -> Result<bool, Fail> {
+    let words = eval(alloc)?;
+    let input = format!(in alloc; "{SYNTAX}{tables}end\npat {pattern}\n")?;
+    let expected = format!(in alloc; "{answer}\n")?;
+    let (_, sink) = run_in_memory(alloc, &words, input.into_bytes());
+    Ok(sink.written() == expected.as_bytes())
+}
+
 #[test]
 fn properties_are_resolved_by_the_tables_that_are_there(rt: HostRuntime) -> Result<(), Fail> {
     let alloc = rt.alloc();
-    let words = eval(alloc)?;
     for (tables, pattern, answer) in PARTIAL {
-        let input = format!(in alloc; "{SYNTAX}{tables}end\npat {pattern}\n")?;
-        let (_, sink) = run_in_memory(alloc, &words, input.into_bytes());
-        let expected = format!(in alloc; "{answer}\n")?;
-        assert!(rt; sink.written() == expected.as_bytes(), "at {pattern}");
+        let is_written = is_resolved(alloc, tables, pattern, answer)?;
+        assert!(rt; is_written, "at {pattern}");
     }
     Ok(())
 }

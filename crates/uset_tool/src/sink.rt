@@ -111,7 +111,7 @@ impl Sink for SureSink {
 #[derive(Drop)]
 pub struct StdSink<W: Write + Drop> {
     writer: W,
-    faults: u64,
+    pub(crate) faults: u64,
 }
 
 impl<W: Write + Drop> StdSink<W> {

@@ -76,7 +76,7 @@ impl Source for SureSource {
 #[derive(Drop)]
 pub struct StdSource<R: Read + Drop> {
     reader: R,
-    faults: u64,
+    pub(crate) faults: u64,
 }
 
 impl<R: Read + Drop> StdSource<R> {
