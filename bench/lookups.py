@@ -9,13 +9,12 @@ byte and of four. Each time is the least of many: others may use the machine too
 
 import shutil
 import subprocess
-import sys
 import tempfile
 from pathlib import Path
 
 from category import category_runs
+from measured import CODE_POINTS, TOP, build
 
-TOP = Path(__file__).resolve().parent.parent
 # The last commit whose maps are found by binary search alone.
 SEARCH = "55a23fe"
 
@@ -34,16 +33,7 @@ fn row_of(line: &str) -> Result<(u32, u32, u8)> {
     Ok((start, end, value.parse::<u8>().context("value")?))
 }
 
-fn code_points(alloc: Global) -> Result<Vec<u32>> {
-    let mut x = 12_345u32;
-    let mut points = Vec::new(alloc);
-    for _ in 0..1 << 16 {
-        x = x.wrapping_mul(1_103_515_245).wrapping_add(12_345);
-        points.push((x >> 8) % 0x11_0000)?;
-    }
-    Ok(points)
-}
-
+CODE_POINTS
 fn main(rt: HostRuntime) -> Result<()> {
     let alloc = rt.alloc();
     let mut rows = Vec::new(alloc);
@@ -159,7 +149,8 @@ def write_repository(folder):
             calls += f'    let read = {name}::look_up(&rt, alloc, &rows, &points)?;\n'
             calls += f'    println!(rt; "{crate} {value} {{built}} {{read}}")?;\n'
             (source / f"{name}.rt").write_text(MODULE.replace("CRATE", crate).replace("VALUE", value))
-    (source / "main.rt").write_text(MAIN.replace("MODULES", modules).replace("CALLS", calls))
+    text = MAIN.replace("CODE_POINTS", CODE_POINTS).replace("MODULES", modules).replace("CALLS", calls)
+    (source / "main.rt").write_text(text)
     (folder / "crates.txt").write_text(
         "cp_invlist: thiserror\ncp_trie: cp_invlist thiserror\ncp_trie_search: cp_invlist thiserror\n"
         "lookups: cp_invlist cp_trie cp_trie_search anyhow\n"
@@ -190,11 +181,7 @@ def main():
     runs = category_runs()
     with tempfile.TemporaryDirectory() as name:
         folder = Path(name)
-        crate = write_repository(folder)
-        built = subprocess.run(["rt", "run"], cwd=crate, stdin=subprocess.DEVNULL, stdout=subprocess.PIPE, stderr=subprocess.STDOUT, text=True)
-        program = crate / "out" / "lookups"
-        if not program.exists():
-            sys.exit(built.stdout)
+        program = build(write_repository(folder))
         for _ in range(2):
             print_times(program, f"General_Category, {len(runs)} runs", text_of(runs))
             print_times(program, "one run", text_of([[0, 0x10FFFF, 5]]))

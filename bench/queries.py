@@ -6,15 +6,14 @@ Usage: bench/queries.py TABLES, a table text with both. It needs `rt`, and takes
 that only the program that measures is proved. Each time is the least of many: others may use the machine too.
 """
 
-import shutil
 import subprocess
 import sys
 import tempfile
 from pathlib import Path
 
-TOP = Path(__file__).resolve().parent.parent
-# The crates that `prop_query` stands on, and it.
-CRATES = "text_lines cp_invlist cp_strset cp_trie prop_values prop_binary prop_names prop_data prop_query".split()
+from measured import CODE_POINTS, build, write_repository
+
+STANDS_ON = "prop_binary prop_data prop_query prop_values cp_trie cp_invlist anyhow".split()
 
 MAIN = """//! Times look-ups in the sets and maps of a database.
 #![tactic(auto)]
@@ -28,16 +27,7 @@ use std::alloc::Global;
 use std::rt::Clock;
 use std::time::Instant;
 
-fn code_points(alloc: Global) -> Result<Vec<u32>> {
-    let mut x = 12_345u32;
-    let mut points = Vec::new(alloc);
-    for _ in 0..1 << 16 {
-        x = x.wrapping_mul(1_103_515_245).wrapping_add(12_345);
-        points.push((x >> 8) % 0x11_0000)?;
-    }
-    Ok(points)
-}
-
+CODE_POINTS
 fn members(set: CodePointSetDataBorrowed<'_>, points: &[u32]) -> u32 {
     let mut count = 0u32;
     for c in points {
@@ -100,29 +90,11 @@ fn main(rt: HostRuntime) -> Result<()> {
 """
 
 
-def write_repository(folder):
-    """A repository with the crates, as their checks left them, and a program that times them."""
-    for name in CRATES:
-        shutil.copytree(TOP / "crates" / name, folder / "crates" / name)
-    source = folder / "crates" / "queries" / "src"
-    source.mkdir(parents=True)
-    (source / "main.rt").write_text(MAIN)
-    lines = (TOP / "crates.txt").read_text(encoding="utf-8").splitlines()
-    kept = [line for line in lines if line.split(":")[0] in CRATES]
-    kept.append("queries: prop_binary prop_data prop_query prop_values cp_trie cp_invlist anyhow")
-    (folder / "crates.txt").write_text("\n".join(kept) + "\n", encoding="utf-8")
-    subprocess.run(["git", "init", "-q", str(folder)], check=True)
-    return source.parent
-
-
 def main():
     tables = Path(sys.argv[1]).read_bytes()
     with tempfile.TemporaryDirectory() as name:
-        crate = write_repository(Path(name))
-        built = subprocess.run(["rt", "run"], cwd=crate, stdin=subprocess.DEVNULL, stdout=subprocess.PIPE, stderr=subprocess.STDOUT, text=True)
-        program = crate / "out" / "queries"
-        if not program.exists():
-            sys.exit(built.stdout)
+        text = MAIN.replace("CODE_POINTS", CODE_POINTS)
+        program = build(write_repository(Path(name), "queries", STANDS_ON, {"main.rt": text}))
         for line in subprocess.run([program], input=tables, stdout=subprocess.PIPE, check=True).stdout.decode().splitlines():
             call, found, least = line.split()
             each = int(least) / (1 << 16)

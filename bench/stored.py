@@ -5,18 +5,13 @@ Usage: bench/stored.py. It needs `rt`, and takes what checks of the crates have 
 measures is proved. Each time is the least of many: others may use the machine too.
 """
 
-import shutil
 import subprocess
-import sys
 import tempfile
 from pathlib import Path
 
-TOP = Path(__file__).resolve().parent.parent
-# The crates that `uset_parse` stands on, and it.
-CRATES = (
-    "text_lines cp_invlist cp_strset cp_trie prop_values prop_binary prop_names prop_data "
-    "uset_grammar uset_read uset_gather uset_fault uset_variables uset_reader uset_parse"
-).split()
+from measured import build, write_repository
+
+STANDS_ON = "cp_invlist cp_strset prop_data uset_fault uset_parse anyhow".split()
 COUNTS = (1_000, 10_000, 100_000)
 
 MAIN = """//! Times sets that are written as patterns and read back.
@@ -83,28 +78,10 @@ fn main(rt: HostRuntime) -> Result<()> {
 """
 
 
-def write_repository(folder):
-    """A repository with the crates, as their checks left them, and a program that times them."""
-    for name in CRATES:
-        shutil.copytree(TOP / "crates" / name, folder / "crates" / name)
-    source = folder / "crates" / "stored" / "src"
-    source.mkdir(parents=True)
-    (source / "main.rt").write_text(MAIN.replace("COUNTS", ", ".join(str(count) for count in COUNTS)))
-    lines = (TOP / "crates.txt").read_text(encoding="utf-8").splitlines()
-    kept = [line for line in lines if line.split(":")[0] in CRATES]
-    kept.append("stored: cp_invlist cp_strset prop_data uset_fault uset_parse anyhow")
-    (folder / "crates.txt").write_text("\n".join(kept) + "\n", encoding="utf-8")
-    subprocess.run(["git", "init", "-q", str(folder)], check=True)
-    return source.parent
-
-
 def main():
     with tempfile.TemporaryDirectory() as name:
-        crate = write_repository(Path(name))
-        built = subprocess.run(["rt", "run"], cwd=crate, stdin=subprocess.DEVNULL, stdout=subprocess.PIPE, stderr=subprocess.STDOUT, text=True)
-        program = crate / "out" / "stored"
-        if not program.exists():
-            sys.exit(built.stdout)
+        text = MAIN.replace("COUNTS", ", ".join(str(count) for count in COUNTS))
+        program = build(write_repository(Path(name), "stored", STANDS_ON, {"main.rt": text}))
         print("| ranges | bytes | writing, ns a byte | reading, ns a byte |")
         print("|---|---|---|---|")
         for line in subprocess.run([program], stdout=subprocess.PIPE, text=True, check=True).stdout.splitlines():
