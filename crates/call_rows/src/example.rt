@@ -11,7 +11,23 @@ const TABLES: &str = "set Pattern_White_Space\n9-D\n20\n\
     set XID_Continue\n30-39\n41-5A\n5F\n61-7A\n\
     end\n";
 
-/// What a set is asked, its ranges, one a line, and then its strings.
+/// Appends the ranges of a set, one a line.
+fn push_ranges(text: &mut String, set: &CodePointInversionListAndStringList) -> Result<(), Fail> {
+    for range in set.code_points().iter_ranges() {
+        write!(text, "{:04X}-{:04X}\n", range.start, range.end)?;
+    }
+    Ok(())
+}
+
+/// Appends the strings of a set, one a line.
+fn push_strings(text: &mut String, set: &CodePointInversionListAndStringList) -> Result<(), Fail> {
+    for string in set.strings() {
+        write!(text, "{string}\n")?;
+    }
+    Ok(())
+}
+
+/// What a set is asked, its ranges, and then its strings.
 fn shown(
     alloc: Global,
     set: &CodePointInversionListAndStringList,
@@ -23,34 +39,42 @@ fn shown(
         set.contains('a'),
         set.contains_str("ch")
     )?;
-    for range in set.code_points().iter_ranges() {
-        write!(text, "{:04X}-{:04X}\n", range.start, range.end)?;
-    }
-    for string in set.strings() {
-        write!(text, "{string}\n")?;
-    }
+    push_ranges(&mut text, set)?;
+    push_strings(&mut text, set)?;
     Ok(text)
 }
 
-/// What the consonants are.
-fn consonants(alloc: Global) -> Result<String, Fail> {
-    let database = PropertyDatabase::from_text(alloc, TABLES)?;
+/// A variable that is a string.
+fn digraph(alloc: Global) -> Result<VariableMap, Fail> {
     let mut variables = VariableMap::new(alloc);
-    if variables
-        .insert_str(String::from_str(alloc, "digraph")?, "ch")
-        .is_err()
-    {
+    let name = String::from_str(alloc, "digraph")?;
+    if variables.insert_str(name, "ch").is_err() {
         return Err("the name is bound".into());
     }
+    Ok(variables)
+}
 
+/// What the consonants are.
+fn consonants(
+    alloc: Global,
+    variables: &VariableMap,
+    database: &PropertyDatabase,
+) -> Result<String, Fail> {
     let source = "[[a-z $digraph]-[aeiou]] and what follows is free";
-    let (set, length) = parse_with_variables(alloc, source, &variables, &database)?;
+    let (set, length) = parse_with_variables(alloc, source, variables, database)?;
     shown(alloc, &set, length)
+}
+
+/// The same, of the tables and the variable.
+fn example(alloc: Global) -> Result<String, Fail> {
+    let database = PropertyDatabase::from_text(alloc, TABLES)?;
+    let variables = digraph(alloc)?;
+    consonants(alloc, &variables, &database)
 }
 
 #[test]
 fn the_example_of_the_guide_has_its_answer(rt: HostRuntime) -> Result<(), Fail> {
-    let text = consonants(rt.alloc())?;
+    let text = example(rt.alloc())?;
     assert_eq!(rt;
         text.as_str(),
         "24 bytes, b: true, a: false, ch: true\n\

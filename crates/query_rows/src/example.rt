@@ -17,10 +17,22 @@ fn the_example_of_the_guide_has_its_answers(rt: HostRuntime) -> Result<(), Fail>
     let category = for_char::<GeneralCategory>(&database, 'a')?;
     let script = try_from_str::<Script>(&database, "latin")?;
     let extensions = ScriptWithExtensions::new(&database)?.get_script_extensions_val('\u{30fc}');
-    assert_eq!(rt; category, GeneralCategory::LowercaseLetter);
-    assert_eq!(rt; script, Some(Script::Latin));
-    assert_eq!(rt; extensions.array_len(), 2);
-    assert_eq!(rt; extensions.array_get(0), Some(Script::from_icu4c_value(20)));
-    assert_eq!(rt; extensions.array_get(1), Some(Script::from_icu4c_value(22)));
+    let scripts = [
+        extensions.array_get(0),
+        extensions.array_get(1),
+        extensions.array_get(2),
+    ];
+    assert_eq!(rt;
+        (category, script, scripts),
+        (
+            GeneralCategory::LowercaseLetter,
+            Some(Script::Latin),
+            [
+                Some(Script::from_icu4c_value(20)),
+                Some(Script::from_icu4c_value(22)),
+                None
+            ]
+        )
+    );
     Ok(())
 }
