@@ -1,8 +1,8 @@
 //! Patterns that are refused, with the place of each fault.
 use crate::fixtures::{
-    TABLES, assert_answer, assert_fault, assert_faults, assert_unexpected, is_evaluated,
+    TABLES, assert_fault, assert_faults, assert_read, assert_unexpected, is_evaluated, is_refused,
 };
-use std::test::Fail;
+use std::alloc::{AllocError, Global};
 
 /// Patterns that end where more is due.
 const ENDS: [&str; 34] = [
@@ -166,41 +166,52 @@ const UNFIT: [(&str, &str); 12] = [
 ];
 
 #[test]
-fn faults_stand_at_their_places(rt: HostRuntime) -> Result<(), Fail> {
+fn faults_stand_at_their_places(rt: HostRuntime) {
     let alloc = rt.alloc();
     for pattern in ENDS {
-        assert_fault(&rt, alloc, pattern, pattern, "unexpected end of input")?;
+        assert_fault(&rt, alloc, pattern, pattern, "unexpected end of input");
     }
-    assert_unexpected(&rt, alloc, UNEXPECTED.as_slice())?;
     for (pattern, front, words) in OTHERS {
-        assert_fault(&rt, alloc, pattern, front, words)?;
+        assert_fault(&rt, alloc, pattern, front, words);
     }
-    assert_faults(&rt, alloc, INVALID.as_slice(), "invalid escape sequence")?;
-    assert_faults(&rt, alloc, UNKNOWN.as_slice(), "unknown variable")?;
-    assert_faults(&rt, alloc, UNFIT.as_slice(), "unexpected variable")
+    assert_unexpected(&rt, alloc, UNEXPECTED.as_slice());
+    assert_faults(&rt, alloc, INVALID.as_slice(), "invalid escape sequence");
+    assert_faults(&rt, alloc, UNKNOWN.as_slice(), "unknown variable");
+    assert_faults(&rt, alloc, UNFIT.as_slice(), "unexpected variable");
 }
 
-#[test]
-fn each_front_of_a_pattern_ends_where_more_is_due(rt: HostRuntime) -> Result<(), Fail> {
-    let mut front = String::new(rt.alloc());
-    for c in "[^{h\\u{65}llo\\ world}]".chars() {
-        assert_fault(&rt, rt.alloc(), &front, &front, "unexpected end of input")?;
+/// A pattern of one string in a complement.
+const WHOLE: &str = "[^{h\\u{65}llo\\ world}]";
+
+/// The first front of that pattern that is not answered with its end as its fault.
+fn front_with_another_fault(alloc: Global) -> Result<Option<String>, AllocError> {
+    let mut front = String::new(alloc);
+    for c in WHOLE.chars() {
+        if !is_refused(alloc, &front, &front, "unexpected end of input")? {
+            return Ok(Some(front));
+        }
         front.push(c)?;
     }
-    let answer = "ok 22 0000-10FFFF\n";
-    let line = format!(in rt.alloc(); "pat {front}")?;
-    assert_answer(&rt, rt.alloc(), &line, answer, 0)
+    Ok(None)
 }
 
 #[test]
-fn a_name_of_a_million_letters_is_read_to_its_end(rt: HostRuntime) -> Result<(), Fail> {
-    let alloc = rt.alloc();
+fn each_front_of_a_pattern_ends_where_more_is_due(rt: HostRuntime) {
+    assert_eq!(rt; front_with_another_fault(rt.alloc()), Ok(None));
+    assert_read(&rt, rt.alloc(), &[(WHOLE, "22 0000-10FFFF")]);
+}
+
+/// Whether a name of a million letters is read to its end, unbound and bound.
+fn is_read_to_its_end(alloc: Global) -> Result<bool, AllocError> {
     let name = "a".repeat(alloc, 1_000_000)?;
     let input = format!(in alloc; "{TABLES}pat [${name}]\nlet {name} char 62\npat [${name}]\n")?;
     let expected = format!(in alloc;
         "err [${name}← error: unknown variable\nbound {name}\nok 1000003 0062\n"
     )?;
-    let holds = is_evaluated(alloc, input.into_bytes(), &expected, 1)?;
-    assert!(rt; holds);
-    Ok(())
+    is_evaluated(alloc, input.into_bytes(), &expected, 1)
+}
+
+#[test]
+fn a_name_of_a_million_letters_is_read_to_its_end(rt: HostRuntime) {
+    assert_eq!(rt; is_read_to_its_end(rt.alloc()), Ok(true));
 }

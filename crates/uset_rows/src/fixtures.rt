@@ -2,7 +2,6 @@
 use crate::run_in_memory;
 use std::alloc::{AllocError, Global};
 use std::process::Abort;
-use std::test::Fail;
 
 /// Tables of every kind: those of the pattern syntax, a binary property, General_Category with names of groups, Script with its
 /// names, scripts with extensions, combining classes, and an emoji set. Block has none.
@@ -57,49 +56,54 @@ pub(crate) fn is_evaluated(
 }
 
 /// Whether the lines, behind the tables, have the answers, and the run ends with the status of this number.
-fn have_answer(alloc: Global, lines: &str, expected: &str, code: u8) -> Result<bool, Fail> {
-    let input = format!(in alloc; "{TABLES}{lines}\n")?;
-    Ok(is_evaluated(alloc, input.into_bytes(), expected, code)?)
-}
-
-/// The lines, behind the tables, have the answers, and the run ends with the status of this number.
-pub(crate) fn assert_answer(
-    rt: &impl Abort,
+pub(crate) fn have_answer(
     alloc: Global,
     lines: &str,
     expected: &str,
     code: u8,
-) -> Result<(), Fail> {
-    let holds = have_answer(alloc, lines, expected, code)?;
+) -> Result<bool, AllocError> {
+    let input = format!(in alloc; "{TABLES}{lines}\n")?;
+    is_evaluated(alloc, input.into_bytes(), expected, code)
+}
+
+/// The lines, behind the tables, have the answers, and the run ends with the status of this number.
+pub(crate) fn assert_answer(rt: &impl Abort, alloc: Global, lines: &str, expected: &str, code: u8) {
+    let holds = have_answer(alloc, lines, expected, code) == Ok(true);
     assert!(rt; holds, "at {lines}, expected {expected}");
-    Ok(())
 }
 
 /// Each of the lines has the answer beside it, and each run ends with the status of this number.
-pub(crate) fn assert_answers(
-    rt: &impl Abort,
-    alloc: Global,
-    rows: &[(&str, &str)],
-    code: u8,
-) -> Result<(), Fail> {
+pub(crate) fn assert_answers(rt: &impl Abort, alloc: Global, rows: &[(&str, &str)], code: u8) {
     for (lines, expected) in rows {
-        assert_answer(rt, alloc, lines, expected, code)?;
+        assert_answer(rt, alloc, lines, expected, code);
     }
-    Ok(())
+}
+
+/// Whether the pattern, behind the bindings, is read with this length and these members.
+fn is_read(alloc: Global, pattern: &str, expected: &str) -> Result<bool, AllocError> {
+    let lines = format!(in alloc; "{BINDINGS}pat {pattern}")?;
+    let answer = format!(in alloc; "{BOUND}ok {expected}\n")?;
+    have_answer(alloc, &lines, &answer, 0)
 }
 
 /// Each pattern, behind the bindings, is read with the length and the members beside it.
-pub(crate) fn assert_read(
-    rt: &impl Abort,
-    alloc: Global,
-    rows: &[(&str, &str)],
-) -> Result<(), Fail> {
+pub(crate) fn assert_read(rt: &impl Abort, alloc: Global, rows: &[(&str, &str)]) {
     for (pattern, expected) in rows {
-        let lines = format!(in alloc; "{BINDINGS}pat {pattern}")?;
-        let answer = format!(in alloc; "{BOUND}ok {expected}\n")?;
-        assert_answer(rt, alloc, &lines, &answer, 0)?;
+        let holds = is_read(alloc, pattern, expected) == Ok(true);
+        assert!(rt; holds, "at {pattern}, expected {expected}");
     }
-    Ok(())
+}
+
+/// Whether the pattern, behind the bindings, is refused with these words behind this front.
+pub(crate) fn is_refused(
+    alloc: Global,
+    pattern: &str,
+    front: &str,
+    words: &str,
+) -> Result<bool, AllocError> {
+    let lines = format!(in alloc; "{BINDINGS}pat {pattern}")?;
+    let answer = format!(in alloc; "{BOUND}err {front}← error: {words}\n")?;
+    have_answer(alloc, &lines, &answer, 1)
 }
 
 /// The pattern, behind the bindings, is refused with these words behind this front.
@@ -109,35 +113,31 @@ pub(crate) fn assert_fault(
     pattern: &str,
     front: &str,
     words: &str,
-) -> Result<(), Fail> {
-    let lines = format!(in alloc; "{BINDINGS}pat {pattern}")?;
-    let answer = format!(in alloc; "{BOUND}err {front}← error: {words}\n")?;
-    assert_answer(rt, alloc, &lines, &answer, 1)
+) {
+    let holds = is_refused(alloc, pattern, front, words) == Ok(true);
+    assert!(rt; holds, "at {pattern}, expected {words} behind {front}");
 }
 
 /// Each pattern, behind the bindings, is refused with these words behind the front beside it.
-pub(crate) fn assert_faults(
-    rt: &impl Abort,
-    alloc: Global,
-    rows: &[(&str, &str)],
-    words: &str,
-) -> Result<(), Fail> {
+pub(crate) fn assert_faults(rt: &impl Abort, alloc: Global, rows: &[(&str, &str)], words: &str) {
     for (pattern, front) in rows {
-        assert_fault(rt, alloc, pattern, front, words)?;
+        assert_fault(rt, alloc, pattern, front, words);
     }
-    Ok(())
+}
+
+/// Whether the pattern, behind the bindings, is refused at the last character of this front, which is unexpected.
+fn is_unexpected(alloc: Global, pattern: &str, front: &str) -> Result<bool, AllocError> {
+    let Some(last) = front.chars().next_back() else {
+        return Ok(false);
+    };
+    let words = format!(in alloc; "unexpected character '{last}'")?;
+    is_refused(alloc, pattern, front, &words)
 }
 
 /// Each pattern, behind the bindings, is refused at the last character of the front beside it, which is unexpected.
-pub(crate) fn assert_unexpected(
-    rt: &impl Abort,
-    alloc: Global,
-    rows: &[(&str, &str)],
-) -> Result<(), Fail> {
+pub(crate) fn assert_unexpected(rt: &impl Abort, alloc: Global, rows: &[(&str, &str)]) {
     for (pattern, front) in rows {
-        let last = front.chars().next_back().ok_or("no front")?;
-        let words = format!(in alloc; "unexpected character '{last}'")?;
-        assert_fault(rt, alloc, pattern, front, &words)?;
+        let holds = is_unexpected(alloc, pattern, front) == Ok(true);
+        assert!(rt; holds, "at {pattern}, expected {front}");
     }
-    Ok(())
 }

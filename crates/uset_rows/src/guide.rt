@@ -1,7 +1,6 @@
 //! The examples of docs/PATTERNS.md, as one script.
 use crate::fixtures::is_evaluated;
 use std::alloc::{AllocError, Global};
-use std::test::Fail;
 
 /// The tables of the document, as a text: those of examples/tables.txt.
 const TABLES: &str =
@@ -116,7 +115,7 @@ const EXAMPLES: [(&str, &str); 72] = [
 ];
 
 /// The tables and the lines of the rows, and their answers.
-fn script_and_answers(alloc: Global) -> Result<(String, String), Fail> {
+fn script_and_answers(alloc: Global) -> Result<(String, String), AllocError> {
     let mut script = String::from_str(alloc, TABLES)?;
     let mut answers = String::new(alloc);
     for (line, answer) in &EXAMPLES {
@@ -131,10 +130,13 @@ fn push_line(text: &mut String, line: &str) -> Result<(), AllocError> {
     text.push('\n')
 }
 
+/// Whether the script has these answers.
+fn have_their_answers(alloc: Global) -> Result<bool, AllocError> {
+    let (script, answers) = script_and_answers(alloc)?;
+    is_evaluated(alloc, script.into_bytes(), &answers, 1)
+}
+
 #[test]
-fn examples_of_the_guide_have_their_answers(rt: HostRuntime) -> Result<(), Fail> {
-    let (script, answers) = script_and_answers(rt.alloc())?;
-    let holds = is_evaluated(rt.alloc(), script.into_bytes(), &answers, 1)?;
-    assert!(rt; holds);
-    Ok(())
+fn examples_of_the_guide_have_their_answers(rt: HostRuntime) {
+    assert_eq!(rt; have_their_answers(rt.alloc()), Ok(true));
 }

@@ -1,6 +1,6 @@
 //! Patterns that are read, with their ranges and strings.
 use crate::fixtures::{TABLES, assert_answers, assert_read, is_evaluated};
-use std::test::Fail;
+use std::alloc::{AllocError, Global};
 
 /// Characters, ranges, escapes, hyphens and dollar signs.
 const CODE_POINTS: [(&str, &str); 25] = [
@@ -78,29 +78,31 @@ const STRINGS: [(&str, &str); 17] = [
 ];
 
 #[test]
-fn patterns_are_answered_with_their_ranges_and_strings(rt: HostRuntime) -> Result<(), Fail> {
-    assert_read(&rt, rt.alloc(), CODE_POINTS.as_slice())?;
-    assert_read(&rt, rt.alloc(), SETS.as_slice())?;
-    assert_read(&rt, rt.alloc(), STRINGS.as_slice())
+fn patterns_are_answered_with_their_ranges_and_strings(rt: HostRuntime) {
+    for rows in [CODE_POINTS.as_slice(), SETS.as_slice(), STRINGS.as_slice()] {
+        assert_read(&rt, rt.alloc(), rows);
+    }
 }
 
 #[test]
-fn lines_without_an_answer_and_other_ends_of_lines_are_read(rt: HostRuntime) -> Result<(), Fail> {
+fn lines_without_an_answer_and_other_ends_of_lines_are_read(rt: HostRuntime) {
     let rows = [
         ("# a comment", ""),
         ("", ""),
         ("\n#\npat [b]\r\n\r\npat [a]", "ok 3 0062\nok 3 0061\n"),
     ];
-    assert_answers(&rt, rt.alloc(), &rows, 0)
+    assert_answers(&rt, rt.alloc(), &rows, 0);
 }
 
-#[test]
-fn answers_of_more_than_a_piece_are_written_in_order(rt: HostRuntime) -> Result<(), Fail> {
-    let alloc = rt.alloc();
+/// Whether ten thousand patterns are answered one after another.
+fn are_answered_in_order(alloc: Global) -> Result<bool, AllocError> {
     let lines = "pat [a-z0]\npat [b]\n".repeat(alloc, 5_000)?;
     let answers = "ok 6 0030 0061-007A\nok 3 0062\n".repeat(alloc, 5_000)?;
     let input = format!(in alloc; "{TABLES}{lines}")?;
-    let holds = is_evaluated(alloc, input.into_bytes(), &answers, 0)?;
-    assert!(rt; holds);
-    Ok(())
+    is_evaluated(alloc, input.into_bytes(), &answers, 0)
+}
+
+#[test]
+fn answers_of_more_than_a_piece_are_written_in_order(rt: HostRuntime) {
+    assert_eq!(rt; are_answered_in_order(rt.alloc()), Ok(true));
 }

@@ -1,6 +1,6 @@
 //! Inputs that are refused.
 use crate::fixtures::{is_answered, is_evaluated};
-use std::test::Fail;
+use std::alloc::{AllocError, Global};
 
 /// Inputs, with the answer and the number of the status.
 const REFUSED: &[(&[u8], &str, u8)] = &[
@@ -14,29 +14,45 @@ const REFUSED: &[(&[u8], &str, u8)] = &[
     (b"end\npat [a]\n", "err error: internal error\n", 1),
 ];
 
+/// Whether the input has this answer, and the run over it ends with the status of this number.
+fn is_refused(alloc: Global, input: &[u8], expected: &str, code: u8) -> Result<bool, AllocError> {
+    is_evaluated(alloc, input.to_vec(alloc)?, expected, code)
+}
+
 #[test]
-fn inputs_are_refused_with_their_cause(rt: HostRuntime) -> Result<(), Fail> {
+fn inputs_are_refused_with_their_cause(rt: HostRuntime) {
     for (input, expected, code) in REFUSED {
-        let input = input.to_vec(rt.alloc())?;
-        let holds = is_evaluated(rt.alloc(), input, expected, *code)?;
+        let holds = is_refused(rt.alloc(), input, expected, *code) == Ok(true);
         assert!(rt; holds, "for {expected}");
     }
-    Ok(())
+}
+
+/// Whether an input of so many bytes, a comment, has this answer and the status of this number.
+fn comment_ends(
+    alloc: Global,
+    length: usize,
+    expected: &str,
+    code: u8,
+) -> Result<bool, AllocError> {
+    is_evaluated(alloc, vec![in alloc; b'#'; length]?, expected, code)
 }
 
 #[test]
-fn an_input_past_the_limit_is_too_long(rt: HostRuntime) -> Result<(), Fail> {
-    let input = vec![in rt.alloc(); b'#'; 8_388_609]?;
-    let holds = is_evaluated(rt.alloc(), input, "input is too long\n", 8)?;
-    assert!(rt; holds);
-    Ok(())
+fn an_input_past_the_limit_is_too_long(rt: HostRuntime) {
+    let at_the_limit = comment_ends(rt.alloc(), 8_388_608, "tables line 2: NoEnd\n", 3);
+    assert_eq!(rt; at_the_limit, Ok(true));
+    let past_it = comment_ends(rt.alloc(), 8_388_609, "input is too long\n", 8);
+    assert_eq!(rt; past_it, Ok(true));
 }
 
-#[test]
-fn no_words_are_answered_with_the_usage(rt: HostRuntime) -> Result<(), Fail> {
-    let alloc = rt.alloc();
+/// Whether no words are answered with the usage.
+fn no_words_end(alloc: Global) -> Result<bool, AllocError> {
     let input = b"end\n".to_vec(alloc)?;
     let none = Vec::new(alloc);
-    assert!(rt; is_answered(alloc, &none, input, "usage: uset COMMAND\n", 2));
-    Ok(())
+    Ok(is_answered(alloc, &none, input, "usage: uset COMMAND\n", 2))
+}
+
+#[test]
+fn no_words_are_answered_with_the_usage(rt: HostRuntime) {
+    assert_eq!(rt; no_words_end(rt.alloc()), Ok(true));
 }

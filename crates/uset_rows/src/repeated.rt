@@ -1,8 +1,7 @@
 //! Sets that are named again and again in one bracket.
-use crate::fixtures::assert_answer;
-use std::alloc::Global;
+use crate::fixtures::have_answer;
+use std::alloc::{AllocError, Global};
 use std::process::Abort;
-use std::test::Fail;
 
 /// The line that binds a set of 32 ranges and a string, which is put off until its bracket closes.
 const LARGE: &str =
@@ -41,30 +40,31 @@ const OTHERS: [(&str, &str); 10] = [
 const COMPLEMENT: &str =
     "0000-00FF 0101 0103 0105 0107 0109 010B 010D 010F 0111 0113 0115 0117 0119 011B 011D 011F 0121 0123 0125 0127 0129 012B 012D 012F 0131 0133 0135 0137 0139 013B 013D 013F-10FFFF";
 
-/// The pattern is read whole, with these members.
-fn assert_denotes(
-    rt: &impl Abort,
-    alloc: Global,
-    pattern: &str,
-    members: &str,
-) -> Result<(), Fail> {
+/// Whether the pattern is read whole, with these members.
+fn denotes(alloc: Global, pattern: &str, members: &str) -> Result<bool, AllocError> {
     let length = pattern.len();
     let lines = format!(in alloc; "{LARGE}\npat {pattern}")?;
     let space = if members.is_empty() { "" } else { " " };
     let answer = format!(in alloc; "bound v\nok {length}{space}{members}\n")?;
-    assert_answer(rt, alloc, &lines, &answer, 0)
+    have_answer(alloc, &lines, &answer, 0)
+}
+
+/// The pattern is read whole, with these members.
+fn assert_denotes(rt: &impl Abort, alloc: Global, pattern: &str, members: &str) {
+    let holds = denotes(alloc, pattern, members) == Ok(true);
+    assert!(rt; holds, "at {pattern}, expected {members}");
 }
 
 #[test]
-fn a_set_that_is_named_again_counts_where_it_stands(rt: HostRuntime) -> Result<(), Fail> {
+fn a_set_that_is_named_again_counts_where_it_stands(rt: HostRuntime) {
     let alloc = rt.alloc();
     for pattern in WHOLE {
-        assert_denotes(&rt, alloc, pattern, MEMBERS)?;
+        assert_denotes(&rt, alloc, pattern, MEMBERS);
     }
     for (pattern, members) in OTHERS {
-        assert_denotes(&rt, alloc, pattern, members)?;
+        assert_denotes(&rt, alloc, pattern, members);
     }
-    assert_denotes(&rt, alloc, "[^$v-$v$v]", COMPLEMENT)
+    assert_denotes(&rt, alloc, "[^$v-$v$v]", COMPLEMENT);
 }
 
 /// Patterns over the set that end with a property which they named before and don't close, each with what is wrong.
@@ -74,13 +74,17 @@ const UNCLOSED: [(&str, &str); 3] = [
     ("[$v[:L:]-[:L:x", "unexpected character 'x'"),
 ];
 
+/// Whether the pattern is refused with these words behind it.
+fn is_unclosed(alloc: Global, pattern: &str, words: &str) -> Result<bool, AllocError> {
+    let lines = format!(in alloc; "{LARGE}\npat {pattern}")?;
+    let answer = format!(in alloc; "bound v\nerr {pattern}← error: {words}\n")?;
+    have_answer(alloc, &lines, &answer, 1)
+}
+
 #[test]
-fn a_property_that_is_named_again_is_closed_as_the_first_time(rt: HostRuntime) -> Result<(), Fail> {
-    let alloc = rt.alloc();
+fn a_property_that_is_named_again_is_closed_as_the_first_time(rt: HostRuntime) {
     for (pattern, words) in UNCLOSED {
-        let lines = format!(in alloc; "{LARGE}\npat {pattern}")?;
-        let answer = format!(in alloc; "bound v\nerr {pattern}← error: {words}\n")?;
-        assert_answer(&rt, alloc, &lines, &answer, 1)?;
+        let holds = is_unclosed(rt.alloc(), pattern, words) == Ok(true);
+        assert!(rt; holds, "at {pattern}, expected {words}");
     }
-    Ok(())
 }
