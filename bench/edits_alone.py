@@ -1,6 +1,6 @@
 #!/usr/bin/env python3
-"""Tries each wrong body of a crate's must-fail edits alone. An edit may hold several, each under a line that says what
-goes wrong; the gate tries them together.
+"""Tries each wrong body of a crate's must-fail edits alone. An edit may hold several, each under a line `# what goes
+wrong`; the gate tries them together.
 
 Usage: bench/edits_alone.py CRATE.. It needs `rt`, works on a copy, and begins with what checks of the crates have kept.
 """
@@ -13,15 +13,13 @@ from pathlib import Path
 
 from measured import TOP, lines_of_crates
 
-TAGS = ("file:", "old:", "new:")
-
 
 def bodies_of(edit):
     """The wrong bodies of an edit, each with its name."""
     bodies, name = [], edit.stem
     for line in edit.read_text(encoding="utf-8").splitlines():
-        if not line.startswith(TAGS):
-            name = line.replace(" ", "_")
+        if line.startswith("# "):
+            name = line.removeprefix("# ").replace(" ", "_")
         elif bodies and bodies[-1][0] == name:
             bodies[-1][1].append(line)
         else:
