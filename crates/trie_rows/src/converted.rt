@@ -1,33 +1,36 @@
 //! Maps that are converted to another type of values.
 use crate::fixtures::map_of;
-use cp_trie::ConvertError;
-use std::test::Fail;
+use cp_trie::{ConvertError, TrieValue};
+use std::alloc::Global;
 
-#[test]
-fn values_convert_one_by_one(rt: HostRuntime) -> Result<(), Fail> {
-    let alloc = rt.alloc();
-    let map = map_of(alloc, &[(0, 0u32), (0x41, 97), (0x5B, 0)], 0)?;
-    let map = map.try_into_converted::<char>(alloc)?;
-    assert_eq!(rt; (map.get32(0x41), map.error_value()), ('a', '\0'));
-    Ok(())
+/// Values at 41 and past the end of a map of another type, or why there is none.
+type Converted<T> = Result<(T, T), ConvertError>;
+
+/// What comes of converting the map whose values begin at these numbers, with this value past the end.
+fn converted<T: TrieValue>(
+    alloc: Global,
+    starts: &[(u32, u32)],
+    error_value: u32,
+) -> Option<Converted<T>> {
+    let map = map_of(alloc, starts, error_value).ok()?;
+    let converted = map.try_into_converted::<T>(alloc);
+    Some(converted.map(|map| (map.get32(0x41), map.error_value())))
 }
 
 #[test]
-fn the_first_value_that_does_not_convert_is_named(rt: HostRuntime) -> Result<(), Fail> {
-    let alloc = rt.alloc();
-    let map = map_of(alloc, &[(0, 0u32), (0x41, 300), (0x5B, 0)], 0)?;
-    let refusal = Some(ConvertError::Value { index: 1 });
-    assert_eq!(rt; map.try_into_converted::<u8>(alloc).err(), refusal);
-    Ok(())
+fn values_convert_one_by_one(rt: HostRuntime) {
+    let values = converted::<char>(rt.alloc(), &[(0, 0), (0x41, 97), (0x5B, 0)], 0);
+    assert_eq!(rt; values, Some(Ok(('a', '\0'))));
 }
 
 #[test]
-fn an_error_value_that_does_not_convert_is_named_behind_the_runs(
-    rt: HostRuntime,
-) -> Result<(), Fail> {
-    let alloc = rt.alloc();
-    let map = map_of(alloc, &[(0, 0u32)], 0xD800)?;
-    let refusal = Some(ConvertError::Value { index: 1 });
-    assert_eq!(rt; map.try_into_converted::<char>(alloc).err(), refusal);
-    Ok(())
+fn the_first_value_that_does_not_convert_is_named(rt: HostRuntime) {
+    let values = converted::<u8>(rt.alloc(), &[(0, 0), (0x41, 300), (0x5B, 0)], 0);
+    assert_eq!(rt; values, Some(Err(ConvertError::Value { index: 1 })));
+}
+
+#[test]
+fn an_error_value_that_does_not_convert_is_named_behind_the_runs(rt: HostRuntime) {
+    let values = converted::<char>(rt.alloc(), &[(0, 0)], 0xD800);
+    assert_eq!(rt; values, Some(Err(ConvertError::Value { index: 1 })));
 }

@@ -1,46 +1,42 @@
 //! How errors show themselves.
 use cp_trie::{ConvertError, TrieError, ValueError};
-use std::alloc::Global;
-use std::fmt;
-use std::process::Abort;
-use std::test::Fail;
+use std::alloc::{AllocError, Global};
 
-/// Asserts that the error shows itself as this name.
-fn assert_shown<E: fmt::Display + Drop>(
-    rt: &impl Abort,
-    alloc: Global,
-    error: E,
-    name: &str,
-) -> Result<(), Fail> {
-    let text = format!(in alloc; "{error}")?;
-    assert_eq!(rt; text.as_str(), name);
-    Ok(())
+/// An error of one of the types.
+#[derive(Clone, Copy)]
+enum Shown {
+    Value(ValueError),
+    Runs(TrieError),
+    Conversion(ConvertError),
 }
 
-#[test]
-fn a_number_that_is_refused_shows_its_name(rt: HostRuntime) -> Result<(), Fail> {
-    assert_shown(&rt, rt.alloc(), ValueError { value: 7 }, "ValueError")
-}
+/// Errors, and the names that they show.
+const SHOWN: &[(Shown, &str)] = &[
+    (Shown::Value(ValueError { value: 7 }), "ValueError"),
+    (Shown::Runs(TrieError::Gap { index: 7 }), "Gap"),
+    (Shown::Runs(TrieError::Order { index: 7 }), "Order"),
+    (Shown::Runs(TrieError::NoMemory), "NoMemory"),
+    (Shown::Conversion(ConvertError::Value { index: 7 }), "Value"),
+    (Shown::Conversion(ConvertError::NoMemory), "NoMemory"),
+];
 
-#[test]
-fn runs_that_are_refused_show_a_name(rt: HostRuntime) -> Result<(), Fail> {
-    for (error, name) in [
-        (TrieError::Gap { index: 7 }, "Gap"),
-        (TrieError::Order { index: 7 }, "Order"),
-        (TrieError::NoMemory, "NoMemory"),
-    ] {
-        assert_shown(&rt, rt.alloc(), error, name)?;
+fn text_of(alloc: Global, shown: Shown) -> Result<String, AllocError> {
+    match shown {
+        Shown::Value(error) => format!(in alloc; "{error}"),
+        Shown::Runs(error) => format!(in alloc; "{error}"),
+        Shown::Conversion(error) => format!(in alloc; "{error}"),
     }
-    Ok(())
+}
+
+/// Whether the error shows this name.
+fn shows(alloc: Global, shown: Shown, name: &str) -> Result<bool, AllocError> {
+    Ok(text_of(alloc, shown)?.as_str() == name)
 }
 
 #[test]
-fn conversions_that_are_refused_show_a_name(rt: HostRuntime) -> Result<(), Fail> {
-    for (error, name) in [
-        (ConvertError::Value { index: 7 }, "Value"),
-        (ConvertError::NoMemory, "NoMemory"),
-    ] {
-        assert_shown(&rt, rt.alloc(), error, name)?;
+fn errors_show_their_names(rt: HostRuntime) {
+    for (shown, name) in SHOWN {
+        let holds = shows(rt.alloc(), *shown, name) == Ok(true);
+        assert!(rt; holds, "{name}");
     }
-    Ok(())
 }

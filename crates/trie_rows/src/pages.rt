@@ -1,9 +1,7 @@
 //! Maps whose boundaries stand at the edges of pages and blocks, and maps with pages that are almost the same.
-use crate::fixtures::{assert_values, first_wrong, map_of, run};
-use cp_trie::{CodePointMapRange, CodePointTrie};
+use crate::fixtures::{first_wrong, first_wrong_of, map_of, run};
+use cp_trie::{CodePointMapRange, CodePointTrie, TrieError};
 use std::alloc::{AllocError, Global};
-use std::process::Abort;
-use std::test::Fail;
 
 /// The first of these places beside which the map has another value than it was made with.
 fn first_wrong_start(map: &CodePointTrie<u32>, starts: &[(u32, u32)]) -> Option<u32> {
@@ -17,11 +15,18 @@ fn first_wrong_start(map: &CodePointTrie<u32>, starts: &[(u32, u32)]) -> Option<
     first_wrong(map, &[(0x10_FFFF, before), (0x11_0000, u32::MAX)])
 }
 
-/// Asserts that a map whose values begin at these numbers has them around these places.
-fn assert_read(rt: &impl Abort, alloc: Global, starts: &[(u32, u32)]) -> Result<(), Fail> {
+/// The same of a map whose values begin at these places.
+fn first_wrong_start_of(alloc: Global, starts: &[(u32, u32)]) -> Result<Option<u32>, TrieError> {
     let map = map_of(alloc, starts, u32::MAX)?;
-    assert_eq!(rt; first_wrong_start(&map, starts), None);
-    Ok(())
+    Ok(first_wrong_start(&map, starts))
+}
+
+/// The same of a list of places, where memory sufficed for it.
+fn first_wrong_start_of_list(
+    alloc: Global,
+    starts: Result<Vec<(u32, u32)>, AllocError>,
+) -> Result<Option<u32>, TrieError> {
+    first_wrong_start_of(alloc, &starts?)
 }
 
 /// The first and the last places of pages and blocks, and those beside them.
@@ -31,21 +36,27 @@ const EDGES: [u32; 19] = [
 ];
 
 #[test]
-fn a_boundary_at_an_edge_of_a_page_or_a_block_is_read(rt: HostRuntime) -> Result<(), Fail> {
+fn a_boundary_at_an_edge_of_a_page_or_a_block_is_read(rt: HostRuntime) {
     for edge in EDGES {
-        assert_read(&rt, rt.alloc(), &[(0, 7), (edge, 9)])?;
+        let wrong = first_wrong_start_of(rt.alloc(), &[(0, 7), (edge, 9)]);
+        assert_eq!(rt; wrong, Ok(None));
     }
-    Ok(())
 }
 
-#[test]
-fn boundaries_at_all_edges_of_pages_and_blocks_are_read(rt: HostRuntime) -> Result<(), Fail> {
-    let mut starts = Vec::new(rt.alloc());
+/// Values that begin at each edge.
+fn starts_at_edges(alloc: Global) -> Result<Vec<(u32, u32)>, AllocError> {
+    let mut starts = Vec::new(alloc);
     starts.push((0, 0))?;
     for (index, edge) in EDGES.iter().enumerate() {
         starts.push((*edge, (index % 3) as u32 + 1))?;
     }
-    assert_read(&rt, rt.alloc(), &starts)
+    Ok(starts)
+}
+
+#[test]
+fn boundaries_at_all_edges_of_pages_and_blocks_are_read(rt: HostRuntime) {
+    let starts = starts_at_edges(rt.alloc());
+    assert_eq!(rt; first_wrong_start_of_list(rt.alloc(), starts), Ok(None));
 }
 
 /// Pages of the values 0 and 1 that have another one at their last place.
@@ -72,11 +83,10 @@ const LAST_VALUES: &[(u32, u32)] = &[
 ];
 
 #[test]
-fn pages_that_differ_in_their_last_value_alone_stay_apart(rt: HostRuntime) -> Result<(), Fail> {
-    assert_read(&rt, rt.alloc(), LAST)?;
-    let map = map_of(rt.alloc(), LAST, u32::MAX)?;
-    assert_values(&rt, &map, LAST_VALUES);
-    Ok(())
+fn pages_that_differ_in_their_last_value_alone_stay_apart(rt: HostRuntime) {
+    assert_eq!(rt; first_wrong_start_of(rt.alloc(), LAST), Ok(None));
+    let wrong = first_wrong_of(rt.alloc(), LAST, u32::MAX, LAST_VALUES);
+    assert_eq!(rt; wrong, Ok(None));
 }
 
 /// Pages of the value 2 that have another one at their first place, the second of them twice.
@@ -91,19 +101,25 @@ const FIRST: &[(u32, u32)] = &[
 ];
 
 #[test]
-fn pages_that_differ_in_their_first_value_alone_stay_apart(rt: HostRuntime) -> Result<(), Fail> {
-    assert_read(&rt, rt.alloc(), FIRST)
+fn pages_that_differ_in_their_first_value_alone_stay_apart(rt: HostRuntime) {
+    assert_eq!(rt; first_wrong_start_of(rt.alloc(), FIRST), Ok(None));
 }
 
-#[test]
-fn equal_pages_and_equal_blocks_are_read_alike(rt: HostRuntime) -> Result<(), Fail> {
-    let mut starts = Vec::new(rt.alloc());
+/// Values that begin alike in each block, where pages are equal too.
+fn starts_of_equal_blocks(alloc: Global) -> Result<Vec<(u32, u32)>, AllocError> {
+    let mut starts = Vec::new(alloc);
     for block in 0..272u32 {
         for (more, value) in [(0, 5), (0x57, 6), (0x80, 7), (0x97, 5)] {
             starts.push(((block * 0x1000).saturating_add(more), value))?;
         }
     }
-    assert_read(&rt, rt.alloc(), &starts)
+    Ok(starts)
+}
+
+#[test]
+fn equal_pages_and_equal_blocks_are_read_alike(rt: HostRuntime) {
+    let starts = starts_of_equal_blocks(rt.alloc());
+    assert_eq!(rt; first_wrong_start_of_list(rt.alloc(), starts), Ok(None));
 }
 
 /// So many runs whose lengths and values are pseudo-random, seven of eight of them short.
@@ -145,12 +161,15 @@ fn right_in_all(map: &CodePointTrie<u32>, runs: &[CodePointMapRange<u32>]) -> u3
     right
 }
 
+/// How many runs there are, and how many numbers of them have the value of their run in their map.
+fn right_in_map(alloc: Global, count: u32) -> Result<(usize, u32), TrieError> {
+    let runs = pseudo_random_runs(alloc, count)?;
+    let map = CodePointTrie::try_from_runs(alloc, runs, u32::MAX)?;
+    let runs = pseudo_random_runs(alloc, count)?;
+    Ok((runs.len(), right_in_all(&map, &runs)))
+}
+
 #[test]
-fn each_code_point_has_the_value_of_its_run(rt: HostRuntime) -> Result<(), Fail> {
-    let runs = pseudo_random_runs(rt.alloc(), 5_000)?;
-    let map = CodePointTrie::try_from_runs(rt.alloc(), runs, u32::MAX)?;
-    let runs = pseudo_random_runs(rt.alloc(), 5_000)?;
-    let found = (runs.len(), right_in_all(&map, &runs));
-    assert_eq!(rt; found, (5_000, 0x11_0000));
-    Ok(())
+fn each_code_point_has_the_value_of_its_run(rt: HostRuntime) {
+    assert_eq!(rt; right_in_map(rt.alloc(), 5_000), Ok((5_000, 0x11_0000)));
 }

@@ -1,9 +1,7 @@
 //! Runs that make no map, and the maximal runs of maps.
 use crate::fixtures::{map_of, run};
-use cp_trie::{CodePointTrie, TrieError};
+use cp_trie::{CodePointMapRange, CodePointTrie, TrieError};
 use std::alloc::{AllocError, Global};
-use std::process::Abort;
-use std::test::Fail;
 
 /// Runs, and their first fault.
 type Faulty = (&'static [(u32, u32)], TrieError);
@@ -27,46 +25,47 @@ fn fault_of(alloc: Global, ends: &[(u32, u32)]) -> Result<Option<TrieError>, All
 }
 
 #[test]
-fn runs_that_do_not_cover_are_refused(rt: HostRuntime) -> Result<(), Fail> {
+fn runs_that_do_not_cover_are_refused(rt: HostRuntime) {
     for (index, (runs, fault)) in FAULTY.iter().enumerate() {
-        assert_eq!(rt; fault_of(rt.alloc(), runs)?, Some(*fault), "at {index}");
+        assert_eq!(rt; fault_of(rt.alloc(), runs), Ok(Some(*fault)), "at {index}");
     }
-    Ok(())
 }
 
-fn assert_maximal(rt: &impl Abort, map: &CodePointTrie<u16>) {
+/// The ends and the values of four steps of a walk.
+type Walk<T> = [Option<CodePointMapRange<T>>; 4];
+
+/// A walk over the runs of a map.
+fn walk(alloc: Global) -> Result<Walk<u16>, TrieError> {
+    let map = map_of(alloc, &[(0, 0), (0x41, 1), (0x51, 1), (0x5B, 0)], 0)?;
     let mut walk = map.iter_ranges();
-    for expected in [
+    Ok([walk.next(), walk.next(), walk.next(), walk.next()])
+}
+
+#[test]
+fn runs_are_maximal(rt: HostRuntime) {
+    let expected = [
         Some(run(0, 0x40, 0)),
         Some(run(0x41, 0x5A, 1)),
         Some(run(0x5B, 0x10_FFFF, 0)),
         None,
-    ] {
-        assert_eq!(rt; walk.next(), expected);
-    }
+    ];
+    assert_eq!(rt; walk(rt.alloc()), Ok(expected));
+}
+
+/// A walk over the mapped runs of a map.
+fn mapped_walk(alloc: Global) -> Result<Walk<bool>, TrieError> {
+    let map = map_of(alloc, &[(0, 'a'), (0x30, 'b'), (0x3A, '!')], '!')?;
+    let mut walk = map.iter_ranges_mapped(|c| c >= 'a');
+    Ok([walk.next(), walk.next(), walk.next(), walk.next()])
 }
 
 #[test]
-fn runs_are_maximal(rt: HostRuntime) -> Result<(), Fail> {
-    let starts = [(0, 0), (0x41, 1), (0x51, 1), (0x5B, 0)];
-    assert_maximal(&rt, &map_of(rt.alloc(), &starts, 0)?);
-    Ok(())
-}
-
-fn assert_mapped(rt: &impl Abort, map: &CodePointTrie<char>) {
-    let mut walk = map.iter_ranges_mapped(|c| c >= 'a');
-    for expected in [
+fn mapped_runs_are_joined(rt: HostRuntime) {
+    let expected = [
         Some(run(0, 0x39, true)),
         Some(run(0x3A, 0x10_FFFF, false)),
         None,
-    ] {
-        assert_eq!(rt; walk.next(), expected);
-    }
-}
-
-#[test]
-fn mapped_runs_are_joined(rt: HostRuntime) -> Result<(), Fail> {
-    let starts = [(0, 'a'), (0x30, 'b'), (0x3A, '!')];
-    assert_mapped(&rt, &map_of(rt.alloc(), &starts, '!')?);
-    Ok(())
+        None,
+    ];
+    assert_eq!(rt; mapped_walk(rt.alloc()), Ok(expected));
 }

@@ -1,9 +1,7 @@
 //! What maps answer at numbers, and which numbers have a value.
-use crate::fixtures::{assert_values, map_of};
-use cp_trie::CodePointTrie;
+use crate::fixtures::{first_wrong, first_wrong_of, map_of};
+use cp_trie::{CodePointTrie, TrieError};
 use std::alloc::Global;
-use std::process::Abort;
-use std::test::Fail;
 
 /// The letters from 41 to 5A have the value 1, and all others 0.
 const LETTERS: &[(u32, u8)] = &[(0, 0), (0x41, 1), (0x5B, 0)];
@@ -19,44 +17,61 @@ const VALUES: &[(u32, u8)] = &[
 ];
 
 #[test]
-fn values_are_read(rt: HostRuntime) -> Result<(), Fail> {
-    let map = map_of(rt.alloc(), LETTERS, 0)?;
-    assert_values(&rt, &map, VALUES);
-    assert_eq!(rt; (map.get('@'), map.get('A')), (0, 1));
-    Ok(())
+fn values_are_read(rt: HostRuntime) {
+    assert_eq!(rt; first_wrong_of(rt.alloc(), LETTERS, 0, VALUES), Ok(None));
+}
+
+/// The values of two characters.
+fn values_of_characters(alloc: Global) -> Result<(u8, u8), TrieError> {
+    let map = map_of(alloc, LETTERS, 0)?;
+    Ok((map.get('@'), map.get('A')))
 }
 
 #[test]
-fn a_copy_answers_alike(rt: HostRuntime) -> Result<(), Fail> {
-    let copy = map_of(rt.alloc(), LETTERS, 0)?.copy(rt.alloc())?;
-    assert_values(&rt, &copy, VALUES);
-    Ok(())
+fn a_character_has_the_value_of_its_number(rt: HostRuntime) {
+    assert_eq!(rt; values_of_characters(rt.alloc()), Ok((0, 1)));
+}
+
+/// The first number at which the copy of a map has another value.
+fn first_wrong_of_copy(alloc: Global) -> Option<Option<u32>> {
+    let map = map_of(alloc, LETTERS, 0).ok()?;
+    let copy = map.copy(alloc).ok()?;
+    Some(first_wrong(&copy, VALUES))
 }
 
 #[test]
-fn past_the_last_code_point_stands_the_error_value(rt: HostRuntime) -> Result<(), Fail> {
-    let map = map_of(rt.alloc(), &[(0, 'a')], 'z')?;
-    assert_values(&rt, &map, &[(0x10_FFFF, 'a'), (0x11_0000, 'z')]);
-    assert_eq!(rt; map.error_value(), 'z');
-    Ok(())
+fn a_copy_answers_alike(rt: HostRuntime) {
+    assert_eq!(rt; first_wrong_of_copy(rt.alloc()), Some(None));
 }
 
-/// Asserts the inversion list of the numbers that have the value.
-fn assert_set(
-    rt: &impl Abort,
-    alloc: Global,
-    map: &CodePointTrie<u8>,
-    value: u8,
-    list: &[u32],
-) -> Result<(), Fail> {
-    let set = map.get_set_for_value(alloc, value)?;
-    assert_eq!(rt; set.get_inversion_list(), list);
-    Ok(())
+/// The value at the last code point, at the number behind it, and past the end.
+fn last_values(alloc: Global) -> Result<[char; 3], TrieError> {
+    let map = map_of(alloc, &[(0, 'a')], 'z')?;
+    Ok([
+        map.get32(0x10_FFFF),
+        map.get32(0x11_0000),
+        map.error_value(),
+    ])
 }
 
 #[test]
-fn the_set_of_a_value_has_each_of_its_runs(rt: HostRuntime) -> Result<(), Fail> {
-    let map = map_of(rt.alloc(), LETTERS, 0)?;
-    assert_set(&rt, rt.alloc(), &map, 0, &[0, 0x41, 0x5B, 0x11_0000])?;
-    assert_set(&rt, rt.alloc(), &map, 2, &[])
+fn past_the_last_code_point_stands_the_error_value(rt: HostRuntime) {
+    assert_eq!(rt; last_values(rt.alloc()), Ok(['a', 'z', 'z']));
+}
+
+/// Whether the numbers that have the value are those of the inversion list.
+fn has_set(alloc: Global, map: &CodePointTrie<u8>, value: u8, list: &[u32]) -> bool {
+    let set = map.get_set_for_value(alloc, value);
+    set.is_ok_and(|set| set.get_inversion_list() == list)
+}
+
+/// Whether a value, and one that no number has, have their sets.
+fn have_sets(alloc: Global) -> Result<bool, TrieError> {
+    let map = map_of(alloc, LETTERS, 0)?;
+    Ok(has_set(alloc, &map, 0, &[0, 0x41, 0x5B, 0x11_0000]) && has_set(alloc, &map, 2, &[]))
+}
+
+#[test]
+fn the_set_of_a_value_has_each_of_its_runs(rt: HostRuntime) {
+    assert_eq!(rt; have_sets(rt.alloc()), Ok(true));
 }
