@@ -3,9 +3,10 @@ use crate::fixtures::{
     TABLES, assert_fault, assert_faults, assert_read, assert_unexpected, is_evaluated, is_refused,
 };
 use std::alloc::{AllocError, Global};
+use std::process::Abort;
 
 /// Patterns that end where more is due.
-const ENDS: [&str; 34] = [
+const ENDS: &[&str] = &[
     "",
     "$",
     "[",
@@ -43,7 +44,7 @@ const ENDS: [&str; 34] = [
 ];
 
 /// Patterns with a character that cannot stand there, the last one of the front.
-const UNEXPECTED: [(&str, &str); 43] = [
+const UNEXPECTED: &[(&str, &str)] = &[
     ("[a^]", "[a^"),
     ("[a-[b^]]", "[a-[b^"),
     ("[a-[b]]", "[a-["),
@@ -90,7 +91,7 @@ const UNEXPECTED: [(&str, &str); 43] = [
 ];
 
 /// Patterns with their fronts and the words of their faults.
-const OTHERS: [(&str, &str, &str); 15] = [
+const OTHERS: &[(&str, &str, &str)] = &[
     ("[a-\\u{41 42}]", "[a-\\", "unexpected character '\\\\'"),
     ("[a-\\u{41 4", "[a-\\", "unexpected character '\\\\'"),
     (
@@ -121,7 +122,7 @@ const OTHERS: [(&str, &str, &str); 15] = [
 ];
 
 /// Patterns with an escape that is no code point, or no character in a string.
-const INVALID: [(&str, &str); 12] = [
+const INVALID: &[(&str, &str)] = &[
     ("[\\x{dabeef}]", "[\\x{dabeef"),
     ("[\\x{11ffff}]", "[\\x{11ffff"),
     ("[\\x{11ffff", "[\\x{11ffff"),
@@ -137,7 +138,7 @@ const INVALID: [(&str, &str); 12] = [
 ];
 
 /// Patterns with a variable that is bound to nothing.
-const UNKNOWN: [(&str, &str); 9] = [
+const UNKNOWN: &[(&str, &str)] = &[
     ("[$zz]", "[$zz"),
     ("[$zz", "[$zz"),
     ("$zz", "$zz"),
@@ -150,7 +151,7 @@ const UNKNOWN: [(&str, &str); 9] = [
 ];
 
 /// Patterns with a variable that cannot stand there.
-const UNFIT: [(&str, &str); 12] = [
+const UNFIT: &[(&str, &str)] = &[
     ("[$$a]", "[$$a"),
     ("$a", "$a"),
     ("$v", "$v"),
@@ -165,19 +166,29 @@ const UNFIT: [(&str, &str); 12] = [
     ("[--$a]", "[--$a"),
 ];
 
+/// Each pattern is answered with its end as its fault.
+fn assert_ends(rt: &impl Abort, alloc: Global, patterns: &[&str]) {
+    for pattern in patterns {
+        assert_fault(rt, alloc, pattern, pattern, "unexpected end of input");
+    }
+}
+
+/// Each pattern is refused with the words behind the front beside it.
+fn assert_others(rt: &impl Abort, alloc: Global, rows: &[(&str, &str, &str)]) {
+    for (pattern, front, words) in rows {
+        assert_fault(rt, alloc, pattern, front, words);
+    }
+}
+
 #[test]
 fn faults_stand_at_their_places(rt: HostRuntime) {
     let alloc = rt.alloc();
-    for pattern in ENDS {
-        assert_fault(&rt, alloc, pattern, pattern, "unexpected end of input");
-    }
-    for (pattern, front, words) in OTHERS {
-        assert_fault(&rt, alloc, pattern, front, words);
-    }
-    assert_unexpected(&rt, alloc, UNEXPECTED.as_slice());
-    assert_faults(&rt, alloc, INVALID.as_slice(), "invalid escape sequence");
-    assert_faults(&rt, alloc, UNKNOWN.as_slice(), "unknown variable");
-    assert_faults(&rt, alloc, UNFIT.as_slice(), "unexpected variable");
+    assert_ends(&rt, alloc, ENDS);
+    assert_others(&rt, alloc, OTHERS);
+    assert_unexpected(&rt, alloc, UNEXPECTED);
+    assert_faults(&rt, alloc, INVALID, "invalid escape sequence");
+    assert_faults(&rt, alloc, UNKNOWN, "unknown variable");
+    assert_faults(&rt, alloc, UNFIT, "unexpected variable");
 }
 
 /// A pattern of one string in a complement.

@@ -35,38 +35,44 @@ fn assert_answered(rt: &impl Abort, alloc: Global, words: &[&str], expected: &st
     assert!(rt; holds, "for {words:?}, expected {expected}");
 }
 
+/// Numbers, and the sizes of their patterns' sets.
+const SMALL: &[(&str, &str)] = &[
+    // The pattern is `[[\u{c67ea}-\u{c67ea}]]`.
+    ("1", "bytes 23\nranges 1\npoints 1\n"),
+    // 8CCD1 alone, and 214B5 to 214B6.
+    ("2", "bytes 44\nranges 2\npoints 3\n"),
+];
+
 #[test]
 fn small_patterns_are_measured(rt: HostRuntime) {
-    for (number, expected) in [
-        // The pattern is `[[\u{c67ea}-\u{c67ea}]]`.
-        ("1", "bytes 23\nranges 1\npoints 1\n"),
-        // 8CCD1 alone, and 214B5 to 214B6.
-        ("2", "bytes 44\nranges 2\npoints 3\n"),
-    ] {
+    for (number, expected) in SMALL {
         assert_answered(&rt, rt.alloc(), &["gen", number], expected, 0);
     }
 }
 
+/// Words that are no known list.
+const UNKNOWN: &[&[&str]] = &[
+    &["gen", "0"],
+    &["gen", "01"],
+    &["gen", "10001"],
+    &["gen", "100000"],
+    &["gen", "+1"],
+    &["gen", "1a"],
+    &["gen", ""],
+    &["gen"],
+    &["gen", "1", "2"],
+    &["tables", "1"],
+];
+
 #[test]
 fn words_that_are_no_known_list_are_answered_with_the_usage(rt: HostRuntime) {
-    for words in [
-        ["gen", "0"].as_slice(),
-        ["gen", "01"].as_slice(),
-        ["gen", "10001"].as_slice(),
-        ["gen", "100000"].as_slice(),
-        ["gen", "+1"].as_slice(),
-        ["gen", "1a"].as_slice(),
-        ["gen", ""].as_slice(),
-        ["gen"].as_slice(),
-        ["gen", "1", "2"].as_slice(),
-        ["tables", "1"].as_slice(),
-    ] {
+    for words in UNKNOWN {
         assert_answered(&rt, rt.alloc(), words, "usage: uset COMMAND\n", 2);
     }
 }
 
 /// Inputs without the tables of the pattern syntax or with a fault, each with its answer and the number of its status.
-const REFUSED: [(&str, &str, u8); 2] = [
+const REFUSED: &[(&str, &str, u8)] = &[
     ("end\n", "err error: internal error\n", 1),
     ("end\npat [a]\n", "tables line 2: UnknownLine\n", 3),
 ];
@@ -74,7 +80,7 @@ const REFUSED: [(&str, &str, u8); 2] = [
 #[test]
 fn a_table_is_absent_or_has_a_fault(rt: HostRuntime) {
     for (input, expected, code) in REFUSED {
-        let holds = ends(rt.alloc(), &["gen", "1"], input, expected, code) == Ok(true);
+        let holds = ends(rt.alloc(), &["gen", "1"], input, expected, *code) == Ok(true);
         assert!(rt; holds, "for {expected}");
     }
 }

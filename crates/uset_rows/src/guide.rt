@@ -7,7 +7,7 @@ const TABLES: &str =
     "set XID_Start\n41-5A\n61-7A\nset XID_Continue\n30-39\n41-5A\n5F\n61-7A\nset Pattern_White_Space\n9-D\n20\n85\n200E-200F\n2028-2029\nset ASCII_Hex_Digit\n30-39\n41-46\n61-66\nmap General_Category 0\n30-39 9\n41-5A 1\n61-7A 2\nD800-DFFF 18\nnames General_Category_Mask\n1 Lu\n1 Uppercase_Letter\n2 Ll\n2 Lowercase_Letter\n9 Nd\n9 Decimal_Number\n65534 L\n65534 Letter\nmap Script 103\n41-5A 25\n61-7A 25\n3041-3096 20\n30A1-30FA 22\n30FC 0\nnames Script\n25 Latn\n25 Latin\n20 Hira\n20 Hiragana\n22 Kana\n22 Katakana\n0 Zyyy\n0 Common\nscx 103\n41-5A 25\n61-7A 25\n3041-3096 20\n30A1-30FA 22\n30FC 1024\next 0\n20\n22\nmap Canonical_Combining_Class 0\n300-314 230\nnames Canonical_Combining_Class\n230 A\n230 Above\nmap Block 0\n0-7F 1\nnames Block\n1 ASCII\n1 Basic_Latin\nmap East_Asian_Width 0\n3041-3096 5\nnames East_Asian_Width\n5 W\n5 Wide\nmap Line_Break 0\n20 26\nnames Line_Break\n26 SP\n26 Space\nmap Grapheme_Cluster_Break 0\nD 2\nnames Grapheme_Cluster_Break\n2 CR\nmap Word_Break 0\n30-39 6\nnames Word_Break\n6 NU\n6 Numeric\nmap Sentence_Break 0\n61-7A 4\nnames Sentence_Break\n4 LO\n4 Lower\nmap Indic_Conjunct_Break 0\n94D 3\nnames Indic_Conjunct_Break\n3 Linker\nend\n";
 
 /// Each line of the script and its answer, in the order of the document.
-const EXAMPLES: [(&str, &str); 72] = [
+const EXAMPLES: &[(&str, &str)] = &[
     // Brackets
     ("pat []", "ok 2"),
     ("pat [a-z0]", "ok 6 0030 0061-007A"),
@@ -118,7 +118,7 @@ const EXAMPLES: [(&str, &str); 72] = [
 fn script_and_answers(alloc: Global) -> Result<(String, String), AllocError> {
     let mut script = String::from_str(alloc, TABLES)?;
     let mut answers = String::new(alloc);
-    for (line, answer) in &EXAMPLES {
+    for (line, answer) in EXAMPLES {
         push_line(&mut script, line)?;
         push_line(&mut answers, answer)?;
     }

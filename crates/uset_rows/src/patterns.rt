@@ -3,7 +3,7 @@ use crate::fixtures::{TABLES, assert_answers, assert_read, is_evaluated};
 use std::alloc::{AllocError, Global};
 
 /// Characters, ranges, escapes, hyphens and dollar signs.
-const CODE_POINTS: [(&str, &str); 25] = [
+const CODE_POINTS: &[(&str, &str)] = &[
     ("[a-z0]", "6 0030 0061-007A"),
     ("[a-b-] x", "6 002D 0061-0062"),
     ("[ - a]", "6 002D 0061"),
@@ -35,7 +35,7 @@ const CODE_POINTS: [(&str, &str); 25] = [
 ];
 
 /// Sets inside a set.
-const SETS: [(&str, &str); 15] = [
+const SETS: &[(&str, &str)] = &[
     ("[$a$ ]", "6 0061 FFFF"),
     ("[[a-a][b-z] - [a-d][e-z]]", "25 0065-007A"),
     ("[[a-a][b-z] - [a-z][]]", "22"),
@@ -54,7 +54,7 @@ const SETS: [(&str, &str); 15] = [
 ];
 
 /// Strings.
-const STRINGS: [(&str, &str); 17] = [
+const STRINGS: &[(&str, &str)] = &[
     ("[a-z\\]{[}] []", "10 005B 005D 0061-007A"),
     (
         "[[a-z{abc}]&[b-z{abc}{abx}]]",
@@ -79,19 +79,21 @@ const STRINGS: [(&str, &str); 17] = [
 
 #[test]
 fn patterns_are_answered_with_their_ranges_and_strings(rt: HostRuntime) {
-    for rows in [CODE_POINTS.as_slice(), SETS.as_slice(), STRINGS.as_slice()] {
-        assert_read(&rt, rt.alloc(), rows);
-    }
+    assert_read(&rt, rt.alloc(), CODE_POINTS);
+    assert_read(&rt, rt.alloc(), SETS);
+    assert_read(&rt, rt.alloc(), STRINGS);
 }
+
+/// Lines without an answer, and other ends of lines.
+const LINES: &[(&str, &str)] = &[
+    ("# a comment", ""),
+    ("", ""),
+    ("\n#\npat [b]\r\n\r\npat [a]", "ok 3 0062\nok 3 0061\n"),
+];
 
 #[test]
 fn lines_without_an_answer_and_other_ends_of_lines_are_read(rt: HostRuntime) {
-    let rows = [
-        ("# a comment", ""),
-        ("", ""),
-        ("\n#\npat [b]\r\n\r\npat [a]", "ok 3 0062\nok 3 0061\n"),
-    ];
-    assert_answers(&rt, rt.alloc(), &rows, 0);
+    assert_answers(&rt, rt.alloc(), LINES, 0);
 }
 
 /// Whether ten thousand patterns are answered one after another.

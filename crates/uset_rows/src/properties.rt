@@ -4,7 +4,7 @@ use crate::run_in_memory;
 use std::alloc::{AllocError, Global};
 
 /// Binary properties, in words and under a caret, a `P` and an unequal sign.
-const READ: [(&str, &str); 29] = [
+const READ: &[(&str, &str)] = &[
     ("[:AHex:]", "8 0030-0039 0041-0046 0061-0066"),
     ("[:ASCII_Hex_Digit:]", "19 0030-0039 0041-0046 0061-0066"),
     ("\\p{AHex}}", "8 0030-0039 0041-0046 0061-0066"),
@@ -58,7 +58,7 @@ const READ: [(&str, &str); 29] = [
 ];
 
 /// Groups of general categories, by their names written loosely, alone and behind their key.
-const GROUPS: [(&str, &str); 16] = [
+const GROUPS: &[(&str, &str)] = &[
     ("[:lower case letter:]", "21 0061-007A"),
     ("[:gc=lower-case-letter:]", "24 0061-007A"),
     ("[:Lu:]", "6 0041-005A"),
@@ -81,7 +81,7 @@ const GROUPS: [(&str, &str); 16] = [
 ];
 
 /// Scripts, alone and behind their key, and scripts among the script extensions.
-const SCRIPTS: [(&str, &str); 12] = [
+const SCRIPTS: &[(&str, &str)] = &[
     ("[:Latn:]", "8 0041-005A 0061-007A"),
     ("[:script=LATIN:]", "16 0041-005A 0061-007A"),
     ("[:sc=Zyyy:]", "11 30FC"),
@@ -97,7 +97,7 @@ const SCRIPTS: [(&str, &str); 12] = [
 ];
 
 /// Combining classes, by their names and by decimal numbers.
-const CLASSES: [(&str, &str); 8] = [
+const CLASSES: &[(&str, &str)] = &[
     ("[:ccc=+230:]", "12 0300-0314"),
     ("[:ccc=above:]", "13 0300-0314"),
     ("[:ccc=A:]", "9 0300-0314"),
@@ -109,7 +109,7 @@ const CLASSES: [(&str, &str); 8] = [
 ];
 
 /// Properties that end where more is due.
-const ENDS: [(&str, &str); 17] = [
+const ENDS: &[(&str, &str)] = &[
     ("[:AHex", "[:AHex"),
     ("[:AHex:", "[:AHex:"),
     ("[:", "[:"),
@@ -130,7 +130,7 @@ const ENDS: [(&str, &str); 17] = [
 ];
 
 /// Properties that resolve to nothing.
-const UNKNOWN: [(&str, &str); 36] = [
+const UNKNOWN: &[(&str, &str)] = &[
     ("[:ccc=++230:]", "[:ccc=++230"),
     ("[:ccc=-230:]", "[:ccc=-230"),
     ("[:ccc=+:]", "[:ccc=+"),
@@ -170,7 +170,7 @@ const UNKNOWN: [(&str, &str); 36] = [
 ];
 
 /// Values of Block, whose names no table has.
-const LACKING: [(&str, &str); 6] = [
+const LACKING: &[(&str, &str)] = &[
     ("[:blk=ASCII:]", "[:blk=ASCII"),
     ("[:Block=1:]", "[:Block=1"),
     ("[:b_L_k=x:y", "[:b_L_k=x"),
@@ -180,7 +180,7 @@ const LACKING: [(&str, &str); 6] = [
 ];
 
 /// Properties with a character that cannot stand there, the last one of the front.
-const UNEXPECTED: [(&str, &str); 25] = [
+const UNEXPECTED: &[(&str, &str)] = &[
     ("[:]", "[:]"),
     ("[:L]", "[:L]"),
     ("[:=", "[:="),
@@ -209,7 +209,7 @@ const UNEXPECTED: [(&str, &str); 25] = [
 ];
 
 /// Properties that cannot stand there.
-const UNFIT: [(&str, &str); 4] = [
+const UNFIT: &[(&str, &str)] = &[
     ("[a-\\p{ll}]", "[a-\\"),
     ("[a-\\p{AHex}]", "[a-\\"),
     ("[a-\\P{AHex}x", "[a-\\"),
@@ -219,19 +219,19 @@ const UNFIT: [(&str, &str); 4] = [
 #[test]
 fn properties_are_answered_with_their_ranges_or_faults(rt: HostRuntime) {
     let alloc = rt.alloc();
-    assert_read(&rt, alloc, READ.as_slice());
-    assert_read(&rt, alloc, GROUPS.as_slice());
-    assert_read(&rt, alloc, SCRIPTS.as_slice());
-    assert_read(&rt, alloc, CLASSES.as_slice());
-    assert_faults(&rt, alloc, ENDS.as_slice(), "unexpected end of input");
-    assert_faults(&rt, alloc, UNKNOWN.as_slice(), "unknown property");
-    assert_faults(&rt, alloc, LACKING.as_slice(), "internal error");
-    assert_unexpected(&rt, alloc, UNEXPECTED.as_slice());
-    assert_faults(&rt, alloc, UNFIT.as_slice(), "unexpected character '\\\\'");
+    assert_read(&rt, alloc, READ);
+    assert_read(&rt, alloc, GROUPS);
+    assert_read(&rt, alloc, SCRIPTS);
+    assert_read(&rt, alloc, CLASSES);
+    assert_faults(&rt, alloc, ENDS, "unexpected end of input");
+    assert_faults(&rt, alloc, UNKNOWN, "unknown property");
+    assert_faults(&rt, alloc, LACKING, "internal error");
+    assert_unexpected(&rt, alloc, UNEXPECTED);
+    assert_faults(&rt, alloc, UNFIT, "unexpected character '\\\\'");
 }
 
 /// Tables in which some of what a property may ask is there, with a pattern and its answer.
-const PARTIAL: [(&str, &str, &str); 9] = [
+const PARTIAL: &[(&str, &str, &str)] = &[
     // A group without categories hides the script of its name.
     (
         "map General_Category 0\nnames General_Category_Mask\n100 Latn\nmap Script 103\n61 25\nnames Script\n25 Latn\n",

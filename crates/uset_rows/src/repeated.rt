@@ -12,7 +12,7 @@ const MEMBERS: &str =
     "0100 0102 0104 0106 0108 010A 010C 010E 0110 0112 0114 0116 0118 011A 011C 011E 0120 0122 0124 0126 0128 012A 012C 012E 0130 0132 0134 0136 0138 013A 013C 013E {0078_0079}";
 
 /// Patterns that denote the set.
-const WHOLE: [&str; 7] = [
+const WHOLE: &[&str] = &[
     "[$v$v]",
     "[$v-$v$v]",
     "[$v-[\\u0100\\u0104]$v]",
@@ -23,7 +23,7 @@ const WHOLE: [&str; 7] = [
 ];
 
 /// Patterns over the set, each with the members that it denotes.
-const OTHERS: [(&str, &str); 10] = [
+const OTHERS: &[(&str, &str)] = &[
     ("[$v-$v]", ""),
     ("[$v&$v-$v]", ""),
     ("[$v-[\\u0100]-$v[\\u0102]]", "0102"),
@@ -57,18 +57,17 @@ fn assert_denotes(rt: &impl Abort, alloc: Global, pattern: &str, members: &str) 
 
 #[test]
 fn a_set_that_is_named_again_counts_where_it_stands(rt: HostRuntime) {
-    let alloc = rt.alloc();
     for pattern in WHOLE {
-        assert_denotes(&rt, alloc, pattern, MEMBERS);
+        assert_denotes(&rt, rt.alloc(), pattern, MEMBERS);
     }
     for (pattern, members) in OTHERS {
-        assert_denotes(&rt, alloc, pattern, members);
+        assert_denotes(&rt, rt.alloc(), pattern, members);
     }
-    assert_denotes(&rt, alloc, "[^$v-$v$v]", COMPLEMENT);
+    assert_denotes(&rt, rt.alloc(), "[^$v-$v$v]", COMPLEMENT);
 }
 
 /// Patterns over the set that end with a property which they named before and don't close, each with what is wrong.
-const UNCLOSED: [(&str, &str); 3] = [
+const UNCLOSED: &[(&str, &str)] = &[
     ("[$v\\p{L}\\p{L", "unexpected end of input"),
     ("[$v[:L:][:L:", "unexpected end of input"),
     ("[$v[:L:]-[:L:x", "unexpected character 'x'"),

@@ -3,7 +3,7 @@ use crate::fixtures::{assert_answers, have_answer};
 use std::alloc::{AllocError, Global};
 
 /// Scripts whose every line is answered.
-const BOUND: [(&str, &str); 14] = [
+const BOUND: &[(&str, &str)] = &[
     ("let a char 61\npat [$a]", "bound a\nok 4 0061\n"),
     ("let a char 000061\npat [$a-c]", "bound a\nok 6 0061-0063\n"),
     ("let a char 10FFFF\npat [$a]", "bound a\nok 4 10FFFF\n"),
@@ -45,7 +45,7 @@ const BOUND: [(&str, &str); 14] = [
 ];
 
 /// Scripts with refused lines, which bind nothing.
-const REFUSED: [(&str, &str); 9] = [
+const REFUSED: &[(&str, &str)] = &[
     (
         "let a char 61\nlet set set [a-z {Hello,\\ World!}]\npat [$set-[b-z]]\npat [$a-$set]",
         "bound a\nbound set\nok 12 0061 {0048_0065_006C_006C_006F_002C_0020_0057_006F_0072_006C_0064_0021}\nerr [$a-$set← error: unexpected variable\n",
@@ -79,7 +79,7 @@ const REFUSED: [(&str, &str); 9] = [
 ];
 
 /// Lines that have no form.
-const BAD: [&str; 47] = [
+const BAD: &[&str] = &[
     "let",
     "let ",
     "let a",
@@ -138,8 +138,8 @@ fn is_bad(alloc: Global, line: &str) -> Result<bool, AllocError> {
 
 #[test]
 fn names_are_bound_once_by_lines_of_their_form(rt: HostRuntime) {
-    assert_answers(&rt, rt.alloc(), BOUND.as_slice(), 0);
-    assert_answers(&rt, rt.alloc(), REFUSED.as_slice(), 1);
+    assert_answers(&rt, rt.alloc(), BOUND, 0);
+    assert_answers(&rt, rt.alloc(), REFUSED, 1);
     for line in BAD {
         let holds = is_bad(rt.alloc(), line) == Ok(true);
         assert!(rt; holds, "at {line}");
