@@ -1,5 +1,5 @@
 use Rattle.trie_rows.proofs.steps.looked_up.Given as goal
 
 -- the steps count in the blank ledger that is made here
-abbrev pub ghosts-look_up_both : goal.ghosts-assert_looked_up
+abbrev pub ghosts-look_up_both : goal.ghosts-look_up_both
 ghosts-look_up_both g a = record { name = a.blank.name; parts = a.blank.parts }
