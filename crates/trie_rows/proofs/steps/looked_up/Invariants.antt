@@ -2,4 +2,4 @@ use Rattle.trie_rows.proofs.steps.looked_up.Given as goal
 
 -- the steps count in the blank ledger that is made here
 abbrev pub ghosts-look_up_both : goal.ghosts-look_up_both
-ghosts-look_up_both g a = record { name = a.blank.name; parts = a.blank.parts }
+ghosts-look_up_both a = record { name = a.blank.name; parts = a.blank.parts }
