@@ -1,5 +1,5 @@
 -- Where page tables lead.
-use Rattle.std.proofs.Common.{◌≡◌, ℕ, zero, suc, ◌+◌, ◌*◌, ◌-◌, ◌/◌, ◌%◌, ◌<◌, ◌≤◌, Option, Some, List, [], ◌∷◌, ◌++◌, length, take, drop, replicate, get_or, refl, sym, ap, subst, ◌∙◌, inl, inr, arith, length-append}
+use Rattle.std.proofs.Common.{◌≡◌, ℕ, zero, suc, ◌+◌, ◌*◌, ◌-◌, ◌/◌, ◌%◌, ◌<◌, ◌≤◌, Option, Some, List, [], ◌∷◌, ◌++◌, length, take, drop, replicate, get_or, refl, sym, ap, subst, ◌∙◌, append_assoc, inl, inr, arith, length-append}
 use Rattle.std.specs.Prelude.{option_and_then, option_map}
 use Rattle.std.specs.List.{slice_get}
 use Rattle.std.proofs.lemmas.Bool.{cases_lt}
@@ -77,6 +77,13 @@ room_for {V} front rs i r cover within read all =
     let counted : length front + (size + length (values_of (drop (i + 1) rs))) ≡ length (values_of rs) =
     omega (arith, length-append front (values_of (drop i rs)), ap length all, ap (λ (l : List (CodePointMapRange V)). length (values_of l)) left, length-append (replicate size r.value) (values_of (drop (i + 1) rs)), length-replicate size r.value) in
     (omega (arith, here.0, here.1), omega (arith, length-values_of 0 rs cover))
+
+-- where values stand in front of those of the runs from one on, those of that run go to the front
+pub values_of-next : {V : Type 0} (front more : List V) (rs : List (CodePointMapRange V)) (i : ℕ) (r : CodePointMapRange V) → i < length rs → r ≡ get_or rs i r → front ++ values_of (drop i rs) ≡ values_of rs → more ≡ front ++ replicate (r.range.end - r.range.start + 1) r.value → more ++ values_of (drop (i + 1) rs) ≡ values_of rs
+values_of-next front more rs i r within read all taken =
+    ap (λ l. l ++ values_of (drop (i + 1) rs)) taken
+    ∙ (append_assoc front (replicate (r.range.end - r.range.start + 1) r.value) (values_of (drop (i + 1) rs))
+    ∙ (ap (λ l. front ++ l) (sym (ap values_of (left_from rs i r within read))) ∙ all))
 
 -- the value at a code point is that of the run that holds it
 slice_get-values_of : {V : Type 0} (n : ℕ) (rs : List (CodePointMapRange V)) (i c : ℕ) → IsCover n rs → c ≡ n + i → c ≤ 0x10_FFFF → slice_get (values_of rs) i ≡ option_map (λ r. r.value) (run_at rs c)

@@ -1,10 +1,9 @@
 -- Rows of 64 values, and lists that are cut into them.
-use Rattle.std.proofs.Common.{◌≡◌, ℕ, zero, suc, ◌+◌, ◌*◌, ◌-◌, ◌<◌, ◌≤◌, Result, List, [], ◌∷◌, ◌++◌, length, take, drop, replicate, refl, sym, ap, ap₂, ◌∙◌, append_assoc, arith, length-append, length-drop}
-use Rattle.std.proofs.lemmas.List.{append-nil, nil_from_length, take_all, take-append-le, drop-append-le, length-take-le, length-replicate, replicate-append-replicate, take-replicate}
+use Rattle.std.proofs.Common.{◌≡◌, ℕ, zero, suc, ◌+◌, ◌*◌, ◌-◌, ◌%◌, ◌<◌, ◌≤◌, List, [], ◌∷◌, ◌++◌, length, take, drop, replicate, refl, sym, ap, ap₂, ◌∙◌, append_assoc, arith, length-append, length-drop}
+use Rattle.std.proofs.lemmas.List.{append-nil, take_all, take-take, take-append-le, drop-append-le, length-take-le, length-replicate, replicate-append-replicate, take-replicate}
 use Rattle.std.proofs.Math.Nat.{suc-mul, zero-mul}
-use Rattle.std.proofs.Math.Seq.{drop-append_seam, take-append-add}
+use Rattle.std.proofs.Math.Seq.{drop-append_seam, take-append-add, take-append_seam}
 use Rattle.std.specs.List.{slice_range}
-use Rattle.std.specs.Prelude.{OnOk, Ok, Err}
 use Rattle.cp_trie.specs.Rows.{row_of, AreWhole, rows_of, spelled, repeat, Extends, laid, taken, IsCut}
 use Rattle.cp_trie.specs.declared.rows.Repeated.{Repeated}
 use Rattle.cp_trie.specs.declared.rows.Rows.{Rows}
@@ -73,10 +72,14 @@ pub repeat-one : {V : Type 0} (xs : List V) → repeat 1 xs ≡ xs
 repeat-one xs = append-nil xs
 
 -- numbers with one more behind them, so many times
-pub spelled-append_one : (rs : List Repeated) (r : Repeated) → spelled (rs ++ r ∷ []) ≡ spelled rs ++ replicate r.count r.number
+spelled-append_one : (rs : List Repeated) (r : Repeated) → spelled (rs ++ r ∷ []) ≡ spelled rs ++ replicate r.count r.number
 spelled-append_one [] r = append-nil (replicate r.count r.number)
 spelled-append_one (x ∷ xs) r =
     ap (λ l. replicate x.count x.number ++ l) (spelled-append_one xs r) ∙ sym (append_assoc (replicate x.count x.number) (spelled xs) (replicate r.count r.number))
+
+-- the same, where one list is the other with one more behind it
+pub spelled-closed : (old new : List Repeated) (r : Repeated) → new ≡ old ++ r ∷ [] → spelled new ≡ spelled old ++ replicate r.count r.number
+spelled-closed old new r more = ap spelled more ∙ spelled-append_one old r
 
 -- rows one behind another with a row so many times behind them
 pub rows_of-closed : {V : Type 0} (values new row : List V) (ns : List ℕ) (n m : ℕ) → Extends values new → AreWhole values ns → row_of new n ≡ row → rows_of new (ns ++ replicate m n) ≡ rows_of values ns ++ repeat m row
@@ -94,43 +97,63 @@ pub few-closed : {V : Type 0} (values new : List V) (ns : List ℕ) (n m : ℕ) 
 few-closed values new ns n m extends few some =
     omega (arith, ap length extends.behind, length-append values extends.more, extends.few, length-append ns (replicate m n), length-replicate m n)
 
--- how many values were taken
-pub length-taken : {V : Type 0} (s : Rows V) → IsCut s → length (taken s) ≡ 64 * length (spelled s.numbers.items) + length s.begun.values.items
-length-taken s cut =
-    omega (arith, length-append (laid s) s.begun.values.items, length-rows_of s.shelf.values.items (spelled s.numbers.items) cut.within)
+-- how many values are laid
+pub length-laid : {V : Type 0} (s : Rows V) → IsCut s → length (laid s) ≡ 64 * length (spelled s.numbers.items)
+length-laid s cut = length-rows_of s.shelf.values.items (spelled s.numbers.items) cut.within
 
--- where whole rows were taken, no row is begun
-pub laid-whole : {V : Type 0} (s : Rows V) (xs : List V) (n : ℕ) → IsCut s → length s.begun.values.items < 64 → taken s ≡ xs → length xs ≡ 64 * n → (laid s ≡ xs) × (length (spelled s.numbers.items) ≡ n)
-laid-whole s xs n cut begun all size =
-    let counted : 64 * length (spelled s.numbers.items) + length s.begun.values.items ≡ 64 * n = omega (arith, length-taken s cut, ap length all) in
-    let none : s.begun.values.items ≡ [] = nil_from_length s.begun.values.items (omega arith) in
-    (sym (append-nil (laid s)) ∙ (ap (λ l. laid s ++ l) (sym none) ∙ all), omega arith)
+-- how many values were taken
+pub length-taken : {V : Type 0} (s : Rows V) (n : ℕ) → IsCut s → n ≤ 64 → length (taken s n) ≡ 64 * length (spelled s.numbers.items) + n
+length-taken s n cut within =
+    omega (arith, length-append (laid s) (take n s.row), length-laid s cut, length-take-le n s.row (omega (arith, cut.places)))
+
+-- where whole rows were taken and none are left, no row is begun
+pub laid-whole : {V : Type 0} (s : Rows V) (xs left : List V) (n : ℕ) → IsCut s → n < 64 → taken s n ++ left ≡ xs → left ≡ [] → length xs % 64 ≡ 0 → laid s ≡ xs
+laid-whole s xs left n cut begun all none size =
+    let whole : taken s n ≡ xs = sym (append-nil (taken s n)) ∙ (ap (λ l. taken s n ++ l) (sym none) ∙ all) in
+    let empty : n ≡ 0 = omega (arith, length-taken s n cut (omega arith), ap length whole) in
+    sym (append-nil (laid s)) ∙ (ap (λ i. laid s ++ take i s.row) (sym empty) ∙ whole)
 
 -- pieces of one value, taken one behind another, are one piece
-pub replicate-pieces : {V : Type 0} (xs one two three : List V) (x : V) (i j k n : ℕ) → one ≡ xs ++ replicate i x → two ≡ one ++ replicate j x → three ≡ two ++ replicate k x → i + j + k ≡ n → three ≡ xs ++ replicate n x
-replicate-pieces xs one two three x i j k n first second third size =
-    third
-    ∙ (ap (λ l. l ++ replicate k x) second
+pub replicate-pieces : {V : Type 0} (xs one two last : List V) (x : V) (i j k n : ℕ) → one ≡ xs ++ replicate i x → two ≡ one ++ replicate j x → last ≡ replicate k x → i + j + k ≡ n → two ++ last ≡ xs ++ replicate n x
+replicate-pieces xs one two last x i j k n first second third size =
+    ap₂ (λ a b. a ++ b) second third
     ∙ (append_assoc one (replicate j x) (replicate k x)
     ∙ (ap₂ (λ a b. a ++ b) first (replicate-append-replicate j k x)
     ∙ (append_assoc xs (replicate i x) (replicate (j + k) x)
-    ∙ ap (λ l. xs ++ l) (replicate-append-replicate i (j + k) x ∙ ap (λ m. replicate m x) (let sum : i + (j + k) ≡ n = omega arith in sum))))))
+    ∙ ap (λ l. xs ++ l) (replicate-append-replicate i (j + k) x ∙ ap (λ m. replicate m x) (let sum : i + (j + k) ≡ n = omega arith in sum)))))
 
--- where no row is begun, so many rows of a value are its copies behind what was taken
-pub taken-rows : {V : Type 0} (old begun new rest row : List V) (m k : ℕ) (x : V) → begun ≡ [] → row ≡ begun ++ replicate k x → new ≡ old ++ repeat m row → rest ≡ [] → new ++ rest ≡ (old ++ begun) ++ replicate (m * k) x
-taken-rows old begun new rest row m k x none filled closed empty =
-    let whole : row ≡ replicate k x = filled ∙ ap (λ l. l ++ replicate k x) none in
-    ap₂ (λ a b. a ++ b) (closed ∙ (ap (λ l. old ++ repeat m l) whole ∙ ap (λ l. old ++ l) (repeat-replicate m k x))) empty
-    ∙ (append-nil (old ++ replicate (m * k) x)
-    ∙ ap (λ l. l ++ replicate (m * k) x) (sym (append-nil old) ∙ ap (λ l. old ++ l) (sym none)))
+-- rows of a value are its copies behind what was laid
+pub laid-rows : {V : Type 0} (old new row : List V) (m k : ℕ) (x : V) → new ≡ old ++ repeat m (take 64 row) → take k row ≡ replicate 64 x → k ≡ 64 → new ≡ old ++ replicate (m * 64) x
+laid-rows old new row m k x closed filled size =
+    closed ∙ ap (λ l. old ++ l) (ap (λ l. repeat m l) (ap (λ i. take i row) (sym size) ∙ filled) ∙ repeat-replicate m 64 x)
 
--- a list that was filled up with copies of a value, and cut behind some of them
-pub take-filled : {V : Type 0} (xs : List V) (begun k n m : ℕ) (x : V) → begun ≡ length xs → k ≤ n → m ≡ n → take (begun + k) (take (begun + n) xs ++ replicate m x) ≡ xs ++ replicate k x
-take-filled xs begun k n m x size within filled =
-    ap₂ (λ i l. take (i + k) l) size (ap₂ (λ l i. l ++ replicate i x) (take_all (begun + n) xs (omega arith)) filled)
-    ∙ (take-append-add xs (replicate n x) k ∙ ap (λ l. xs ++ l) (take-replicate k n x within))
+-- a row that was begun, and completed with copies of a value
+pub laid-completed : {V : Type 0} (old new begun row : List V) (n k i m : ℕ) (x : V) → new ≡ old ++ repeat 1 (take 64 row) → take i row ≡ take n begun ++ replicate k x → i ≡ 64 → k ≡ m → new ≡ (old ++ take n begun) ++ replicate m x
+laid-completed old new begun row n k i m x closed filled size count =
+    closed
+    ∙ (ap (λ l. old ++ l) (repeat-one (take 64 row) ∙ (ap (λ j. take j row) (sym size) ∙ (filled ∙ ap (λ j. take n begun ++ replicate j x) count)))
+    ∙ sym (append_assoc old (take n begun) (replicate m x)))
 
--- what follows from two facts at Ok holds at Ok
-pub on_ok_both : {T E P Q R : Type 0} (r : Result T E) → (P → Q → R) → OnOk r P → OnOk r Q → OnOk r R
-on_ok_both (Ok x) f p q = f p q
-on_ok_both (Err e) f p q = tt
+-- the front of a list where a part was put in the place of another
+pub take-patched : {V : Type 0} (xs part more : List V) (i k : ℕ) → i ≤ length xs → length part ≡ k → take (i + k) (take i xs ++ (part ++ more)) ≡ take i xs ++ part
+take-patched xs part more i k within size =
+    ap (λ j. take (j + k) (take i xs ++ (part ++ more))) (sym (length-take-le i xs within))
+    ∙ (take-append-add (take i xs) (part ++ more) k
+    ∙ ap (λ l. take i xs ++ l) (ap (λ j. take j (part ++ more)) (sym size) ∙ take-append_seam part more))
+
+-- a second fill that begins where the first ends
+pub take-filled_on : {V : Type 0} (xs ys zs : List V) (i n j m k : ℕ) (x : V) → take (i + n) ys ≡ take i xs ++ replicate n x → take (j + m) zs ≡ take j ys ++ replicate m x → j ≡ i + n → n + m ≡ k → take (i + k) zs ≡ take i xs ++ replicate k x
+take-filled_on xs ys zs i n j m k x first second seam sum =
+    ap (λ l. take l zs) (let size : i + k ≡ j + m = omega arith in size)
+    ∙ (second
+    ∙ (ap (λ l. l ++ replicate m x) (ap (λ l. take l ys) seam ∙ first)
+    ∙ (append_assoc (take i xs) (replicate n x) (replicate m x)
+    ∙ ap (λ l. take i xs ++ l) (replicate-append-replicate n m x ∙ ap (λ l. replicate l x) sum))))
+
+-- the front of a list that was filled behind a place with copies of a value
+pub take-filled : {V : Type 0} (xs ys : List V) (i k n : ℕ) (x : V) → take (i + n) ys ≡ take i xs ++ replicate n x → i ≤ length xs → k ≤ n → take (i + k) ys ≡ take i xs ++ replicate k x
+take-filled xs ys i k n x filled within few =
+    sym (take-take (i + k) (i + n) ys (omega arith))
+    ∙ (ap (λ l. take (i + k) l) filled
+    ∙ (ap (λ j. take (j + k) (take i xs ++ replicate n x)) (sym (length-take-le i xs within))
+    ∙ (take-append-add (take i xs) (replicate n x) k ∙ ap (λ l. take i xs ++ l) (take-replicate k n x few))))

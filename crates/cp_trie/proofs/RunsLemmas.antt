@@ -1,13 +1,16 @@
 -- Joining neighbours of equal value keeps the values and leaves the maximal runs, of which a map has one list.
-use Rattle.std.proofs.Common.{◌≡◌, ℕ, suc, ◌+◌, ◌<◌, ◌≤◌, Bool, true, false, cond, ◌||◌, List, [], ◌∷◌, refl, sym, ap, ap₂, ◌∙◌, inl, inr, arith}
+use Rattle.std.proofs.Common.{◌≡◌, ℕ, ◌+◌, ◌<◌, ◌≤◌, Bool, true, false, cond, ◌||◌, List, [], ◌∷◌, refl, sym, ap, ap₂, ◌∙◌, inl, inr, arith}
 use Rattle.std.proofs.lemmas.Bool.Decides.{nat_tests}
 use Rattle.std.proofs.lemmas.Bool.{cases_lt}
 use Rattle.cp_invlist.specs.Ranges.{in_range}
 use Rattle.cp_invlist.specs.declared.ranges.CodePointRange.{CodePointRange}
-use Rattle.cp_trie.specs.Joined.{up_to, joined_from, joined, AreApart}
+use Rattle.std.specs.Prelude.{IsTrue, ◌&&◌, nat_eq, None}
+use Rattle.cp_trie.specs.Faults.{first_fault}
+use Rattle.cp_trie.specs.Joined.{up_to, joined_from, joined}
+use Rattle.cp_trie.specs.Map.{CodePointMap, value_at}
 use Rattle.cp_trie.specs.Runs.{value_in, AreRunsFrom}
 use Rattle.cp_trie.specs.declared.ranges.CodePointMapRange.{CodePointMapRange}
-use Rattle.cp_trie.proofs.CoverLemmas.{IsCover, Spells, Spells-value_in}
+use Rattle.cp_trie.proofs.CoverLemmas.{IsCover, Spells, Spells-value_in, IsCover-from_no_fault, no_fault-from_IsCover}
 
 -- a number lies in two ranges that touch, taken as one, exactly where it lies in one of them
 in_range-up_to : {V : Type 0} (r s : CodePointMapRange V) (c : ℕ) → r.range.start ≤ r.range.end → s.range.start ≡ r.range.end + 1 → s.range.start ≤ s.range.end → in_range (up_to r s).range c ≡ (in_range r.range c || in_range s.range c)
@@ -90,9 +93,14 @@ runs_unique eq at n (r ∷ rs) (s ∷ ss) x y =
     ap₂ (λ a b. a ∷ b) (same_run r s (x.0 ∙ sym y.0) ends (x.3 ∙ sym y.3)) (runs_unique eq at (r.range.end + 1) rs ss x.6 tail)
 
 -- the lists of runs that have no fault, joined: they spell the same values, and are the maximal runs of what they spell
-pub value_in-joined : {V : Type 0} (eq : V → V → Bool) → ((x y : V) → eq x y ≡ true → x ≡ y) → (n : ℕ) (rs : List (CodePointMapRange V)) (e : V) (c : ℕ) → IsCover n rs → value_in (joined eq rs) e c ≡ value_in rs e c
+value_in-joined : {V : Type 0} (eq : V → V → Bool) → ((x y : V) → eq x y ≡ true → x ≡ y) → (n : ℕ) (rs : List (CodePointMapRange V)) (e : V) (c : ℕ) → IsCover n rs → value_in (joined eq rs) e c ≡ value_in rs e c
 value_in-joined eq exact n [] e c cover = refl
 value_in-joined eq exact n (r ∷ rs) e c cover = value_in-joined_from eq exact n r rs e c cover
+
+-- so a map of them has the values that the runs spell
+pub value_at-joined : {V : Type 0} (eq : V → V → Bool) → ((x y : V) → eq x y ≡ true → x ≡ y) → (m : CodePointMap V) (made rs : List (CodePointMapRange V)) (e : V) (c : ℕ) → m ≡ record { runs = made; error_value = e } → made ≡ joined eq rs → IsCover 0 rs → value_at m c ≡ value_in rs e c
+value_at-joined {V} eq exact m made rs e c same all cover =
+    ap (λ x. value_at x c) same ∙ (ap (λ (l : List (CodePointMapRange V)). value_in l e c) all ∙ value_in-joined eq exact 0 rs e c cover)
 
 -- joining runs leaves the maximal runs of a map that has the value of each run at its numbers
 pub runs-joined : {V : Type 0} (eq : V → V → Bool) → ((x : V) → eq x x ≡ true) → (at : ℕ → V) (n : ℕ) (rs : List (CodePointMapRange V)) → IsCover n rs → Spells at rs → AreRunsFrom eq at n (joined eq rs)
@@ -114,17 +122,22 @@ IsCover-joined_from eq n r (s ∷ ss) cover =
     [ true ↦ IsCover-joined_from eq n (up_to r s) ss (cover.0, omega arith, cover.3.2, cover.3.3) | false ↦ (cover.0, cover.1, cover.2, IsCover-joined_from eq (r.range.end + 1) s ss cover.3) ]
 
 -- joining neighbours leaves runs that cover
-pub IsCover-joined : {V : Type 0} (eq : V → V → Bool) (n : ℕ) (rs : List (CodePointMapRange V)) → IsCover n rs → IsCover n (joined eq rs)
+IsCover-joined : {V : Type 0} (eq : V → V → Bool) (n : ℕ) (rs : List (CodePointMapRange V)) → IsCover n rs → IsCover n (joined eq rs)
 IsCover-joined eq n [] cover = cover
 IsCover-joined eq n (r ∷ rs) cover = IsCover-joined_from eq n r rs cover
 
-joined_from-apart : {V : Type 0} (eq : V → V → Bool) (r : CodePointMapRange V) (ss : List (CodePointMapRange V)) → AreApart eq (r ∷ ss) → joined_from eq r ss ≡ r ∷ ss
-joined_from-apart eq r [] apart = refl
-joined_from-apart eq r (s ∷ ss) apart =
-    ap (λ b. cond b (joined_from eq (up_to r s) ss) (r ∷ joined_from eq s ss)) (apart 0 1 r refl (omega arith))
-    ∙ ap (λ l. r ∷ l) (joined_from-apart eq s ss (λ i j d next h. apart (suc i) (suc j) d (omega arith) (omega arith)))
+-- where a run is apart from the next, and joining changes nothing from that one on, it changes nothing
+pub joined_from-apart : {V : Type 0} (eq : V → V → Bool) (r s : CodePointMapRange V) (ss : List (CodePointMapRange V)) → eq r.value s.value ≡ false → joined_from eq s ss ≡ s ∷ ss → joined_from eq r (s ∷ ss) ≡ r ∷ s ∷ ss
+joined_from-apart eq r s ss apart same =
+    ap (λ b. cond b (joined_from eq (up_to r s) ss) (r ∷ joined_from eq s ss)) apart ∙ ap (λ l. r ∷ l) same
 
--- where no neighbours are equal, joining them changes nothing
-pub joined-apart : {V : Type 0} (eq : V → V → Bool) (rs : List (CodePointMapRange V)) → AreApart eq rs → joined eq rs ≡ rs
-joined-apart eq [] apart = refl
-joined-apart eq (r ∷ rs) apart = joined_from-apart eq r rs apart
+-- and joining runs with no fault leaves no fault
+pub no_fault-joined : {V : Type 0} (eq : V → V → Bool) (rs : List (CodePointMapRange V)) → first_fault rs ≡ None → first_fault (joined eq rs) ≡ None
+no_fault-joined eq rs h = no_fault-from_IsCover 0 0 (joined eq rs) (IsCover-joined eq 0 rs (IsCover-from_no_fault 0 0 rs h))
+
+-- where a test and that a last run ends at 10FFFF hold, runs cover of which the test says so if the last one does
+pub IsCover-from_test : {V : Type 0} (test : Bool) (last : CodePointMapRange V) (left rs : List (CodePointMapRange V)) → left ≡ [] → (IsTrue test → last.range.start ≤ last.range.end) → (IsTrue test → IsCover last.range.start (last ∷ left) → IsCover 0 rs) → IsTrue (test && nat_eq last.range.end 0x10_FFFF) → IsCover 0 rs
+IsCover-from_test false last left rs none order covers both = absurd (let f : false ≡ true = both in cc)
+IsCover-from_test true last left rs none order covers both =
+    let end : last.range.end ≡ 0x10_FFFF = grind (arith, nat_tests, both) in
+    covers refl (rw none (refl, order refl, omega arith, omega arith))

@@ -1,5 +1,5 @@
 -- Runs with neighbours of equal value joined.
-use Rattle.std.specs.Prelude.{◌≡◌, ℕ, ◌+◌, ◌<◌, Bool, false, List, [], ◌∷◌, length, slice_index_or, if◌then◌else◌}
+use Rattle.std.specs.Prelude.{Bool, List, [], ◌∷◌, if◌then◌else◌}
 use Rattle.cp_trie.specs.declared.ranges.CodePointMapRange.{CodePointMapRange}
 
 -- the first run up to the end of the second
@@ -15,8 +15,3 @@ joined_from eq r (s ∷ ss) = if eq r.value s.value then joined_from eq (up_to r
 abbrev pub joined : {V : Type 0} → (V → V → Bool) → List (CodePointMapRange V) → List (CodePointMapRange V)
 joined eq [] = []
 joined eq (r ∷ rs) = joined_from eq r rs
-
--- no run has a value equal to that of the run behind it
-abbrev pub AreApart : {V : Type 0} → (V → V → Bool) → List (CodePointMapRange V) → Type 0
-AreApart {V} eq rs =
-    (i j : ℕ) (d : CodePointMapRange V) → j ≡ i + 1 → j < length rs → eq (slice_index_or rs i d).value (slice_index_or rs j d).value ≡ false

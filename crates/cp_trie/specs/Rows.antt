@@ -38,12 +38,13 @@ pub record Extends {V : Type 0} (old new : List V) : Type 0 where
 abbrev pub laid : {V : Type 0} → Rows V → List V
 laid s = rows_of s.shelf.values.items (spelled s.numbers.items)
 
--- all values that were taken
-abbrev pub taken : {V : Type 0} → Rows V → List V
-taken s = laid s ++ s.begun.values.items
+-- all values that were taken, where so many are those of the row that is begun
+abbrev pub taken : {V : Type 0} → Rows V → ℕ → List V
+taken s n = laid s ++ take n s.row
 
--- the shelf has whole rows alone, no more than numbers, and the rows of all numbers
+-- the shelf has whole rows alone, no more than numbers, and the rows of all numbers, and the row that is begun has all its places
 pub record IsCut {V : Type 0} (s : Rows V) : Type 0 where
+  pub places : length s.row ≡ 128
   pub whole : length s.shelf.values.items % 64 ≡ 0
   pub few : length s.shelf.values.items ≤ 64 * length (spelled s.numbers.items)
   pub within : AreWhole s.shelf.values.items (spelled s.numbers.items)

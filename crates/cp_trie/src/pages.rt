@@ -1,11 +1,11 @@
 //! Page tables: three reads lead from a code point to its value.
-ghost use Rattle.std.specs.Prelude.{◌≡◌, ◌+◌, ◌<◌, ◌≤◌, None, Some, IsSome, IfOk, length};
+ghost use Rattle.std.specs.Prelude.{◌≡◌, ◌+◌, ◌%◌, ◌≤◌, None, Some, IsSome, IfOk, length};
 ghost use Rattle.cp_trie.specs.Faults.{first_fault as fault_of};
 ghost use Rattle.cp_trie.specs.Pages.{values_of, value_by, led_to, PlacesStandFor, StandFor};
-ghost use Rattle.cp_trie.specs.Rows.{IsCut, taken, spelled};
+ghost use Rattle.cp_trie.specs.Rows.{IsCut, laid, spelled};
 
 use crate::ranges::CodePointMapRange;
-use crate::rows::{ROW, Repeated, Rows};
+use crate::rows::{NONE, ROW, Repeated, Rows};
 use crate::table::Table;
 use crate::value::TrieValue;
 use cp_invlist::Steps;
@@ -39,15 +39,19 @@ impl<V: Drop> Drop for Pages<V> {
 
 impl<V: TrieValue> Pages<V> {
     /// What the values of runs that cover 0 to 10FFFF in order are read from. The time is that of the runs and of the
-    /// pages with a boundary.
-    pub(crate) fn new(alloc: Global, runs: &[CodePointMapRange<V>]) -> Result<Pages<V>, AllocError>
+    /// pages with a boundary. Some value is asked for the places of a page that have none yet.
+    pub(crate) fn new(
+        alloc: Global,
+        runs: &[CodePointMapRange<V>],
+        some: V,
+    ) -> Result<Pages<V>, AllocError>
         requires { fault_of runs.now ≡ None }
         ensures { IfOk result (λ pages. StandFor pages runs.now) }
     {
         if let [only] = runs {
             return Ok(Pages::One(only.value));
         }
-        Ok(Pages::Several(Tables::new(alloc, runs)?))
+        Ok(Pages::Several(Tables::new(alloc, runs, some)?))
     }
 
     /// The value that stands at the place of a number, by at most three reads.
@@ -101,11 +105,11 @@ impl<V> Model for Tables<V> {
 }
 
 impl<V: TrieValue> Tables<V> {
-    fn new(alloc: Global, runs: &[CodePointMapRange<V>]) -> Result<Tables<V>, AllocError>
+    fn new(alloc: Global, runs: &[CodePointMapRange<V>], some: V) -> Result<Tables<V>, AllocError>
         requires { fault_of runs.now ≡ None }
         ensures { IfOk result (λ tables. PlacesStandFor tables runs.now) }
     {
-        let pages = pages_of(alloc, runs)?;
+        let pages = pages_of(alloc, runs, some)?;
         let blocks = blocks_of(alloc, &pages.numbers)?;
         let outer = outer_of(alloc, &blocks.numbers)?;
         Ok(Tables {
@@ -143,30 +147,41 @@ impl<V: TrieValue> Tables<V> {
 fn pages_of<V: TrieValue>(
     alloc: Global,
     runs: &[CodePointMapRange<V>],
+    some: V,
 ) -> Result<Rows<V>, AllocError>
     requires { fault_of runs.now ≡ None }
     ensures cut { IfOk result (λ pages. IsCut pages) }
-    ensures taken { IfOk result (λ pages. taken pages ≡ values_of runs.now) }
-    ensures begun { IfOk result (λ pages. length pages.begun.values.items < 64) }
+    ensures laid { IfOk result (λ pages. laid pages ≡ values_of runs.now) }
 {
-    let mut pages = Rows::new(alloc, runs.len() / RUNS_A_ROW)?;
+    let mut pages = Rows::new(alloc, runs.len() / RUNS_A_ROW, some)?;
+    let mut begun = NONE;
     for run in runs {
         let range = run.range;
-        pages.take(run.value, (range.end - range.start) as usize + 1)?;
+        let count = (range.end - range.start) as usize + 1;
+        begun = if begun.len + count < ROW {
+            pages.take_within(begun, run.value, count)
+        } else {
+            pages.take_across(begun, run.value, count)?
+        };
     }
     Ok(pages)
 }
 
 /// The numbers of the pages, cut into blocks.
 fn blocks_of(alloc: Global, pages: &[Repeated]) -> Result<Rows<u16>, AllocError>
-    requires { length (spelled pages.now) ≤ 0x11_0000 }
+    requires few { length (spelled pages.now) ≤ 0x11_0000 }
+    requires whole { length (spelled pages.now) % 64 ≡ 0 }
     ensures cut { IfOk result (λ blocks. IsCut blocks) }
-    ensures taken { IfOk result (λ blocks. taken blocks ≡ spelled pages.now) }
-    ensures begun { IfOk result (λ blocks. length blocks.begun.values.items < 64) }
+    ensures laid { IfOk result (λ blocks. laid blocks ≡ spelled pages.now) }
 {
-    let mut blocks = Rows::new(alloc, pages.len() / RUNS_A_ROW)?;
+    let mut blocks = Rows::new(alloc, pages.len() / RUNS_A_ROW, 0)?;
+    let mut begun = NONE;
     for page in pages {
-        blocks.take(page.number, page.count)?;
+        begun = if begun.len + page.count < ROW {
+            blocks.take_within(begun, page.number, page.count)
+        } else {
+            blocks.take_across(begun, page.number, page.count)?
+        };
     }
     Ok(blocks)
 }

@@ -1,9 +1,10 @@
 //! Lists of values cut into rows of 64, where equal rows are kept once.
-ghost use Rattle.std.specs.Prelude.{IsTrue, ◌≡◌, ◌+◌, ◌*◌, ◌-◌, ◌%◌, ◌<◌, ◌≤◌, [], ◌++◌, length, replicate, IfOk, IfSome, OnOk};
+ghost use Rattle.std.specs.Prelude.{IsTrue, ◌≡◌, ◌+◌, ◌*◌, ◌-◌, ◌%◌, ◌<◌, ◌≤◌, [], ◌++◌, length, take, replicate, IfOk, IfSome, OnOk};
 ghost use Rattle.cp_trie.specs.Rows.{row_of, spelled, laid, repeat, Extends, taken, IsCut};
 
 use crate::value::TrieValue;
 use std::alloc::{AllocError, Global};
+use std::marker::Model;
 
 /// How many values a row has.
 pub(crate) const ROW: usize = 64;
@@ -179,66 +180,110 @@ fn are_equal<V: TrieValue>(row: &[V], other: &[V]) -> bool
     equal
 }
 
+/// Writes the value to each place.
+#[inline(always)]
+fn fill<V: Copy>(places: &mut [V], value: V)
+    ensures { places.new ≡ replicate (length places.old) value }
+{
+    for place in places.iter_mut() {
+        *place = value;
+    }
+}
+
 /// How many values a piece has that is filled as a short one.
 const SHORT: usize = 16;
+
+/// Writes the value to 16 places from one on.
+#[inline(always)]
+fn fill_short<V: Copy>(places: &mut [V], start: usize, value: V)
+    requires { start + 16 ≤ length places.old }
+    ensures { take (start + 16) places.new ≡ take start places.old ++ replicate 16 value }
+{
+    fill(&mut places[start..start + SHORT], value);
+}
+
+/// Writes the value to so many places from one on, and to some behind them: a fill of a length that the compiler knows
+/// is faster than one that is as long as the piece.
+#[inline(always)]
+fn fill_piece<V: Copy>(places: &mut [V], start: usize, value: V, count: usize)
+    requires room { start + 64 ≤ length places.old }
+    requires most { count ≤ 64 }
+    ensures { take (start + count) places.new ≡ take start places.old ++ replicate count value }
+{
+    fill_short(places, start, value);
+    if SHORT < count {
+        fill_short(places, start + SHORT, value);
+        fill_short(places, start + 2 * SHORT, value);
+        fill_short(places, start + 3 * SHORT, value);
+    }
+}
 
 /// An odd factor that spreads a number over 64 bits.
 const SPREAD: u64 = 0x9E37_79B9_7F4A_7C15;
 
-/// The row that is begun, with at most 64 values.
-#[derive(Drop)]
-pub(crate) struct Begun<V> {
-    pub(crate) values: Vec<V>,
+/// How far a row is begun.
+#[derive(Clone, Copy)]
+pub(crate) struct Begun {
+    /// How many of its places have their value.
+    pub(crate) len: usize,
     /// A number made of the places where pieces begin, and of the values there.
     fingerprint: u64,
 }
 
-impl<V: TrieValue> Begun<V> {
-    fn new(alloc: Global) -> Result<Begun<V>, AllocError>
-        ensures { IfOk result (λ begun. begun.values.items ≡ []) }
+/// No row is begun.
+pub(crate) const NONE: Begun = Begun {
+    len: 0,
+    fingerprint: 0,
+};
+
+/// The places of the row that is begun, and as many behind them, since a piece is filled past the end of the row. A
+/// contract sees them as their list.
+#[derive(Drop)]
+pub(crate) struct Row<V> {
+    places: Vec<V>,
+}
+
+impl<V> Model for Row<V> {
+    ghost use Rattle.std.specs.Prelude.{◌≡◌, List, length};
+
+    ghost Value = { List V };
+
+    ghost view = { λ s. s.places.items };
+
+    ghost invariant = { λ s. length s.places.items ≡ 128 };
+}
+
+impl<V: TrieValue> Row<V> {
+    /// A row with this value at each place.
+    fn new(alloc: Global, value: V) -> Result<Row<V>, AllocError>
+        ensures { IfOk result (λ row. length row ≡ 128) }
     {
-        // a piece is filled past the end of the row
-        Ok(Begun {
-            values: Vec::with_capacity(alloc, 2 * ROW)?,
-            fingerprint: 0,
-        })
+        let mut places = Vec::with_capacity(alloc, 2 * ROW)?;
+        places.resize(2 * ROW, value)?;
+        Ok(Row { places })
     }
 
-    /// Puts the value so many times behind the others.
+    /// Puts the value so many times behind those of the row that is begun.
     #[inline(always)]
-    fn push(&mut self, value: V, count: usize) -> Result<(), AllocError>
-        requires { length self.old.values.items + count ≤ 64 }
-        ensures { OnOk result (self.new.values.items ≡ self.old.values.items ++ replicate count value) }
+    fn push(&mut self, begun: Begun, value: V, count: usize) -> Begun
+        requires { begun.len + count ≤ 64 }
+        ensures values { take result.len self.new ≡ take begun.len self.old ++ replicate count value }
+        ensures places { length self.new ≡ 128 }
+        ensures len { result.len ≡ begun.len + count }
     {
-        if count <= SHORT {
-            self.fill(value, count, SHORT)
-        } else {
-            self.fill(value, count, ROW)
+        fill_piece(&mut self.places, begun.len, value, count);
+        let piece = (begun.len as u64) << 32 | u64::from(value.to_u32());
+        Begun {
+            len: begun.len + count,
+            fingerprint: (begun.fingerprint ^ piece).wrapping_mul(SPREAD),
         }
     }
 
-    /// The same, by a fill of so many values that is cut behind the count. A fill of a length that the compiler knows
-    /// is faster than one that is as long as the piece.
-    #[inline(always)]
-    fn fill(&mut self, value: V, count: usize, filled: usize) -> Result<(), AllocError>
-        requires room { length self.old.values.items + count ≤ 64 }
-        requires within { count ≤ filled }
-        requires most { filled ≤ 64 }
-        ensures { OnOk result (self.new.values.items ≡ self.old.values.items ++ replicate count value) }
+    /// The values of the row, where it is whole.
+    fn as_slice(&self) -> &[V]
+        ensures { result.now ≡ take 64 self.now }
     {
-        let begun = self.values.len();
-        let spread = ((begun as u64) << 32 | u64::from(value.to_u32())).wrapping_mul(SPREAD);
-        self.fingerprint = self.fingerprint.wrapping_add(spread ^ (spread >> 32));
-        self.values.resize(begun + filled, value)?;
-        self.values.truncate(begun + count);
-        Ok(())
-    }
-
-    fn clear(&mut self)
-        ensures { self.new.values.items ≡ [] }
-    {
-        self.values.clear();
-        self.fingerprint = 0;
+        &self.places[..ROW]
     }
 }
 
@@ -246,7 +291,7 @@ impl<V: TrieValue> Begun<V> {
 pub(crate) struct Rows<V> {
     pub(crate) shelf: Shelf<V>,
     pub(crate) numbers: Vec<Repeated>,
-    pub(crate) begun: Begun<V>,
+    pub(crate) row: Row<V>,
 }
 
 // By hand, so that letting a value go is one call in each proof.
@@ -255,22 +300,22 @@ impl<V: Drop> Drop for Rows<V> {
         let Self {
             shelf: _,
             numbers: _,
-            begun: _,
+            row: _,
         } = self;
     }
 }
 
 impl<V: TrieValue> Rows<V> {
-    /// Nothing taken yet, where about so many rows that differ are expected.
-    pub(crate) fn new(alloc: Global, expected: usize) -> Result<Rows<V>, AllocError>
+    /// Nothing taken yet, where about so many rows that differ are expected. The places of the row have some value
+    /// from the first on.
+    pub(crate) fn new(alloc: Global, expected: usize, value: V) -> Result<Rows<V>, AllocError>
         ensures cut { IfOk result (λ rows. IsCut rows) }
-        ensures taken { IfOk result (λ rows. taken rows ≡ []) }
-        ensures begun { IfOk result (λ rows. rows.begun.values.items ≡ []) }
+        ensures none { IfOk result (λ rows. laid rows ≡ []) }
     {
         Ok(Rows {
             shelf: Shelf::new(alloc, expected)?,
             numbers: Vec::with_capacity(alloc, expected)?,
-            begun: Begun::new(alloc)?,
+            row: Row::new(alloc, value)?,
         })
     }
 
@@ -281,100 +326,93 @@ impl<V: TrieValue> Rows<V> {
         let Self {
             shelf,
             numbers: _,
-            begun: _,
+            row: _,
         } = self;
         shelf.into_values()
     }
 
-    /// Takes the value so many times.
+    /// Takes the value so many times, where the row that is begun does not end. What is begun then is returned.
     #[inline(always)]
-    pub(crate) fn take(&mut self, value: V, count: usize) -> Result<(), AllocError>
+    pub(crate) fn take_within(&mut self, begun: Begun, value: V, count: usize) -> Begun
         requires cut { IsCut self.old }
-        requires begun { length self.old.begun.values.items < 64 }
-        requires room { length (taken self.old) + count ≤ 0x11_0000 }
-        ensures cut { OnOk result (IsCut self.new) }
-        ensures begun { OnOk result (length self.new.begun.values.items < 64) }
-        ensures taken { OnOk result (taken self.new ≡ taken self.old ++ replicate count value) }
+        requires within { begun.len + count < 64 }
+        ensures cut { IsCut self.new }
+        ensures begun { result.len < 64 }
+        ensures taken { taken self.new result.len ≡ taken self.old begun.len ++ replicate count value }
     {
-        if self.begun.values.len() + count < ROW {
-            return self.begun.push(value, count);
-        }
-        self.take_across(value, count)
+        self.row.push(begun, value, count)
     }
 
-    /// The same, where the row that is begun ends.
+    /// The same, where it ends.
     #[inline(never)]
-    fn take_across(&mut self, value: V, count: usize) -> Result<(), AllocError>
+    pub(crate) fn take_across(
+        &mut self,
+        begun: Begun,
+        value: V,
+        count: usize,
+    ) -> Result<Begun, AllocError>
         requires cut { IsCut self.old }
-        requires begun { length self.old.begun.values.items < 64 }
-        requires across { 64 ≤ length self.old.begun.values.items + count }
-        requires room { length (taken self.old) + count ≤ 0x11_0000 }
+        requires begun { begun.len < 64 }
+        requires across { 64 ≤ begun.len + count }
+        requires room { length (taken self.old begun.len) + count ≤ 0x11_0000 }
         ensures cut { OnOk result (IsCut self.new) }
-        ensures begun { OnOk result (length self.new.begun.values.items < 64) }
-        ensures taken { OnOk result (taken self.new ≡ taken self.old ++ replicate count value) }
+        ensures begun { IfOk result (λ now. now.len < 64) }
+        ensures taken { IfOk result (λ now. taken self.new now.len ≡ taken self.old begun.len ++ replicate count value) }
     {
-        let rest = self.complete(value, count)?;
+        let rest = self.complete(begun, value, count)?;
         self.take_rows(value, rest / ROW)?;
         if rest % ROW == 0 {
-            return Ok(());
+            return Ok(NONE);
         }
-        self.begun.fill(value, rest % ROW, ROW)
+        Ok(self.row.push(NONE, value, rest % ROW))
     }
 
     /// Takes the value up to the end of the row that is begun, if one is, and says how often it is still to come.
-    fn complete(&mut self, value: V, count: usize) -> Result<usize, AllocError>
+    fn complete(&mut self, begun: Begun, value: V, count: usize) -> Result<usize, AllocError>
         requires cut { IsCut self.old }
-        requires begun { length self.old.begun.values.items < 64 }
-        requires across { 64 ≤ length self.old.begun.values.items + count }
-        requires room { length (taken self.old) + count ≤ 0x11_0000 }
+        requires begun { begun.len < 64 }
+        requires across { 64 ≤ begun.len + count }
+        requires room { length (taken self.old begun.len) + count ≤ 0x11_0000 }
         ensures cut { OnOk result (IsCut self.new) }
         ensures rest { IfOk result (λ rest. rest ≤ count) }
-        ensures taken { IfOk result (λ rest. taken self.new ≡ taken self.old ++ replicate (count - rest) value) }
-        ensures empty { OnOk result (self.new.begun.values.items ≡ []) }
+        ensures laid { IfOk result (λ rest. laid self.new ≡ taken self.old begun.len ++ replicate (count - rest) value) }
     {
-        let begun = self.begun.values.len();
-        if begun == 0 {
+        if begun.len == 0 {
             return Ok(count);
         }
-        let missing = ROW - begun;
-        self.begun.fill(value, missing, ROW)?;
-        self.close(1)?;
+        let missing = ROW - begun.len;
+        let whole = self.row.push(begun, value, missing);
+        self.close(whole.fingerprint, 1)?;
         Ok(count - missing)
     }
 
-    /// Takes so many rows of the value.
+    /// Takes so many rows of the value, where no row is begun.
     fn take_rows(&mut self, value: V, times: usize) -> Result<(), AllocError>
         requires cut { IsCut self.old }
-        requires empty { self.old.begun.values.items ≡ [] }
-        requires room { length (taken self.old) + times * 64 ≤ 0x11_0000 }
+        requires room { length (laid self.old) + times * 64 ≤ 0x11_0000 }
         ensures cut { OnOk result (IsCut self.new) }
-        ensures taken { OnOk result (taken self.new ≡ taken self.old ++ replicate (times * 64) value) }
-        ensures empty { OnOk result (self.new.begun.values.items ≡ []) }
+        ensures laid { OnOk result (laid self.new ≡ laid self.old ++ replicate (times * 64) value) }
     {
         if times == 0 {
             return Ok(());
         }
-        self.begun.fill(value, ROW, ROW)?;
-        self.close(times)
+        let whole = self.row.push(NONE, value, ROW);
+        self.close(whole.fingerprint, times)
     }
 
     /// Puts the row that is begun, and now whole, so many times behind the others.
-    fn close(&mut self, times: usize) -> Result<(), AllocError>
+    fn close(&mut self, fingerprint: u64, times: usize) -> Result<(), AllocError>
         requires cut { IsCut self.old }
-        requires full { length self.old.begun.values.items ≡ 64 }
         requires some { 0 < times }
         requires room { 64 * (length (spelled self.old.numbers.items) + times) ≤ 0x11_0000 }
         ensures cut { OnOk result (IsCut self.new) }
-        ensures laid { OnOk result (laid self.new ≡ laid self.old ++ repeat times self.old.begun.values.items) }
-        ensures empty { OnOk result (self.new.begun.values.items ≡ []) }
+        ensures laid { OnOk result (laid self.new ≡ laid self.old ++ repeat times (take 64 self.old.row)) }
     {
-        let fingerprint = self.begun.fingerprint;
-        let number = self.shelf.number_of(&self.begun.values, fingerprint)?;
+        let number = self.shelf.number_of(self.row.as_slice(), fingerprint)?;
         self.numbers.push(Repeated {
             number,
             count: times,
         })?;
-        self.begun.clear();
         Ok(())
     }
 }

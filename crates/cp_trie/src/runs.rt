@@ -1,7 +1,7 @@
 //! The runs of a map.
 ghost use Rattle.std.specs.Prelude.{◌≡◌, None, IfOk, IsTrue};
 ghost use Rattle.cp_trie.specs.Faults.{first_fault as fault_of};
-ghost use Rattle.cp_trie.specs.Joined.{joined as join_of, AreApart};
+ghost use Rattle.cp_trie.specs.Joined.{joined as join_of};
 
 use crate::error::TrieError;
 use crate::ranges::CodePointMapRange;
@@ -27,8 +27,28 @@ impl<T> Model for Runs<T> {
     ghost invariant = { λ s. first_fault s.runs.items ≡ None };
 }
 
-impl<T: Copy> Runs<T> {
-    ghost use Rattle.std.specs.Prelude.{◌≡◌, IfOk};
+impl<T: Copy + Eq> Runs<T> {
+    ghost use Rattle.std.specs.Prelude.{◌≡◌, None, IfOk, OnOk};
+    ghost use Rattle.cp_trie.specs.Faults.{first_fault as fault_of, AnswersFault};
+    ghost use Rattle.cp_trie.specs.Joined.{joined as join_of};
+
+    /// The runs that were handed in, with neighbours of equal value joined, or their first fault.
+    pub(crate) fn try_new(
+        alloc: Global,
+        runs: Vec<CodePointMapRange<T>>,
+    ) -> Result<Runs<T>, TrieError>
+        ensures no_fault { OnOk result (fault_of runs.items ≡ None) }
+        ensures joined { IfOk result (λ made. made ≡ join_of T.eq runs.items) }
+        ensures faults { AnswersFault runs.items result }
+    {
+        if are_maximal(&runs) {
+            return Ok(Runs { runs });
+        }
+        if let Some(fault) = first_fault(&runs) {
+            return Err(fault);
+        }
+        Ok(joined(alloc, runs)?)
+    }
 
     /// The runs in order.
     pub(crate) fn as_slice(&self) -> &[CodePointMapRange<T>]
@@ -77,7 +97,7 @@ pub(crate) fn joined<T: Copy + Eq>(
     requires { fault_of runs.items ≡ None }
     ensures { IfOk result (λ joined. joined ≡ join_of T.eq runs.items) }
 {
-    if are_apart(&runs) {
+    if are_maximal(&runs) {
         return Ok(Runs { runs });
     }
     Ok(Runs {
@@ -85,16 +105,26 @@ pub(crate) fn joined<T: Copy + Eq>(
     })
 }
 
-/// Whether no neighbours have an equal value.
-fn are_apart<T: Copy + Eq>(runs: &[CodePointMapRange<T>]) -> bool
-    ensures { IsTrue result → AreApart T.eq runs.now }
+/// Whether the runs cover 0 to 10FFFF in order and no neighbours have an equal value. Each run is looked at, since a
+/// loop that may end early does not become vector code.
+fn are_maximal<T: Copy + Eq>(runs: &[CodePointMapRange<T>]) -> bool
+    ensures no_fault { IsTrue result → fault_of runs.now ≡ None }
+    ensures joined { IsTrue result → join_of T.eq runs.now ≡ runs.now }
 {
-    for index in 1..runs.len() {
-        if runs[index - 1].value == runs[index].value {
-            return false;
-        }
+    let Some((first, rest)) = runs.split_first() else {
+        return false;
+    };
+    let mut maximal = first.range.start == 0;
+    let mut range = first.range;
+    let mut value = first.value;
+    for run in rest {
+        maximal &= run.range.start == range.end.wrapping_add(1);
+        maximal &= range.end < run.range.end;
+        maximal &= value != run.value;
+        range = run.range;
+        value = run.value;
     }
-    true
+    maximal & (range.end == LAST_CODE_POINT)
 }
 
 /// The list of the runs with neighbours of equal value joined.

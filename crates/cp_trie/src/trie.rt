@@ -12,7 +12,7 @@ use crate::error::TrieError;
 use crate::mapped::TrieRangesMapped;
 use crate::pages::Pages;
 use crate::ranges::{CodePointMapRange, TrieRanges};
-use crate::runs::{Runs, first_fault, joined};
+use crate::runs::{Runs, joined};
 use crate::value::TrieValue;
 use cp_invlist::{
     CodePointInversionList, CodePointInversionListBuilder, LAST_CODE_POINT, NoMemory, Steps,
@@ -66,10 +66,8 @@ impl<T: TrieValue> CodePointTrie<T> {
         ensures past_end { IfOk result (λ map. map.error_value ≡ error_value) }
         ensures faults { AnswersFault runs.items result }
     {
-        if let Some(fault) = first_fault(&runs) {
-            return Err(fault);
-        }
-        Ok(CodePointTrie::from_cover(alloc, runs, error_value)?)
+        let runs = Runs::try_new(alloc, runs)?;
+        Ok(CodePointTrie::from_joined(alloc, runs, error_value)?)
     }
 
     /// The map of runs that cover 0 to 10FFFF in order.
@@ -83,7 +81,19 @@ impl<T: TrieValue> CodePointTrie<T> {
         ensures past_end { IfOk result (λ map. map.error_value ≡ error_value) }
     {
         let runs = joined(alloc, runs)?;
-        let pages = Pages::new(alloc, runs.as_slice())?;
+        CodePointTrie::from_joined(alloc, runs, error_value)
+    }
+
+    /// The map of maximal runs.
+    fn from_joined(
+        alloc: Global,
+        runs: Runs<T>,
+        error_value: T,
+    ) -> Result<CodePointTrie<T>, AllocError>
+        requires { AreMaximalRuns T.eq (value_in runs error_value) runs }
+        ensures { IfOk result (λ map. map ≡ record { runs = runs; error_value = error_value }) }
+    {
+        let pages = Pages::new(alloc, runs.as_slice(), error_value)?;
         Ok(CodePointTrie {
             runs,
             pages,

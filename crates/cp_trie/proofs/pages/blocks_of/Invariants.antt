@@ -1,4 +1,4 @@
-use Rattle.std.proofs.Common.{◌≡◌, ◌<◌, ◌++◌, length, drop}
+use Rattle.std.proofs.Common.{◌≡◌, ◌<◌, ◌++◌, drop}
 use Rattle.cp_trie.specs.Rows.{spelled, taken, IsCut}
 use Rattle.cp_trie.proofs.pages.blocks_of.Given as goal
 
@@ -6,6 +6,6 @@ use Rattle.cp_trie.proofs.pages.blocks_of.Given as goal
 abbrev pub invariant-loop-page : goal.invariant-loop-page
 invariant-loop-page l = record {
   cut : IsCut l.blocks;
-  begun : length l.blocks.begun.values.items < 64;
-  all : taken l.blocks ++ spelled (drop l.page-index l.pages) ≡ spelled l.pages;
+  begun : l.begun.len < 64;
+  all : taken l.blocks l.begun.len ++ spelled (drop l.page-index l.pages) ≡ spelled l.pages;
 }

@@ -1,4 +1,4 @@
-use Rattle.std.proofs.Common.{◌≡◌, ◌<◌, ◌++◌, length, drop}
+use Rattle.std.proofs.Common.{◌≡◌, ◌<◌, ◌++◌, drop}
 use Rattle.cp_trie.specs.Pages.{values_of}
 use Rattle.cp_trie.specs.Rows.{taken, IsCut}
 use Rattle.cp_trie.proofs.pages.pages_of.Given as goal
@@ -7,6 +7,6 @@ use Rattle.cp_trie.proofs.pages.pages_of.Given as goal
 abbrev pub invariant-loop-run : goal.invariant-loop-run
 invariant-loop-run g l = record {
   cut : IsCut l.pages;
-  begun : length l.pages.begun.values.items < 64;
-  all : taken l.pages ++ values_of (drop l.run-index l.runs) ≡ values_of l.runs;
+  begun : l.begun.len < 64;
+  all : taken l.pages l.begun.len ++ values_of (drop l.run-index l.runs) ≡ values_of l.runs;
 }

@@ -1,14 +1,14 @@
 use Rattle.std.proofs.Common.{arith}
+use Rattle.std.proofs.lemmas.Result.{on_ok_weaker}
 use Rattle.cp_trie.specs.Rows.{laid}
-use Rattle.cp_trie.proofs.RowsLemmas.{length-taken, taken-rows, on_ok_both}
+use Rattle.cp_trie.proofs.RowsLemmas.{length-laid, laid-rows}
 use Rattle.cp_trie.proofs.rows.Rows.take_rows.Goals as goal
 
 pub close-requires-clause-room : goal.close-requires-clause-room
-close-requires-clause-room g c = omega (arith, length-taken c.args.self.now c.requires.cut)
+close-requires-clause-room g c = omega (arith, length-laid c.args.self.now c.requires.cut)
 
-pub returns-clause-taken : goal.returns-clause-taken
-returns-clause-taken g c =
-    let s = c.args.self.now in
-    on_ok_both c.close.result (
-    λ closed empty. taken-rows (laid s) s.begun.values.items (laid c.close.new.self) c.close.new.self.begun.values.items c.fill.new.self.values.items c.args.times 64 c.args.value c.requires.empty c.in_ok-fill.ensures closed empty
-    ) c.close.ensures.laid c.close.ensures.empty
+pub returns-clause-laid : goal.returns-clause-laid
+returns-clause-laid g c =
+    on_ok_weaker c.close.result (
+    λ closed. laid-rows (laid c.args.self.now) (laid c.close.new.self) c.push-whole.new.self c.args.times c.push-whole.result.len c.args.value closed c.push-whole.ensures.values c.push-whole.ensures.len
+    ) c.close.ensures.laid
