@@ -27,7 +27,8 @@ impl<T: TrieValue> CodePointTrie<T> {
     /// The same of a map that stays, so that no exit lets it go.
     fn to_converted<P: TrieValue>(&self, alloc: Global) -> Result<CodePointTrie<P>, ConvertError>
         ensures values { IfOk result (λ map. ConvertsTo (conversion T.packed P.unpacked) self.now map) }
-        ensures past_end { IfOk result (λ map. conversion T.packed P.unpacked self.now.error_value ≡ Some map.error_value) }
+        ensures past_end { IfOk result
+            (λ map. conversion T.packed P.unpacked self.now.error_value ≡ Some map.error_value) }
         ensures refusal { NamesFirstRefused T.eq (conversion T.packed P.unpacked) self.now result }
     {
         let runs = converted_runs(alloc, self.runs())?;

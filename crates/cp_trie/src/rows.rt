@@ -357,7 +357,8 @@ impl<V: TrieValue> Rows<V> {
         requires room { length (taken self.old begun.len) + count ≤ 0x11_0000 }
         ensures cut { OnOk result (IsCut self.new) }
         ensures begun { IfOk result (λ now. now.len < 64) }
-        ensures taken { IfOk result (λ now. taken self.new now.len ≡ taken self.old begun.len ++ replicate count value) }
+        ensures taken { IfOk result
+            (λ now. taken self.new now.len ≡ taken self.old begun.len ++ replicate count value) }
     {
         let rest = self.complete(begun, value, count)?;
         self.take_rows(value, rest / ROW)?;
@@ -375,7 +376,8 @@ impl<V: TrieValue> Rows<V> {
         requires room { length (taken self.old begun.len) + count ≤ 0x11_0000 }
         ensures cut { OnOk result (IsCut self.new) }
         ensures rest { IfOk result (λ rest. rest ≤ count) }
-        ensures laid { IfOk result (λ rest. laid self.new ≡ taken self.old begun.len ++ replicate (count - rest) value) }
+        ensures laid { IfOk result
+            (λ rest. laid self.new ≡ taken self.old begun.len ++ replicate (count - rest) value) }
     {
         if begun.len == 0 {
             return Ok(count);

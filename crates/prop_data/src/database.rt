@@ -178,7 +178,8 @@ impl PropertyDatabase {
         table: MapTable,
         texts: BTreeMap<u32, String>,
     ) -> Result<(), NoMemory>
-        ensures { OnOk result (tables_of self.new ≡ with_texts Length.Short table (text_at texts) (tables_of self.old)) }
+        ensures { OnOk result
+            (tables_of self.new ≡ with_texts Length.Short table (text_at texts) (tables_of self.old)) }
     {
         if table == MapTable::CANONICAL_COMBINING_CLASS {
             self.short_ccc = Some(PropertyEnumToValueNameSparseMap::from_ordered(texts));
@@ -211,7 +212,8 @@ impl PropertyDatabase {
         trie: CodePointTrie<ScriptWithExt>,
         named: Vec<u16>,
     )
-        ensures { tables_of self.new ≡ with_scripts (record { values = value_at trie; named = named.items }) (tables_of self.old) }
+        ensures { tables_of self.new ≡
+            with_scripts (record { values = value_at trie; named = named.items }) (tables_of self.old) }
     {
         let lists = take_lists(&mut self.scripts, &mut self.lists, alloc);
         self.scripts = Some(ScriptTable {
@@ -259,7 +261,8 @@ impl PropertyDatabase {
     /// The long names of the values of a property, `None` where the text has no such table, and for combining classes,
     /// whose names are kept otherwise.
     pub fn long_linear(&self, table: MapTable) -> Option<&PropertyEnumToValueNameLinearMap>
-        ensures { option_map linear_text (option_copied result) ≡ (if nat_eq table 11 then None else long_of self.now table) }
+        ensures { option_map linear_text (option_copied result) ≡
+            (if nat_eq table 11 then None else long_of self.now table) }
     {
         if table == MapTable::CANONICAL_COMBINING_CLASS {
             return None;
@@ -270,7 +273,8 @@ impl PropertyDatabase {
     /// The short names of the values of a property, `None` where the text has no such table, and for combining classes
     /// and scripts, whose names are kept otherwise.
     pub fn short_linear(&self, table: MapTable) -> Option<&PropertyEnumToValueNameLinearMap>
-        ensures { option_map linear_text (option_copied result) ≡ (if nat_eq table 11 || nat_eq table 4 then None else short_of self.now table) }
+        ensures { option_map linear_text (option_copied result) ≡
+            (if nat_eq table 11 || nat_eq table 4 then None else short_of self.now table) }
     {
         if table == MapTable::CANONICAL_COMBINING_CLASS || table == MapTable::SCRIPT {
             return None;

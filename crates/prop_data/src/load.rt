@@ -259,7 +259,8 @@ impl Loader {
         script: Option<&[u8]>,
         number: usize,
     ) -> Result<OpenTable, LoadError>
-        ensures { Begins (tables_of self.now.database) (ext_header index.now (option_copied script.entry)) number result }
+        ensures { Begins (tables_of self.now.database)
+            (ext_header index.now (option_copied script.entry)) number result }
     {
         let Some(index) = decimal_number(index) else {
             return Err(fault(number, TableErrorKind::BadNumber));

@@ -77,7 +77,8 @@ impl ScriptWithExtensionsProperty {
 
     /// The same numbers and lists.
     pub fn copy(&self, alloc: Global) -> Result<ScriptWithExtensionsProperty, NoMemory>
-        ensures numbers { IfOk result (λ copy. (c : ℕ) → value_at (scripts_map copy) c ≡ value_at (scripts_map self.now) c) }
+        ensures numbers { IfOk result
+            (λ copy. (c : ℕ) → value_at (scripts_map copy) c ≡ value_at (scripts_map self.now) c) }
         ensures lists { IfOk result (λ copy. (n : ℕ) → list_of copy n ≡ list_of self.now n) }
     {
         Ok(ScriptWithExtensionsProperty {
@@ -102,7 +103,8 @@ pub(crate) fn keep_list(
     index: u64,
     list: ListedScripts,
 ) -> Result<(), NoMemory>
-    ensures { OnOk result ((n : ℕ) → list_in lists.new n ≡ (if nat_eq index n then Some (list_seen list) else list_in lists.old n)) }
+    ensures { OnOk result
+        ((n : ℕ) → list_in lists.new n ≡ (if nat_eq index n then Some (list_seen list) else list_in lists.old n)) }
 {
     lists.insert(index, list)?;
     Ok(())

@@ -42,7 +42,8 @@ fn first_part(text: &[u8]) -> (&[u8], Option<&[u8]>)
 
 /// The numbers of the parts between `_`.
 fn numbers_of(alloc: Global, text: &[u8]) -> Result<Option<Vec<u32>>, NoMemory>
-    ensures { IfOk result (λ numbers. option_map (λ v. v.items) numbers ≡ numbers_of (slice_split is_underscore text.now)) }
+    ensures { IfOk result
+        (λ numbers. option_map (λ v. v.items) numbers ≡ numbers_of (slice_split is_underscore text.now)) }
 {
     let mut numbers = Vec::new(alloc);
     let mut rest = Some(text);

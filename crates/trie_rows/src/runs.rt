@@ -12,7 +12,10 @@ const FAULTY: &[Faulty] = &[
     (&[(0, 0x40)], TrieError::Gap { index: 1 }),
     (&[(0, 0x11_0000)], TrieError::Order { index: 0 }),
     (&[(0, 9), (10, 9)], TrieError::Order { index: 1 }),
-    (&[(0, u32::MAX), (0, 0x10_FFFF)], TrieError::Order { index: 0 }),
+    (
+        &[(0, u32::MAX), (0, 0x10_FFFF)],
+        TrieError::Order { index: 0 },
+    ),
     (&[(1, 0x10_FFFF)], TrieError::Gap { index: 0 }),
 ];
 

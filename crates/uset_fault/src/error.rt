@@ -78,7 +78,8 @@ impl ParseError {
     /// The front of the source that is shown: all of it where more is due at its end, and else up to the first end of
     /// a character behind the place, where that is within the source.
     fn front<'a>(&self, source: &'a str) -> Option<&'a str>
-        ensures { option_map (λ front. front.now) result ≡ option_map encode_utf8_all (front_shown self.now (chars source.now)) }
+        ensures { option_map (λ front. front.now) result ≡
+            option_map encode_utf8_all (front_shown self.now (chars source.now)) }
     {
         if let ParseErrorKind::Eof = self.kind {
             return Some(source);
@@ -93,7 +94,8 @@ impl ParseError {
 
     /// Appends the front of the source that is shown, and an arrow behind it.
     fn push_front(&self, text: &mut String, source: &str) -> Result<(), NoMemory>
-        ensures { OnOk result (string_bytes text.new ≡ string_bytes text.old ++ encode_utf8_all (with_arrow (front_shown self.now (chars source.now)))) }
+        ensures { OnOk result (string_bytes text.new ≡
+            string_bytes text.old ++ encode_utf8_all (with_arrow (front_shown self.now (chars source.now)))) }
     {
         if let Some(front) = self.front(source) {
             text.push_str(front)?;

@@ -69,7 +69,8 @@ pub(crate) fn push_words(text: &mut String, kind: ParseErrorKind) -> Result<(), 
 }
 
 fn push_unexpected(text: &mut String, c: char) -> Result<(), NoMemory>
-    ensures { OnOk result (string_bytes text.new ≡ string_bytes text.old ++ encode_utf8_all (words_told (ParseErrorKind.UnexpectedChar c))) }
+    ensures { OnOk result (string_bytes text.new ≡
+        string_bytes text.old ++ encode_utf8_all (words_told (ParseErrorKind.UnexpectedChar c))) }
 {
     text.push_str("unexpected character '")?;
     push_quoted(text, c)?;

@@ -197,7 +197,8 @@ impl Painting {
 
     /// Takes the members of the set away.
     pub(crate) fn remove_set(&mut self, set: &CodePointInversionList) -> Result<(), NoMemory>
-        ensures { OnOk result ((c : ℕ) → in_painting self.new c ≡ (in_painting self.old c && not (contains set.now c))) }
+        ensures { OnOk result
+            ((c : ℕ) → in_painting self.new c ≡ (in_painting self.old c && not (contains set.now c))) }
     {
         self.complement();
         self.add_set(set)?;

@@ -46,7 +46,8 @@ impl Strings {
     /// Adds a string, which isn't one character.
     pub(crate) fn insert(&mut self, text: String) -> Result<(), NoMemory>
         requires { sole_of (chars (string_bytes text)) ≡ None }
-        ensures { OnOk result ((bytes : List ℕ) → contains_text self.new bytes ≡ (contains_text self.old bytes || bytes_eq (string_bytes text) bytes)) }
+        ensures { OnOk result ((bytes : List ℕ) →
+            contains_text self.new bytes ≡ (contains_text self.old bytes || bytes_eq (string_bytes text) bytes)) }
     {
         self.texts.insert(text)?;
         Ok(())
@@ -54,7 +55,8 @@ impl Strings {
 
     /// Adds the other strings. The fewer are moved.
     pub(crate) fn append(&mut self, mut other: Strings) -> Result<(), NoMemory>
-        ensures { OnOk result ((bytes : List ℕ) → contains_text self.new bytes ≡ (contains_text self.old bytes || contains_text other bytes)) }
+        ensures { OnOk result ((bytes : List ℕ) →
+            contains_text self.new bytes ≡ (contains_text self.old bytes || contains_text other bytes)) }
     {
         if self.texts.len() < other.texts.len() {
             swap(self, &mut other);
@@ -64,7 +66,8 @@ impl Strings {
 
     /// Moves the other strings into the set.
     fn take_all(&mut self, other: Strings) -> Result<(), NoMemory>
-        ensures { OnOk result ((bytes : List ℕ) → contains_text self.new bytes ≡ (contains_text self.old bytes || contains_text other bytes)) }
+        ensures { OnOk result ((bytes : List ℕ) →
+            contains_text self.new bytes ≡ (contains_text self.old bytes || contains_text other bytes)) }
     {
         let mut texts = other.texts;
         self.texts.append(&mut texts)?;
@@ -73,7 +76,8 @@ impl Strings {
 
     /// Takes the other strings away. It goes along the fewer, and looks each up among the others.
     pub(crate) fn remove_all(&mut self, other: Strings)
-        ensures { (bytes : List ℕ) → contains_text self.new bytes ≡ (contains_text self.old bytes && not (contains_text other bytes)) }
+        ensures { (bytes : List ℕ) →
+            contains_text self.new bytes ≡ (contains_text self.old bytes && not (contains_text other bytes)) }
     {
         if self.texts.len() < other.texts.len() {
             self.keep_others(&other);
@@ -84,7 +88,8 @@ impl Strings {
 
     /// Goes along the strings, and keeps those that the other lacks.
     fn keep_others(&mut self, other: &Strings)
-        ensures { (bytes : List ℕ) → contains_text self.new bytes ≡ (contains_text self.old bytes && not (contains_text other.now bytes)) }
+        ensures { (bytes : List ℕ) →
+            contains_text self.new bytes ≡ (contains_text self.old bytes && not (contains_text other.now bytes)) }
     {
         self.texts
             .retain(|text| !other.texts.contains(text.as_str()));
@@ -92,7 +97,8 @@ impl Strings {
 
     /// Goes along the other strings, and takes each away.
     fn remove_each(&mut self, other: Strings)
-        ensures { (bytes : List ℕ) → contains_text self.new bytes ≡ (contains_text self.old bytes && not (contains_text other bytes)) }
+        ensures { (bytes : List ℕ) →
+            contains_text self.new bytes ≡ (contains_text self.old bytes && not (contains_text other bytes)) }
     {
         for text in other.texts {
             self.texts.remove(text.as_str());
@@ -105,7 +111,8 @@ impl Strings {
         alloc: Global,
         set: &CodePointInversionListAndStringList,
     ) -> Result<(), NoMemory>
-        ensures { OnOk result ((bytes : List ℕ) → contains_text self.new bytes ≡ (contains_text self.old bytes || holds set.now.strings bytes)) }
+        ensures { OnOk result ((bytes : List ℕ) →
+            contains_text self.new bytes ≡ (contains_text self.old bytes || holds set.now.strings bytes)) }
     {
         self.insert_each(alloc, set.strings())
     }
@@ -124,7 +131,8 @@ impl Strings {
 
     /// Takes the strings of the set away. It goes along the fewer, and looks each up among the others.
     pub(crate) fn remove_listed(&mut self, set: &CodePointInversionListAndStringList)
-        ensures { (bytes : List ℕ) → contains_text self.new bytes ≡ (contains_text self.old bytes && not (holds set.now.strings bytes)) }
+        ensures { (bytes : List ℕ) →
+            contains_text self.new bytes ≡ (contains_text self.old bytes && not (holds set.now.strings bytes)) }
     {
         if self.texts.len() < set.strings().len() {
             self.keep_unlisted(set);
@@ -135,14 +143,16 @@ impl Strings {
 
     /// Goes along the strings, and keeps those that the set lacks.
     fn keep_unlisted(&mut self, set: &CodePointInversionListAndStringList)
-        ensures { (bytes : List ℕ) → contains_text self.new bytes ≡ (contains_text self.old bytes && not (holds set.now.strings bytes)) }
+        ensures { (bytes : List ℕ) →
+            contains_text self.new bytes ≡ (contains_text self.old bytes && not (holds set.now.strings bytes)) }
     {
         self.texts.retain(|text| !set.contains_str(text));
     }
 
     /// Goes along the strings of the list, and takes each away.
     fn remove_each_listed(&mut self, strings: &[String])
-        ensures { (bytes : List ℕ) → contains_text self.new bytes ≡ (contains_text self.old bytes && not (holds (map string_bytes strings.now) bytes)) }
+        ensures { (bytes : List ℕ) → contains_text self.new bytes ≡
+            (contains_text self.old bytes && not (holds (map string_bytes strings.now) bytes)) }
     {
         for text in strings {
             self.texts.remove(text.as_str());
@@ -151,14 +161,16 @@ impl Strings {
 
     /// Goes along the strings, and keeps those that the set has too.
     pub(crate) fn keep_listed(&mut self, set: &CodePointInversionListAndStringList)
-        ensures { (bytes : List ℕ) → contains_text self.new bytes ≡ (contains_text self.old bytes && holds set.now.strings bytes) }
+        ensures { (bytes : List ℕ) →
+            contains_text self.new bytes ≡ (contains_text self.old bytes && holds set.now.strings bytes) }
     {
         self.texts.retain(|text| set.contains_str(text));
     }
 
     /// Keeps only the strings that the other has too. It goes along the fewer, and looks each up among the others.
     pub(crate) fn keep_only(&mut self, mut other: Strings)
-        ensures { (bytes : List ℕ) → contains_text self.new bytes ≡ (contains_text self.old bytes && contains_text other bytes) }
+        ensures { (bytes : List ℕ) →
+            contains_text self.new bytes ≡ (contains_text self.old bytes && contains_text other bytes) }
     {
         if other.texts.len() < self.texts.len() {
             swap(self, &mut other);
@@ -168,7 +180,8 @@ impl Strings {
 
     /// Goes along the strings, and keeps those that the other has too.
     fn keep_each(&mut self, other: &Strings)
-        ensures { (bytes : List ℕ) → contains_text self.new bytes ≡ (contains_text self.old bytes && contains_text other.now bytes) }
+        ensures { (bytes : List ℕ) →
+            contains_text self.new bytes ≡ (contains_text self.old bytes && contains_text other.now bytes) }
     {
         self.texts
             .retain(|text| other.texts.contains(text.as_str()));
@@ -176,7 +189,8 @@ impl Strings {
 
     /// The strings as a list.
     pub(crate) fn into_list(self, alloc: Global) -> Result<Vec<String>, NoMemory>
-        ensures strings { IfOk result (λ list. (bytes : List ℕ) → holds (map string_bytes list.items) bytes ≡ contains_text self bytes) }
+        ensures strings { IfOk result
+            (λ list. (bytes : List ℕ) → holds (map string_bytes list.items) bytes ≡ contains_text self bytes) }
         ensures canonical { IfOk result (λ list. AreCanonical (map string_bytes list.items)) }
     {
         let mut list = Vec::with_capacity(alloc, self.texts.len())?;

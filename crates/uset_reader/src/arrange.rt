@@ -60,7 +60,12 @@ impl Arranged {
 
     /// The range is added in front.
     fn adds(first: CodePoint, last: CodePoint, awaits: Awaits) -> Option<Arranged>
-        ensures { result ≡ Some (record { adds = Some (record { start = number_of first; end = number_of last }); operation = Join; awaits = awaits }) }
+        ensures { result ≡ Some (record {
+          adds = Some
+              (record { start = number_of first; end = number_of last });
+          operation = Join;
+          awaits = awaits;
+        }) }
     {
         Some(Arranged {
             adds: Some(CodePointRange {
@@ -86,7 +91,8 @@ impl Arranged {
 
 /// What becomes of an item behind those that were read. `None` where it doesn't fit.
 pub(crate) fn arranged_behind(awaits: Awaits, item: &Item<'_>) -> Option<Arranged>
-    ensures arranged { (tree : Tree) → Arranges (next (awaits_seen awaits) (item_seen tree item.now)) (item_seen tree item.now) result }
+    ensures arranged { (tree : Tree) →
+        Arranges (next (awaits_seen awaits) (item_seen tree item.now)) (item_seen tree item.now) result }
     ensures within { IfSome result (λ a. IfSome a.adds (λ r. r.end ≤ 0x10FFFF)) }
 {
     match (awaits, item) {

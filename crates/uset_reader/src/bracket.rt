@@ -222,7 +222,8 @@ impl<'a> OpenBracket<'a> {
 
     /// Adds what is left standing for itself in front of a `]`. The answer says whether a `]` fits.
     fn add_last(&mut self) -> Result<bool, NoMemory>
-        ensures ended { IfOk result (EndedAs (ending (awaits_seen self.old.awaits)) self.old.gathered self.new.gathered) }
+        ensures ended { IfOk result
+            (EndedAs (ending (awaits_seen self.old.awaits)) self.old.gathered self.new.gathered) }
         ensures same { KeepsFrame self.old self.new }
     {
         match self.awaits {

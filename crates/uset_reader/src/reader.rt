@@ -28,7 +28,8 @@ fn read_bracket<'a>(
     opening: Opening,
     inner: &'a str,
 ) -> Result<(Gathered, Cursor<'a>), ParseError>
-    requires begins { first (language_seen syntax.now) (chars source.now) ≡ of_bracket (opening_seen opening) (chars inner.now) }
+    requires begins { first (language_seen syntax.now) (chars source.now) ≡
+        of_bracket (opening_seen opening) (chars inner.now) }
     requires behind { length inner.now < length source.now }
     ensures read { IfOk result (λ p. IsReading (language_seen syntax.now) source.now p.0 p.1) }
     ensures refused { IfErr result (IsRefusal (language_seen syntax.now) source.now) }
@@ -58,7 +59,8 @@ fn read_variable<'a>(
     name: &str,
     rest: &'a str,
 ) -> Result<(Gathered, Cursor<'a>), ParseError>
-    requires begins { first (language_seen syntax.now) (chars source.now) ≡ of_variable (chars name.now) (chars rest.now) }
+    requires begins { first (language_seen syntax.now) (chars source.now) ≡
+        of_variable (chars name.now) (chars rest.now) }
     requires behind { length rest.now < length source.now }
     ensures read { IfOk result (λ p. IsReading (language_seen syntax.now) source.now p.0 p.1) }
     ensures refused { IfErr result (IsRefusal (language_seen syntax.now) source.now) }

@@ -122,7 +122,8 @@ fn take_variable<'v, 'a>(
 ) -> Result<Progress<'a>, ParseError>
     requires within { length text.now ≤ length (left_of cursor) }
     requires behind { length rest.now < length (left_of cursor) }
-    ensures takes { TakesVariable (language_seen syntax.now) (source_of cursor.entry) bracket.old name.now text.now rest.now bracket.new result }
+    ensures takes { TakesVariable (language_seen syntax.now)
+        (source_of cursor.entry) bracket.old name.now text.now rest.now bracket.new result }
     ensures shorter { IfOk result (λ p. IsShorter p (left_of cursor.entry)) }
 {
     laws::turns();
@@ -135,7 +136,8 @@ fn take_variable<'v, 'a>(
 
 /// Whether the unit is a property with nothing behind it.
 fn is_last_property(item: &Item<'_>, rest: &str) -> bool
-    ensures { (l : Language) (g : Gathering) (i : GrammarItem) → IsItem l g item.now i → result ≡ is_last_property of_unit i (chars rest.now) }
+    ensures { (l : Language) (g : Gathering) (i : GrammarItem) → IsItem l g item.now i →
+        result ≡ is_last_property of_unit i (chars rest.now) }
 {
     match item {
         Item::Set(_) => split_first(rest).is_none(),
@@ -152,7 +154,8 @@ fn take_unit<'v, 'a>(
     text: &'a str,
 ) -> Result<Progress<'a>, ParseError>
     requires within { length text.now ≤ length (left_of cursor) }
-    ensures takes { TakesUnit (language_seen syntax.now) (source_of cursor.entry) bracket.old text.now bracket.new result }
+    ensures takes { TakesUnit (language_seen syntax.now)
+        (source_of cursor.entry) bracket.old text.now bracket.new result }
     ensures shorter { IfOk result (λ p. IsShorter p (left_of cursor.entry)) }
 {
     laws::arranging();
@@ -180,7 +183,8 @@ fn open<'v, 'a>(
 ) -> Result<Progress<'a>, ParseError>
     requires within { length text.now ≤ length (left_of cursor) }
     requires behind { length inner.now < length (left_of cursor) }
-    ensures opens { Opens (source_of cursor.entry) outer.old.items bracket.old opening text.now inner.now outer.new.items bracket.new result }
+    ensures opens { Opens
+        (source_of cursor.entry) outer.old.items bracket.old opening text.now inner.now outer.new.items bracket.new result }
     ensures shorter { IfOk result (λ p. IsShorter p (left_of cursor.entry)) }
 {
     laws::turns();
@@ -201,7 +205,8 @@ fn close<'v, 'a>(
 ) -> Result<Progress<'a>, ParseError>
     requires within { length text.now ≤ length (left_of cursor) }
     requires behind { length rest.now < length (left_of cursor) }
-    ensures closes { ClosesAs (source_of cursor.entry) outer.old.items bracket.old text.now rest.now outer.new.items bracket.new result }
+    ensures closes { ClosesAs
+        (source_of cursor.entry) outer.old.items bracket.old text.now rest.now outer.new.items bracket.new result }
     ensures shorter { IfOk result (λ p. IsShorter p (left_of cursor.entry)) }
 {
     laws::turns();
@@ -230,7 +235,8 @@ pub(crate) fn turn<'v, 'a>(
     outer: &mut Vec<OpenBracket<'v>>,
     bracket: &mut OpenBracket<'v>,
 ) -> Result<Progress<'a>, ParseError>
-    ensures turns { TurnsAt (language_seen syntax.now) cursor.entry outer.old.items bracket.old outer.new.items bracket.new result }
+    ensures turns { TurnsAt
+        (language_seen syntax.now) cursor.entry outer.old.items bracket.old outer.new.items bracket.new result }
     ensures shorter { IfOk result (λ p. IsShorter p (left_of cursor.entry)) }
 {
     laws::turns();

@@ -76,7 +76,8 @@ fn read_text<'v, 'a>(
     text: &'a str,
 ) -> Result<(Item<'v>, &'a str), Stop<'a>>
     requires { IsString (chars text.now) }
-    ensures read { IfOk result (λ p. (g : Gathering) → UnitIs (language_seen syntax.now) g several text.now p.0 p.1.now) }
+    ensures read { IfOk result
+        (λ p. (g : Gathering) → UnitIs (language_seen syntax.now) g several text.now p.0 p.1.now) }
     ensures proper { IfOk result (λ p. IsProper p.0) }
     ensures stopped { IfErr result (UnitStops (language_seen syntax.now) several text.now) }
     ensures place { IfErr result (λ stop. left_at stop ≤ length text.now) }
@@ -95,7 +96,8 @@ fn read_escaped<'v, 'a>(
     text: &'a str,
 ) -> Result<(Item<'v>, &'a str), Stop<'a>>
     requires { IsEscape (chars text.now) }
-    ensures read { IfOk result (λ p. (g : Gathering) → UnitIs (language_seen syntax.now) g several text.now p.0 p.1.now) }
+    ensures read { IfOk result
+        (λ p. (g : Gathering) → UnitIs (language_seen syntax.now) g several text.now p.0 p.1.now) }
     ensures proper { IfOk result (λ p. IsProper p.0) }
     ensures stopped { IfErr result (UnitStops (language_seen syntax.now) several text.now) }
     ensures place { IfErr result (λ stop. left_at stop ≤ length text.now) }
@@ -116,7 +118,8 @@ fn read_set<'v, 'a>(
     text: &'a str,
 ) -> Result<(Item<'v>, &'a str), Stop<'a>>
     requires { IsProperty (chars text.now) }
-    ensures read { IfOk result (λ p. UnitInFitting (language_seen syntax.now) gathered.now several text.now p.0 p.1.now) }
+    ensures read { IfOk result
+        (λ p. UnitInFitting (language_seen syntax.now) gathered.now several text.now p.0 p.1.now) }
     ensures proper { IfOk result (λ p. IsProper p.0) }
     ensures stopped { IfErr result (UnitStopsIn (language_seen syntax.now) gathered.now several text.now) }
     ensures place { IfErr result (λ stop. left_at stop ≤ length text.now) }
@@ -147,7 +150,8 @@ pub(crate) fn read_unit<'v, 'a>(
     gathered: &Gathering<'v>,
     text: &'a str,
 ) -> Result<(Item<'v>, &'a str), Stop<'a>>
-    ensures read { IfOk result (λ p. UnitInFitting (language_seen syntax.now) gathered.now several text.now p.0 p.1.now) }
+    ensures read { IfOk result
+        (λ p. UnitInFitting (language_seen syntax.now) gathered.now several text.now p.0 p.1.now) }
     ensures proper { IfOk result (λ p. IsProper p.0) }
     ensures stopped { IfErr result (UnitStopsIn (language_seen syntax.now) gathered.now several text.now) }
     ensures place { IfErr result (λ stop. left_at stop ≤ length text.now) }

@@ -47,7 +47,8 @@ fn add_begun(
 
 /// The range before, where there is one, up to the end of the range that touches it.
 fn grown(begun: Option<CodePointRange>, range: CodePointRange) -> CodePointRange
-    ensures held { Touches begun range → (c : ℕ) → in_code_points result c ≡ (is_held begun c || in_code_points range c) }
+    ensures held { Touches begun range → (c : ℕ) →
+        in_code_points result c ≡ (is_held begun c || in_code_points range c) }
     ensures ends { Touches begun range → EndsBefore (range.end + 1) (Some result) }
 {
     match begun {

@@ -141,7 +141,8 @@ pub(crate) fn of_value(
     key: &Key,
     value: &str,
 ) -> Result<Option<CodePointInversionList>, NoMemory>
-    ensures { IfOk result (λ list. (k : Asked) → IsKey key.now k → IsList list (of_value (tables_of database.now) k value.now)) }
+    ensures { IfOk result
+        (λ list. (k : Asked) → IsKey key.now k → IsList list (of_value (tables_of database.now) k value.now)) }
 {
     match key {
         Key::Categories => of_group(alloc, database, value.as_bytes()),

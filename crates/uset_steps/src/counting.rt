@@ -29,7 +29,8 @@ impl Drop for Seen {
 /// Marks the place, where there is one. The answer is true where it was marked already.
 fn mark(flags: &mut Vec<bool>, place: usize) -> bool
     ensures before { OnTrue result (slice_get flags.old.items place ≡ Some true) }
-    ensures marked { (i : ℕ) → slice_get flags.new.items i ≡ Some true → (slice_get flags.old.items i ≡ Some true) ⊎ (i ≡ place) }
+    ensures marked { (i : ℕ) → slice_get flags.new.items i ≡ Some true →
+        (slice_get flags.old.items i ≡ Some true) ⊎ (i ≡ place) }
 {
     match flags.get_mut(place) {
         Some(flag) => replace(flag, true),

@@ -59,7 +59,8 @@ impl<'a> Gathering<'a> {
     #[inline]
     pub fn add_range(&mut self, range: CodePointRange) -> Result<(), NoMemory>
         requires { range.end ≤ 0x10_FFFF }
-        ensures becomes { OnOk result (Becomes self.old self.new (λ m. gathering_in self.old m || in_range range.start range.end m)) }
+        ensures becomes { OnOk result
+            (Becomes self.old self.new (λ m. gathering_in self.old m || in_range range.start range.end m)) }
         ensures places { OnOk result (KeepsPlaces self.old self.new) }
     {
         let Some(later) = &mut self.later else {
@@ -71,7 +72,8 @@ impl<'a> Gathering<'a> {
     /// Adds a string, which isn't one character.
     pub fn add_text(&mut self, alloc: Global, text: String) -> Result<(), NoMemory>
         requires { sole_of (chars (string_bytes text)) ≡ None }
-        ensures becomes { OnOk result (Becomes self.old self.new (λ m. gathering_in self.old m || is_string (string_bytes text) m)) }
+        ensures becomes { OnOk result
+            (Becomes self.old self.new (λ m. gathering_in self.old m || is_string (string_bytes text) m)) }
         ensures places { OnOk result (KeepsPlaces self.old self.new) }
     {
         match &mut self.later {
@@ -112,7 +114,8 @@ impl<'a> Gathering<'a> {
         operation: Operation,
         set: Gathered,
     ) -> Result<(), NoMemory>
-        ensures { OnOk result (Becomes self.old self.new (λ m. operated operation (gathered_in set m) (gathering_in self.old m))) }
+        ensures { OnOk result
+            (Becomes self.old self.new (λ m. operated operation (gathered_in set m) (gathering_in self.old m))) }
     {
         self.make_way(alloc)?;
         match &mut self.later {
@@ -131,7 +134,8 @@ impl<'a> Gathering<'a> {
     ) -> Result<(), NoMemory>
         ensures becomes { OnOk result ((sets : Sets) → Fits sets self.old → IsSetOf sets named.entry →
             BecomesWith sets self.new (λ m. operated operation (named_in named.entry.set m) (gathering_in self.old m))) }
-        ensures kept { OnOk result (is_large named.entry.set ≡ true → IsSomewhere self.new (name_seen named.entry.name)) }
+        ensures kept { OnOk result
+            (is_large named.entry.set ≡ true → IsSomewhere self.new (name_seen named.entry.name)) }
     {
         self.make_way(alloc)?;
         let mut later = match self.later.take() {

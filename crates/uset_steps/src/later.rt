@@ -63,7 +63,8 @@ impl<'a> Later<'a> {
     #[cold]
     pub(crate) fn put_off(&mut self, step: Step) -> Result<(), NoMemory>
         requires { names_none step ≡ true }
-        ensures members { OnOk result ((m : Member) (b : Bool) → later_done self.new m b ≡ step_done [] step m (later_done self.old m b)) }
+        ensures members { OnOk result
+            ((m : Member) (b : Bool) → later_done self.new m b ≡ step_done [] step m (later_done self.old m b)) }
         ensures names { OnOk result ((sets : Sets) → LaterFits sets self.old → LaterFits sets self.new) }
         ensures places { self.new.places ≡ self.old.places }
     {

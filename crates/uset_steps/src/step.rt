@@ -41,7 +41,8 @@ pub(crate) fn gather(
     operation: Operation,
     operand: Operand<'_>,
 ) -> Result<(), NoMemory>
-    ensures { OnOk result (HasMembers gathered.new (λ m. operated operation (operand_in operand.entry m) (gathered_in gathered.old m))) }
+    ensures { OnOk result
+        (HasMembers gathered.new (λ m. operated operation (operand_in operand.entry m) (gathered_in gathered.old m))) }
 {
     match operation {
         Operation::Join => gathered.join(operand, alloc),

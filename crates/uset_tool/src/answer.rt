@@ -83,7 +83,8 @@ fn push_string(text: &mut String, string: &str) -> Result<(), NoMemory>
 
 /// Appends all strings.
 fn push_strings(text: &mut String, strings: &[String]) -> Result<(), NoMemory>
-    ensures { OnOk result (string_bytes text.new ≡ string_bytes text.old ++ flat_map string_text (map string_bytes strings.now)) }
+    ensures { OnOk result
+        (string_bytes text.new ≡ string_bytes text.old ++ flat_map string_text (map string_bytes strings.now)) }
 {
     for string in strings {
         push_string(text, string.as_str())?;
@@ -140,7 +141,8 @@ pub(crate) fn answer_pattern(
     variables: &VariableMap,
     database: &PropertyDatabase,
 ) -> Result<Answer, NoMemory>
-    ensures { IfOk result (λ a. PatternAnswer (language_of (variables_of variables.now) (tables_of database.now)) source.now (string_bytes a.text) a.is_err) }
+    ensures { IfOk result (λ a. PatternAnswer
+        (language_of (variables_of variables.now) (tables_of database.now)) source.now (string_bytes a.text) a.is_err) }
 {
     match parse_unstable_with_variables(alloc, source, variables, database) {
         Ok((set, length)) => answer_read(alloc, &set, length),

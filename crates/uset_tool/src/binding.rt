@@ -55,7 +55,8 @@ fn bind(
     variables: &mut VariableMap,
 ) -> Result<(), NoMemory>
     requires { bound variables.old name.now ≡ None }
-    ensures { OnOk result (variables_of variables.new ≡ with_binding name.now (value_seen (kept value)) (variables_of variables.old)) }
+    ensures { OnOk result
+        (variables_of variables.new ≡ with_binding name.now (value_seen (kept value)) (variables_of variables.old)) }
 {
     match variables.insert(String::from_str(alloc, name)?, value) {
         Ok(()) => Ok(()),
@@ -72,7 +73,8 @@ fn answer_value(
     variables: &mut VariableMap,
 ) -> Result<Answer, NoMemory>
     requires { bound variables.old name.now ≡ None }
-    ensures { IfOk result (IsBound name.now (value_seen (kept value)) (variables_of variables.old) (variables_of variables.new)) }
+    ensures { IfOk result
+        (IsBound name.now (value_seen (kept value)) (variables_of variables.old) (variables_of variables.new)) }
 {
     let answer = answer_bound(alloc, name)?;
     bind(alloc, name, value, variables)?;
@@ -88,7 +90,8 @@ fn answer_set(
     database: &PropertyDatabase,
 ) -> Result<Answer, NoMemory>
     requires { bound variables.old name.now ≡ None }
-    ensures { IfOk result (AnswersDefinition database.now name.now (set_definition source.now) variables.old variables.new) }
+    ensures { IfOk result
+        (AnswersDefinition database.now name.now (set_definition source.now) variables.old variables.new) }
 {
     let (set, length) = match parse_unstable_with_variables(alloc, source, variables, database) {
         Ok(read) => read,
@@ -109,7 +112,8 @@ fn answer_definition(
     database: &PropertyDatabase,
 ) -> Result<Answer, NoMemory>
     requires { bound variables.old name.now ≡ None }
-    ensures { IfOk result (AnswersDefinition database.now name.now (definition_seen definition.entry) variables.old variables.new) }
+    ensures { IfOk result
+        (AnswersDefinition database.now name.now (definition_seen definition.entry) variables.old variables.new) }
 {
     match definition {
         Definition::Char(c) => answer_value(alloc, name, VariableValue::Char(c), variables),
@@ -129,7 +133,8 @@ fn answer_binding(
     variables: &mut VariableMap,
     database: &PropertyDatabase,
 ) -> Result<Answer, NoMemory>
-    ensures { IfOk result (AnswersBinding database.now name.now (definition_seen definition.entry) variables.old variables.new) }
+    ensures { IfOk result
+        (AnswersBinding database.now name.now (definition_seen definition.entry) variables.old variables.new) }
 {
     if variables.get(name).is_some() {
         return answer_bound_before(alloc, name);

@@ -58,7 +58,8 @@ fn push_counts(
     database: &PropertyDatabase,
     kinds: &[TableKind],
 ) -> Result<(), NoMemory>
-    ensures { OnOk result (string_bytes text.new ≡ string_bytes text.old ++ flat_map (count_line (tables_of database.now)) kinds.now) }
+    ensures { OnOk result
+        (string_bytes text.new ≡ string_bytes text.old ++ flat_map (count_line (tables_of database.now)) kinds.now) }
 {
     for kind in kinds {
         push_count(text, database, *kind)?;

@@ -45,7 +45,8 @@ impl From<AllocError> for InputError {
 pub(crate) fn read_input<S: Source>(alloc: Global, source: &mut S) -> Result<Vec<u8>, InputError>
     ensures whole { IfOk result (λ input. TakesAll (S.left source.old) (S.left source.new) input.items) }
     ensures short { IfOk result (λ input. length input.items ≤ limit) }
-    ensures stopped { IfErr result (λ e. Stops e (S.left source.old) (S.left source.new) (S.faults source.old) (S.faults source.new)) }
+    ensures stopped { IfErr result
+        (λ e. Stops e (S.left source.old) (S.left source.new) (S.faults source.old) (S.faults source.new)) }
     ensures counted { S.faults source.old ≤ S.faults source.new }
 {
     let mut input = Vec::new(alloc);

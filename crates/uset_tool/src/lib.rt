@@ -5,8 +5,6 @@ mod answer;
 mod binding;
 mod count;
 mod counts;
-#[cfg(test)]
-mod devices;
 mod generator;
 mod input;
 pub mod laws;

@@ -23,7 +23,8 @@ impl Calls {
         ensures fails { result ≡ is_among self.old.failing.items self.old.made }
         ensures failing { self.new.failing ≡ self.old.failing }
         ensures made { self.new.made ≡ one_more self.old.made }
-        ensures faults { self.new.faults ≡ (if is_among self.old.failing.items self.old.made then one_more self.old.faults else self.old.faults) }
+        ensures faults { self.new.faults ≡
+            (if is_among self.old.failing.items self.old.made then one_more self.old.faults else self.old.faults) }
     {
         let fails = self.failing.contains(&self.made);
         self.made = self.made.saturating_add(1);
@@ -74,7 +75,8 @@ impl MemorySource {
     /// read has the number 0.
     pub fn new(bytes: Vec<u8>, piece: usize, failing: Vec<u64>) -> MemorySource
         requires { 0 < piece }
-        ensures { result ≡ record { bytes = bytes.items; piece = piece; failing = failing.items; calls = 0; faults = 0 } }
+        ensures { result ≡
+            record { bytes = bytes.items; piece = piece; failing = failing.items; calls = 0; faults = 0 } }
     {
         let calls = Calls {
             failing,

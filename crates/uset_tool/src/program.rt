@@ -31,7 +31,8 @@ use uset_parse::laws::one_answer as one_answer_of_a_source;
 fn say<K: Sink>(sink: &mut K, text: &str, wanted: Status) -> Status
     ensures says { Says (K.written sink.old) (K.written sink.new) text.now wanted result }
     ensures ends { EndsAs wanted result }
-    ensures failed { result ≡ Status.WriteFault → wanted ≢ Status.WriteFault → Rose (K.faults sink.old) (K.faults sink.new) }
+    ensures failed { result ≡ Status.WriteFault → wanted ≢ Status.WriteFault →
+        Rose (K.faults sink.old) (K.faults sink.new) }
     ensures counted { K.faults sink.old ≤ K.faults sink.new }
 {
     match write_all(sink, text.as_bytes()) {
@@ -107,7 +108,8 @@ fn say_sizes<K: Sink>(
 /// Answers the lines of a script.
 fn answer<K: Sink>(alloc: Global, script: &str, database: &PropertyDatabase, sink: &mut K) -> Status
     requires { AreAllowed (tables_of database.now) }
-    ensures written { ScriptWrites (tables_of database.now) (lines script.now) (K.written sink.old) (K.written sink.new) result }
+    ensures written { ScriptWrites (tables_of database.now) (lines script.now) (K.written sink.old)
+        (K.written sink.new) result }
     ensures failed { result ≡ Status.WriteFault → Rose (K.faults sink.old) (K.faults sink.new) }
     ensures counted { K.faults sink.old ≤ K.faults sink.new }
 {
@@ -149,7 +151,8 @@ fn count<K: Sink>(alloc: Global, input: &str, sink: &mut K) -> Status
 
 /// Answers an input that is text and a table text alone: the sizes of the set of the pattern that the number tells.
 fn generate<K: Sink>(alloc: Global, count: Count, input: &str, sink: &mut K) -> Status
-    ensures written { AppendsAnswer (Generates count.number input.now) (K.written sink.old) (K.written sink.new) result }
+    ensures written { AppendsAnswer (Generates count.number input.now) (K.written sink.old)
+        (K.written sink.new) result }
     ensures status { is_of_text result ≡ true }
     ensures failed { result ≡ Status.WriteFault → Rose (K.faults sink.old) (K.faults sink.new) }
     ensures counted { K.faults sink.old ≤ K.faults sink.new }

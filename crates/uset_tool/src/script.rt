@@ -26,7 +26,8 @@ pub(crate) fn answer_script<K: Sink>(
     sink: &mut K,
 ) -> Result<bool, WriteError>
     requires { AreAllowed (tables_of database.now) }
-    ensures written { AnswersScript (tables_of database.now) no_variables (lines script.now) (K.written sink.old) (K.written sink.new) result }
+    ensures written { AnswersScript (tables_of database.now) no_variables (lines script.now) (K.written sink.old)
+        (K.written sink.new) result }
     ensures failed { result ≡ Err WriteError.Failed → Rose (K.faults sink.old) (K.faults sink.new) }
     ensures counted { K.faults sink.old ≤ K.faults sink.new }
 {

@@ -145,7 +145,8 @@ impl<W: Write + Drop> Sink for StdSink<W> {
         ensures bytes { WritesFront
             (⟦<StdSink<W> as Sink>⟧.written self.old) (⟦<StdSink<W> as Sink>⟧.written self.new) result buf.now }
         ensures failed { IfErr result (λ error. error ≡ WriteError.Failed) }
-        ensures rose { IfErr result (λ _. Rose (⟦<StdSink<W> as Sink>⟧.faults self.old) (⟦<StdSink<W> as Sink>⟧.faults self.new)) }
+        ensures rose { IfErr result
+            (λ _. Rose (⟦<StdSink<W> as Sink>⟧.faults self.old) (⟦<StdSink<W> as Sink>⟧.faults self.new)) }
         ensures counted { ⟦<StdSink<W> as Sink>⟧.faults self.old ≤ ⟦<StdSink<W> as Sink>⟧.faults self.new }
     {
         match self.writer.write(buf) {

@@ -73,7 +73,8 @@ impl OpenEmoji {
 
     /// Takes a range.
     fn add_range(&mut self, field: &[u8], number: usize) -> Result<(), LoadError>
-        ensures { TakesEmoji self.old (emoji_range_fault self.old.last (range field.now)) (range field.now) None number result self.new }
+        ensures { TakesEmoji self.old (emoji_range_fault self.old.last (range field.now))
+            (range field.now) None number result self.new }
     {
         let Some(range) = range(field) else {
             return Err(fault(number, TableErrorKind::BadNumber));

@@ -58,7 +58,8 @@ impl<T: TrieValue> MapBuilder<T> {
         ensures default { OnOk result (self.new.default ≡ self.old.default) }
         ensures values { OnOk result ((c : ℕ) → value_in self.new.runs.items self.new.default c ≡
             (if in_range (record { start = next_of self.old.last; end = end }) c then value else value_in self.old.runs.items self.old.default c)) }
-        ensures kept { OnErr result ((c : ℕ) → value_in self.new.runs.items self.new.default c ≡ value_in self.old.runs.items self.old.default c) }
+        ensures kept { OnErr result ((c : ℕ) →
+            value_in self.new.runs.items self.new.default c ≡ value_in self.old.runs.items self.old.default c) }
     {
         let range = CodePointRange {
             start: self.next(),
@@ -75,8 +76,10 @@ impl<T: TrieValue> MapBuilder<T> {
         requires within { start ≤ 0x11_0000 }
         ensures last { OnOk result (next_of self.new.last ≡ start) }
         ensures default { OnOk result (self.new.default ≡ self.old.default) }
-        ensures values { OnOk result ((c : ℕ) → value_in self.new.runs.items self.new.default c ≡ value_in self.old.runs.items self.old.default c) }
-        ensures kept { OnErr result ((c : ℕ) → value_in self.new.runs.items self.new.default c ≡ value_in self.old.runs.items self.old.default c) }
+        ensures values { OnOk result ((c : ℕ) →
+            value_in self.new.runs.items self.new.default c ≡ value_in self.old.runs.items self.old.default c) }
+        ensures kept { OnErr result ((c : ℕ) →
+            value_in self.new.runs.items self.new.default c ≡ value_in self.old.runs.items self.old.default c) }
     {
         if self.next() < start {
             self.push(start - 1, self.default)?;
@@ -93,7 +96,8 @@ impl<T: TrieValue> MapBuilder<T> {
         ensures default { OnOk result (self.new.default ≡ self.old.default) }
         ensures values { OnOk result ((c : ℕ) → value_in self.new.runs.items self.new.default c ≡
             (if in_range range c then value else value_in self.old.runs.items self.old.default c)) }
-        ensures kept { OnErr result ((c : ℕ) → value_in self.new.runs.items self.new.default c ≡ value_in self.old.runs.items self.old.default c) }
+        ensures kept { OnErr result ((c : ℕ) →
+            value_in self.new.runs.items self.new.default c ≡ value_in self.old.runs.items self.old.default c) }
     {
         self.fill_to(range.start)?;
         self.push(range.end, value)

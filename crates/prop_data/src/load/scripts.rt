@@ -47,7 +47,8 @@ impl OpenScripts {
     /// Takes a row.
     #[tactic(auto, unfolding(crate::specs::LineFault::range_fault, crate::specs::LineFault::value_fault))]
     pub(crate) fn add_row(&mut self, row: Row<'_>, number: usize) -> Result<(), LoadError>
-        ensures { TakesRow (OpenTable.Scripts self.old) (row_seen row.entry) number result (OpenTable.Scripts self.new) }
+        ensures { TakesRow (OpenTable.Scripts self.old) (row_seen row.entry) number result
+            (OpenTable.Scripts self.new) }
     {
         let Some(second) = row.second else {
             return Err(fault(number, TableErrorKind::UnknownLine));

@@ -51,7 +51,8 @@ impl Strings {
     /// Adds a string, which isn't one character.
     pub(crate) fn insert(&mut self, text: String) -> Result<(), NoMemory>
         requires { sole_of (chars (string_bytes text)) ≡ None }
-        ensures { OnOk result ((bytes : List ℕ) → contains_text self.new bytes ≡ (contains_text self.old bytes || bytes_eq (string_bytes text) bytes)) }
+        ensures { OnOk result ((bytes : List ℕ) →
+            contains_text self.new bytes ≡ (contains_text self.old bytes || bytes_eq (string_bytes text) bytes)) }
     {
         self.texts.insert(text)?;
         Ok(())
@@ -59,7 +60,8 @@ impl Strings {
 
     /// The strings as a list.
     pub(crate) fn into_list(self, alloc: Global) -> Result<Vec<String>, NoMemory>
-        ensures strings { IfOk result (λ list. (bytes : List ℕ) → holds (map string_bytes list.items) bytes ≡ contains_text self bytes) }
+        ensures strings { IfOk result
+            (λ list. (bytes : List ℕ) → holds (map string_bytes list.items) bytes ≡ contains_text self bytes) }
         ensures canonical { IfOk result (λ list. AreCanonical (map string_bytes list.items)) }
     {
         let mut list = Vec::with_capacity(alloc, self.texts.len())?;

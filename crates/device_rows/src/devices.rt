@@ -1,11 +1,11 @@
 //! Tests of the sources and sinks, and of the numbers of the statuses.
-use crate::{
-    Failed, MemorySink, Sink, Source, Status, StdSink, StdSource, SureSink, SureSource, WriteError,
-    run,
-};
 use std::alloc::Global;
 use std::io::{self, Cursor, Error, ErrorKind, Read, Write};
 use std::test::Fail;
+use uset_tool::{
+    Failed, MemorySink, Sink, Source, Status, StdSink, StdSource, SureSink, SureSource, WriteError,
+    run,
+};
 
 /// The tables of the pattern syntax, for ASCII, and a pattern.
 const INPUT: &[u8] =
