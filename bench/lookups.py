@@ -18,7 +18,7 @@ from measured import CODE_POINTS, TOP, build
 # The last commit whose maps are found by binary search alone.
 SEARCH = "55a23fe"
 
-MAIN = """//! Times maps of two crates.
+MAIN = """//! Times maps of one crate.
 #![tactic(auto)]
 
 MODULES
@@ -123,49 +123,53 @@ def text_of(runs):
     return "".join(f"{start} {end} {value}\n" for start, end, value in runs)
 
 
-def write_repository(folder):
-    """A repository with both crates and a program that times them."""
-    crates = folder / "crates"
-    for name in ("cp_invlist", "cp_trie"):
-        shutil.copytree(TOP / "crates" / name, crates / name, ignore=shutil.ignore_patterns("out"))
+def copy_search(crates):
+    """Copies the crate of that commit under a name of its own."""
     archive = subprocess.run(["git", "archive", SEARCH, "crates/cp_trie"], cwd=TOP, stdout=subprocess.PIPE, check=True)
-    old = folder / "old"
-    old.mkdir()
-    subprocess.run(["tar", "x", "-C", str(old)], input=archive.stdout, check=True)
-    shutil.move(old / "crates" / "cp_trie", crates / "cp_trie_search")
-    shutil.rmtree(old)
+    subprocess.run(["tar", "x", "-C", str(crates.parent)], input=archive.stdout, check=True)
+    (crates / "cp_trie").rename(crates / "cp_trie_search")
     for path in (crates / "cp_trie_search").rglob("*.*"):
         if path.is_file():
             text = path.read_text(encoding="utf-8")
             path.write_text(text.replace("cp_trie", "cp_trie_search"), encoding="utf-8")
+
+
+def write_repository(folder, crate):
+    """A repository with the crate and a program that times it. The two crates have a program each, since the code of one
+    moves that of the other, and the loop of the search that gathers runs takes a fifth more or less by where it stands."""
+    crates = folder / "crates"
+    shutil.copytree(TOP / "crates" / "cp_invlist", crates / "cp_invlist", ignore=shutil.ignore_patterns("out"))
+    if crate == "cp_trie":
+        shutil.copytree(TOP / "crates" / crate, crates / crate, ignore=shutil.ignore_patterns("out"))
+    else:
+        copy_search(crates)
     source = crates / "lookups" / "src"
     source.mkdir(parents=True)
     modules, calls = "", ""
-    for crate in ("cp_trie_search", "cp_trie"):
-        for value in ("u8", "u32"):
-            name = f"{crate.removeprefix('cp_')}_{value}"
-            modules += f"mod {name};\n"
-            calls += f'    let built = {name}::build(&rt, alloc, &rows)?;\n'
-            calls += f'    let read = {name}::look_up(&rt, alloc, &rows, &points)?;\n'
-            calls += f'    println!(rt; "{crate} {value} {{built}} {{read}}")?;\n'
-            (source / f"{name}.rt").write_text(MODULE.replace("CRATE", crate).replace("VALUE", value))
+    for value in ("u8", "u32"):
+        name = f"values_{value}"
+        modules += f"mod {name};\n"
+        calls += f'    let built = {name}::build(&rt, alloc, &rows)?;\n'
+        calls += f'    let read = {name}::look_up(&rt, alloc, &rows, &points)?;\n'
+        calls += f'    println!(rt; "{crate} {value} {{built}} {{read}}")?;\n'
+        (source / f"{name}.rt").write_text(MODULE.replace("CRATE", crate).replace("VALUE", value))
     text = MAIN.replace("CODE_POINTS", CODE_POINTS).replace("MODULES", modules).replace("CALLS", calls)
     (source / "main.rt").write_text(text)
     (folder / "crates.txt").write_text(
-        "cp_invlist: thiserror\ncp_trie: cp_invlist thiserror\ncp_trie_search: cp_invlist thiserror\n"
-        "lookups: cp_invlist cp_trie cp_trie_search anyhow\n"
+        f"cp_invlist: thiserror\n{crate}: cp_invlist thiserror\nlookups: cp_invlist {crate} anyhow\n"
     )
     subprocess.run(["git", "init", "-q", str(folder)], check=True)
     return crates / "lookups"
 
 
-def print_times(program, title, text):
+def print_times(programs, title, text):
     print(f"{title}:")
-    out = subprocess.run([program], input=text, stdout=subprocess.PIPE, text=True, check=True).stdout
-    for line in out.splitlines():
-        crate, value, built, read = line.split()
-        kind = "page tables" if crate == "cp_trie" else "binary search"
-        print(f"  {kind:13} {value:3}  {int(built) / 1000:7.1f} us to build  {int(read) / (1 << 16):6.2f} ns a look-up")
+    for program in programs:
+        out = subprocess.run([program], input=text, stdout=subprocess.PIPE, text=True, check=True).stdout
+        for line in out.splitlines():
+            crate, value, built, read = line.split()
+            kind = "page tables" if crate == "cp_trie" else "binary search"
+            print(f"  {kind:13} {value:3}  {int(built) / 1000:7.1f} us to build  {int(read) / (1 << 16):6.2f} ns a look-up")
 
 
 def print_icu(folder):
@@ -181,10 +185,10 @@ def main():
     runs = category_runs()
     with tempfile.TemporaryDirectory() as name:
         folder = Path(name)
-        program = build(write_repository(folder))
+        programs = [build(write_repository(folder / crate, crate)) for crate in ("cp_trie_search", "cp_trie")]
         for _ in range(2):
-            print_times(program, f"General_Category, {len(runs)} runs", text_of(runs))
-            print_times(program, "one run", text_of([[0, 0x10FFFF, 5]]))
+            print_times(programs, f"General_Category, {len(runs)} runs", text_of(runs))
+            print_times(programs, "one run", text_of([[0, 0x10FFFF, 5]]))
         print_icu(folder)
 
 

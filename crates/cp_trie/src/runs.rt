@@ -68,7 +68,7 @@ impl<T: Copy + Eq> Runs<T> {
 }
 
 /// The first fault of runs that are to cover 0 to 10FFFF in order, if there is one.
-pub(crate) fn first_fault<T: Copy>(runs: &[CodePointMapRange<T>]) -> Option<TrieError>
+fn first_fault<T: Copy>(runs: &[CodePointMapRange<T>]) -> Option<TrieError>
     ensures { result ≡ fault_of runs.now }
 {
     let mut next = 0;
