@@ -86,7 +86,7 @@ fn run_onto(alloc: Global, takes: Takes) -> Result<(Status, u64, Vec<u8>), Fail>
         takes,
     });
     let status = run(alloc, &words, &mut source, &mut sink);
-    let faults = sink.faults;
+    let faults = sink.faults();
     drop(sink);
     Ok((status, faults, bytes))
 }
@@ -103,7 +103,7 @@ fn end_from_failing_reader(alloc: Global) -> Result<(Status, u64, bool), Fail> {
     let mut source = StdSource::new(FailingReader { calls: 0 });
     let mut sink = SureSink::new(alloc);
     let status = run(alloc, &words, &mut source, &mut sink);
-    Ok((status, source.faults, sink.written().is_empty()))
+    Ok((status, source.faults(), sink.written().is_empty()))
 }
 
 #[test]

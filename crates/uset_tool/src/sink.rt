@@ -111,7 +111,7 @@ impl Sink for SureSink {
 #[derive(Drop)]
 pub struct StdSink<W: Write + Drop> {
     writer: W,
-    pub(crate) faults: u64,
+    faults: u64,
 }
 
 impl<W: Write + Drop> StdSink<W> {
@@ -121,6 +121,13 @@ impl<W: Write + Drop> StdSink<W> {
         ensures counted { ⟦<StdSink<W> as Sink>⟧.faults result ≡ 0 }
     {
         StdSink { writer, faults: 0 }
+    }
+
+    /// How many errors of the writer, and writes that took nothing, were counted.
+    pub fn faults(&self) -> u64
+        ensures { result ≡ ⟦<StdSink<W> as Sink>⟧.faults self.now }
+    {
+        self.faults
     }
 
     fn fail(&mut self) -> Result<usize, WriteError>

@@ -76,7 +76,7 @@ impl Source for SureSource {
 #[derive(Drop)]
 pub struct StdSource<R: Read + Drop> {
     reader: R,
-    pub(crate) faults: u64,
+    faults: u64,
 }
 
 impl<R: Read + Drop> StdSource<R> {
@@ -86,6 +86,13 @@ impl<R: Read + Drop> StdSource<R> {
         ensures counted { ⟦<StdSource<R> as Source>⟧.faults result ≡ 0 }
     {
         StdSource { reader, faults: 0 }
+    }
+
+    /// How many errors of the reader were counted.
+    pub fn faults(&self) -> u64
+        ensures { result ≡ ⟦<StdSource<R> as Source>⟧.faults self.now }
+    {
+        self.faults
     }
 }
 
