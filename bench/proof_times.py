@@ -1,9 +1,9 @@
 #!/usr/bin/env python3
 """Tells which functions of a crate take longest to prove.
 
-Usage: bench/proof_times.py NAME [COUNT]. It checks the crate alone, from nothing and by one process, in a copy where the
-crates below are as their checks left them (they are proved first where none did). A check writes some thirty files
-for a function as it goes, so the time from one file to the next is that of what the file tells of.
+Usage: bench/proof_times.py NAME [COUNT]. It checks the crate from nothing and by one process, in a copy where the crates
+below are as their checks left them (they are proved first where none did). A check writes some thirty files for a
+function as it goes, so the time from one file to the next is that of what the file tells of.
 """
 
 import collections
@@ -18,17 +18,18 @@ from measured import TOP, lines_of_crates
 
 
 def write_copy(folder, name):
-    """The crates that the crate stands on, and the crate itself with one comment more, so that nothing kept of it fits."""
-    lines = lines_of_crates([name])
-    for line in lines:
-        crate = line.split(":")[0]
+    """The crates that the crate stands on, and the crate itself under another name, since a check begins with what any
+    check of a crate of its name kept on this machine."""
+    *below, line = lines_of_crates([name])
+    for crate in [line.split(":")[0] for line in below]:
         shutil.copytree(TOP / "crates" / crate, folder / "crates" / crate)
-    (folder / "crates.txt").write_text("\n".join(lines) + "\n", encoding="utf-8")
+    crate = folder / "crates" / f"{name}_anew"
+    shutil.copytree(TOP / "crates" / name, crate, ignore=shutil.ignore_patterns("out", "must-fail"))
+    for path in [path for path in crate.rglob("*.*") if path.is_file()]:
+        path.write_text(re.sub(rf"\b{name}\b", crate.name, path.read_text(encoding="utf-8")), encoding="utf-8")
+    line = f"{crate.name}:{line.split(':')[1]}"
+    (folder / "crates.txt").write_text("\n".join([*below, line]) + "\n", encoding="utf-8")
     subprocess.run(["git", "init", "-q", str(folder)], check=True)
-    crate = folder / "crates" / name
-    shutil.rmtree(crate / "out", ignore_errors=True)
-    root = next(path for path in (crate / "src" / "lib.rt", crate / "src" / "main.rt") if path.exists())
-    root.write_text(root.read_text(encoding="utf-8") + "// Checked anew.\n", encoding="utf-8")
     return crate
 
 
