@@ -190,31 +190,35 @@ fn fill<V: Copy>(places: &mut [V], value: V)
     }
 }
 
-/// How many values a piece has that is filled as a short one.
-const SHORT: usize = 16;
-
-/// Writes the value to 16 places from one on.
+/// Writes the value to so many places from one on.
 #[inline(always)]
-fn fill_short<V: Copy>(places: &mut [V], start: usize, value: V)
-    requires { start + 16 ≤ length places.old }
-    ensures { take (start + 16) places.new ≡ take start places.old ++ replicate 16 value }
+fn fill_from<V: Copy>(places: &mut [V], start: usize, value: V, count: usize)
+    requires { start + count ≤ length places.old }
+    ensures { take (start + count) places.new ≡ take start places.old ++ replicate count value }
 {
-    fill(&mut places[start..start + SHORT], value);
+    fill(&mut places[start..start + count], value);
 }
 
-/// Writes the value to so many places from one on, and to some behind them: a fill of a length that the compiler knows
-/// is faster than one that is as long as the piece.
+/// How many values a short piece has at most. Of the pieces inside a row of General_Category seven of eight are short.
+const SHORT: usize = 8;
+
+/// How many values a piece of middle length has at most. Of the others five of six are of middle length.
+const MIDDLE: usize = 32;
+
+/// Writes the value to so many places from one on, and to some behind them: fills of a length that the compiler knows
+/// are faster than one that is as long as the piece.
 #[inline(always)]
 fn fill_piece<V: Copy>(places: &mut [V], start: usize, value: V, count: usize)
     requires room { start + 64 ≤ length places.old }
     requires most { count ≤ 64 }
     ensures { take (start + count) places.new ≡ take start places.old ++ replicate count value }
 {
-    fill_short(places, start, value);
+    fill_from(places, start, value, SHORT);
     if SHORT < count {
-        fill_short(places, start + SHORT, value);
-        fill_short(places, start + 2 * SHORT, value);
-        fill_short(places, start + 3 * SHORT, value);
+        fill_from(places, start + SHORT, value, MIDDLE - SHORT);
+        if MIDDLE < count {
+            fill_from(places, start + MIDDLE, value, ROW - MIDDLE);
+        }
     }
 }
 
