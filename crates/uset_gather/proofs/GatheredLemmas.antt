@@ -1,5 +1,5 @@
 -- What is gathered, member by member.
-use Rattle.std.proofs.Common.{◌≡◌, ℕ, ◌≤◌, Bool, true, false, ◌||◌, ◌&&◌, nat_le, List, Result, Ok, Err, OnOk, IfOk, refl, arith}
+use Rattle.std.proofs.Common.{◌≡◌, ℕ, ◌≤◌, Bool, true, false, ◌||◌, ◌&&◌, nat_le, List, Result, Ok, Err, IfOk, refl, arith}
 use Rattle.std.proofs.lemmas.Bool.Decides.{nat_tests}
 use Rattle.cp_invlist.specs.InversionList.{is_code_point}
 use Rattle.uset_grammar.specs.Tree.{Member, point, string}
@@ -7,10 +7,6 @@ use Rattle.uset_grammar.specs.Tree.{Member, point, string}
 pub each_member : (P : Member → Type 0) → ((c : ℕ) → P (point c)) → ((bytes : List ℕ) → P (string bytes)) → (m : Member) → P m
 each_member P points strings (point c) = points c
 each_member P points strings (string bytes) = strings bytes
-
-pub on_ok : {A E : Type 0} (result : Result A E) {P Q : Type 0} → (P → Q) → OnOk result P → OnOk result Q
-on_ok (Ok x) f h = f h
-on_ok (Err e) f h = tt
 
 pub if_ok : {A E : Type 0} (result : Result A E) {P Q : A → Type 0} → ((x : A) → P x → Q x) → IfOk result P → IfOk result Q
 if_ok (Ok x) f h = f x h

@@ -1,5 +1,5 @@
 -- Brackets that gather.
-use Rattle.std.proofs.Common.{◌≡◌, ◌≢◌, ◌<◌, ◌+◌, ℕ, suc, Bool, true, false, List, [], ◌∷◌, ◌++◌, length, take, slice_index_or, Option, Some, None, Result, Ok, Err, OnOk, Box, not, ◌||◌, ◌&&◌, refl, sym, ap, ◌∙◌, subst, arith}
+use Rattle.std.proofs.Common.{◌≡◌, ◌≢◌, ◌<◌, ◌+◌, ℕ, suc, Bool, true, false, List, [], ◌∷◌, ◌++◌, length, take, slice_index_or, Option, Some, None, Box, not, ◌||◌, ◌&&◌, refl, sym, ap, ◌∙◌, subst, arith}
 use Rattle.std.proofs.Math.Seq.{take-suc}
 use Rattle.std.specs.Global.{Global}
 use Rattle.std.specs.declared.string.String.{String}
@@ -143,10 +143,6 @@ stays_open l b o all ends s is h = by (ending (awaits_seen b.awaits)) refl h
     by (Some last) e some = absurd (let k : true ≡ false = sym some.0 ∙ is in cc)
 
 -- SETS AND STEPS
-pub on_ok : {A E : Type 0} (result : Result A E) {P Q : Type 0} → (P → Q) → OnOk result P → OnOk result Q
-on_ok (Ok x) f h = f h
-on_ok (Err e) f h = tt
-
 -- a set was gathered whose members the tree has
 operation_follows : (operation : Operation) (tree : Tree) (old new : Gathering) (set : Member → Bool) → ((m : Member) → gathering_in new m ≡ operated operation (set m) (gathering_in old m)) →
     ((m : Member) → has tree m ≡ set m) → Follows old (operated_steps operation tree) new

@@ -16,10 +16,6 @@ pub on_both : {A E : Type 0} (result : Result A E) {P Q R : Type 0} → (P → Q
 on_both (Ok x) f h k = f h k
 on_both (Err e) f h k = tt
 
-pub on_ok : {A E : Type 0} (result : Result A E) {P Q : Type 0} → (P → Q) → OnOk result P → OnOk result Q
-on_ok (Ok x) f h = f h
-on_ok (Err e) f h = tt
-
 pub if_none : {A : Type 0} (result : Option A) {P : Type 0} → P → IfNone result P
 if_none None h = h
 if_none (Some x) h = tt

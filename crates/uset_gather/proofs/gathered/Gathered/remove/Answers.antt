@@ -1,7 +1,8 @@
 use Rattle.std.proofs.Common.{sym, ◌∙◌}
+use Rattle.std.proofs.lemmas.Result.{on_ok_weaker}
 use Rattle.std.specs.BTreeSet.{contains_text}
 use Rattle.cp_invlist.specs.InversionList.{contains}
-use Rattle.uset_gather.proofs.GatheredLemmas.{each_member, on_ok}
+use Rattle.uset_gather.proofs.GatheredLemmas.{each_member}
 use Rattle.uset_gather.proofs.PaintingLemmas.{not_outside}
 use Rattle.uset_gather.proofs.StringsLemmas.{and_true}
 use Rattle.uset_gather.proofs.gathered.Gathered.remove.Goals as goal
@@ -10,6 +11,6 @@ pub returns-in-Complement : goal.returns-in-Complement
 returns-in-Complement c =
     let old = c.args.self.now in
     let set = c.list-in-Complement.result.now in
-    rw (c.in-Complement.is, sym c.list-in-Complement.ensures) (on_ok c.retain_set.result (λ h.
+    rw (c.in-Complement.is, sym c.list-in-Complement.ensures) (on_ok_weaker c.retain_set.result (λ h.
     each_member _ (λ d. h d ∙ sym (not_outside old.code_points d (contains set d)))
     (λ bytes. sym (and_true (contains_text old.strings bytes)))) c.retain_set.ensures)

@@ -1,8 +1,9 @@
 use Rattle.std.proofs.Common.{Some, ◌||◌, refl, ap, ◌∙◌}
+use Rattle.std.proofs.lemmas.Result.{on_ok_weaker}
 use Rattle.std.specs.Box.{with_value}
 use Rattle.uset_grammar.specs.Tree.{in_range}
 use Rattle.uset_steps.specs.Later.{later_done}
-use Rattle.uset_steps.proofs.GatheringLemmas.{on_ok, on_both, put_off, same_places}
+use Rattle.uset_steps.proofs.GatheringLemmas.{on_both, put_off, same_places}
 use Rattle.uset_steps.proofs.gathering.Gathering.add_range.Goals as goal
 
 pub returns-clause-becomes : goal.returns-clause-becomes
@@ -15,5 +16,5 @@ returns-clause-becomes c =
 
 pub returns-clause-places : goal.returns-clause-places
 returns-clause-places c =
-    on_ok c.put_off.result (λ h. same_places c.args.self.now (record { gathered = c.args.self.now.gathered; later = Some (with_value c.in-Some.later c.put_off.new.self) }) c.in-Some.later (with_value c.in-Some.later c.put_off.new.self) c.in-Some.is refl (rw c.deref_mut.ensures.value at c.put_off.ensures.places))
+    on_ok_weaker c.put_off.result (λ h. same_places c.args.self.now (record { gathered = c.args.self.now.gathered; later = Some (with_value c.in-Some.later c.put_off.new.self) }) c.in-Some.later (with_value c.in-Some.later c.put_off.new.self) c.in-Some.is refl (rw c.deref_mut.ensures.value at c.put_off.ensures.places))
     c.put_off.ensures.names

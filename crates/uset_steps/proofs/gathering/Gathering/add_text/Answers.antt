@@ -1,9 +1,10 @@
 use Rattle.std.proofs.Common.{Some, ◌||◌, refl, ap, ◌∙◌}
+use Rattle.std.proofs.lemmas.Result.{on_ok_weaker}
 use Rattle.std.specs.Box.{with_value}
 use Rattle.std.specs.String.{string_bytes}
 use Rattle.uset_gather.specs.Gathered.{is_string}
 use Rattle.uset_steps.specs.Later.{later_done}
-use Rattle.uset_steps.proofs.GatheringLemmas.{on_ok, on_both, put_off, same_places}
+use Rattle.uset_steps.proofs.GatheringLemmas.{on_both, put_off, same_places}
 use Rattle.uset_steps.proofs.gathering.Gathering.add_text.Goals as goal
 
 pub returns-in_ok-new-in-Some-clause-becomes : goal.returns-in_ok-new-in-Some-clause-becomes
@@ -17,5 +18,5 @@ returns-in_ok-new-in-Some-clause-becomes c =
 
 pub returns-in_ok-new-in-Some-clause-places : goal.returns-in_ok-new-in-Some-clause-places
 returns-in_ok-new-in-Some-clause-places c =
-    on_ok c.put_off.result (λ h. same_places c.args.self.now (record { gathered = c.args.self.now.gathered; later = Some (with_value c.in-Some.later c.put_off.new.self) }) c.in-Some.later (with_value c.in-Some.later c.put_off.new.self) c.in-Some.is refl (rw c.deref_mut.ensures.value at c.put_off.ensures.places))
+    on_ok_weaker c.put_off.result (λ h. same_places c.args.self.now (record { gathered = c.args.self.now.gathered; later = Some (with_value c.in-Some.later c.put_off.new.self) }) c.in-Some.later (with_value c.in-Some.later c.put_off.new.self) c.in-Some.is refl (rw c.deref_mut.ensures.value at c.put_off.ensures.places))
     c.put_off.ensures.names

@@ -1,13 +1,14 @@
 use Rattle.std.proofs.Common.{refl, subst}
+use Rattle.std.proofs.lemmas.Result.{on_ok_weaker}
 use Rattle.uset_steps.specs.Gathering.{IsPlaceBehind}
-use Rattle.uset_steps.proofs.GatheringLemmas.{on_ok, held, put_off_named}
+use Rattle.uset_steps.proofs.GatheringLemmas.{held, put_off_named}
 use Rattle.uset_steps.proofs.gathering.Gathering.gather_again.Goals as goal
 
 pub returns-in-Some-clause-gathers : goal.returns-in-Some-clause-gathers
 returns-in-Some-clause-gathers c =
     let old = c.args.self.now in
     let before = c.in-Some.later in
-    on_ok c.put_off_again.result (λ h sets name set fits at stands.
+    on_ok_weaker c.put_off_again.result (λ h sets name set fits at stands.
     let kept = held sets old.later before c.in-Some.is fits in
     put_off_named sets c.args.operation set old _ before.value c.put_off_again.new.self kept.same (λ m. refl) (λ f. f)
     (h sets name set kept.fits (subst (λ later. IsPlaceBehind later name c.args.place.index) c.in-Some.is at) stands))
