@@ -23,5 +23,6 @@ fn place_in_ecma262(rows: &[PropertyNames], name: &[u8]) -> Option<usize>
     ensures place { result ≡ position (λ row. is_ecma262_name name.now (names_of row)) rows.now }
     ensures within { IfSome result (λ place. place < length rows.now) }
 {
-    rows.iter().position(|row| row.in_ecma262 && (row.long == name || row.short == name))
+    rows.iter().position(|row| row.in_ecma262
+        && (row.long.as_bytes() == name || row.short.as_bytes() == name))
 }

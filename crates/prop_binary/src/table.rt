@@ -174,7 +174,7 @@ impl SetTable {
     pub fn name(self) -> &'static [u8]
         ensures { slice_get set_table_names self ≡ Some result.now }
     {
-        property_names()[usize::from(self.number)].long
+        property_names()[usize::from(self.number)].long.as_bytes()
     }
 
     /// The table of this name, compared byte for byte.
@@ -198,7 +198,7 @@ fn place_of(rows: &[PropertyNames], name: &[u8]) -> Option<usize>
     ensures place { result ≡ position (λ row. bytes_eq row.long.now name.now) rows.now }
     ensures within { IfSome result (λ place. place < length rows.now) }
 {
-    rows.iter().position(|row| row.long == name)
+    rows.iter().position(|row| row.long.as_bytes() == name)
 }
 
 /// The table of an emoji set (UTS 51, section 1.4.9), as a number. There is one table, with the number 0. A contract sees

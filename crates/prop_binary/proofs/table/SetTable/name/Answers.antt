@@ -8,5 +8,5 @@ bounds-property_names-from c = omega (arith, row_count c.property_names.result.n
 
 pub returns : goal.returns
 returns c =
-    rw (← c.self.view_is, ← c.from.ensures)
+    rw (← c.self.view_is, ← c.from.ensures, c.as_bytes.ensures.value)
     (long_name_at c.property_names.result.now properties c.from.result _ c.property_names.ensures (omega (arith, row_count c.property_names.result.now c.property_names.ensures, c.self.invariant)))
