@@ -1,9 +1,11 @@
 #!/usr/bin/env python3
-"""Tells which functions of a crate take longest to prove.
+"""Tells which functions of a crate take longest to prove, and on what.
 
 Usage: bench/proof_times.py NAME [COUNT]. It checks the crate from nothing and by one process, in a copy where the crates
 below are as their checks left them (they are proved first where none did). A check writes some thirty files for a
-function as it goes, so the time from one file to the next is that of what the file tells of.
+function as it goes, so the time from one file to the next is that of what the file tells of. Two kinds are told apart:
+`Lts`, the steps of the function, which grow with its length, its exits and what it owns, so that a shorter function
+costs less; and `Proof`, its proof, most of it the search for what no answer is written for, so that an answer costs less.
 """
 
 import collections
@@ -33,14 +35,15 @@ def write_copy(folder, name):
     return crate
 
 
-def seconds_by_subject(crate):
-    """The seconds that went to each function, type or file of lemmas, by when its files were written."""
+def seconds_by_kind(crate):
+    """The seconds that went to each kind of file of each function, type or file of lemmas, by when it was written."""
     files = [(path.stat().st_mtime_ns, path.name) for path in (crate / "out" / "incremental").rglob("*.oantt")]
     seconds, last = collections.Counter(), None
     for written, file in sorted(files):
         module = re.sub(r"(\.decls)?\.oantt$", "", file).removeprefix(f"Rattle-{crate.name}-")
+        subject, _, kind = module.rpartition(".")
         if last is not None:
-            seconds[module.rpartition(".")[0] or module] += (written - last) / 1e9
+            seconds[subject or kind, kind] += (written - last) / 1e9
         last = written
     return seconds
 
@@ -52,12 +55,16 @@ def main():
     with tempfile.TemporaryDirectory() as name:
         crate = write_copy(Path(name), sys.argv[1])
         checked = subprocess.run(["rt", "check", "--jobs", "1"], cwd=crate, stdout=subprocess.PIPE, stderr=subprocess.STDOUT, text=True)
-        seconds = seconds_by_subject(crate)
+        seconds = seconds_by_kind(crate)
     if checked.returncode:
         sys.exit(checked.stdout)
-    print(f"{sum(seconds.values()):7.1f} s in all")
-    for subject, spent in seconds.most_common(count):
-        print(f"{spent:7.1f} s {subject}")
+    subjects, kinds = collections.Counter(), collections.Counter()
+    for (subject, kind), spent in seconds.items():
+        subjects[subject] += spent
+        kinds[kind] += spent
+    print(f"{sum(kinds.values()):7.1f} s in all, {kinds['Lts']:.1f} Lts, {kinds['Proof']:.1f} Proof")
+    for subject, spent in subjects.most_common(count):
+        print(f"{spent:7.1f} s, {seconds[subject, 'Lts']:5.1f} Lts, {seconds[subject, 'Proof']:5.1f} Proof: {subject}")
 
 
 main()
