@@ -77,6 +77,18 @@ impl Arranged {
         })
     }
 
+    /// The one code point is added in front.
+    fn adds_one(only: CodePoint, awaits: Awaits) -> Option<Arranged>
+        ensures { result ≡ Some (record {
+          adds = Some
+              (record { start = number_of only; end = number_of only });
+          operation = Join;
+          awaits = awaits;
+        }) }
+    {
+        Arranged::adds(only, only, awaits)
+    }
+
     /// A set is gathered so.
     fn gathers(operation: Operation) -> Option<Arranged>
         ensures { result ≡ Some (record { adds = None; operation = operation; awaits = BehindSet }) }
@@ -101,16 +113,11 @@ pub(crate) fn arranged_behind(awaits: Awaits, item: &Item<'_>) -> Option<Arrange
         (Awaits::AfterSet, Item::Minus) => Arranged::goes_on(Awaits::RemoveOrEnd),
         (Awaits::AfterSet, Item::Ampersand) => Arranged::goes_on(Awaits::Keep),
         (Awaits::Element | Awaits::AfterSet, Item::Dollar) => Arranged::goes_on(Awaits::AnchorEnd),
-        (Awaits::AfterSingle(first), Item::Dollar) => Arranged::adds(
-            first,
-            first,
-            Awaits::AnchorEnd,
-        ),
+        (Awaits::AfterSingle(first), Item::Dollar) => Arranged::adds_one(first, Awaits::AnchorEnd),
         (Awaits::Element | Awaits::AfterSet, Item::Single(c)) => Arranged::goes_on(
             Awaits::AfterSingle(*c),
         ),
-        (Awaits::AfterSingle(first), Item::Single(c)) => Arranged::adds(
-            first,
+        (Awaits::AfterSingle(first), Item::Single(c)) => Arranged::adds_one(
             first,
             Awaits::AfterSingle(*c),
         ),
@@ -119,17 +126,12 @@ pub(crate) fn arranged_behind(awaits: Awaits, item: &Item<'_>) -> Option<Arrange
         (Awaits::Element | Awaits::AfterSet, Item::Several(_) | Item::Text(_)) => Arranged::goes_on(
             Awaits::Element,
         ),
-        (Awaits::AfterSingle(first), Item::Several(_) | Item::Text(_)) => Arranged::adds(
-            first,
+        (Awaits::AfterSingle(first), Item::Several(_) | Item::Text(_)) => Arranged::adds_one(
             first,
             Awaits::Element,
         ),
         (Awaits::Element | Awaits::AfterSet, Item::Set(_)) => Arranged::gathers(Operation::Join),
-        (Awaits::AfterSingle(first), Item::Set(_)) => Arranged::adds(
-            first,
-            first,
-            Awaits::AfterSet,
-        ),
+        (Awaits::AfterSingle(first), Item::Set(_)) => Arranged::adds_one(first, Awaits::AfterSet),
         (Awaits::RemoveOrEnd, Item::Set(_)) => Arranged::gathers(Operation::Remove),
         (Awaits::Keep, Item::Set(_)) => Arranged::gathers(Operation::Retain),
         _ => None,
