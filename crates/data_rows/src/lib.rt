@@ -1,4 +1,4 @@
-//! Tests of table texts and of the database, over the crates that it stands on: they stand here so that a change of a test
+//! Tests of lines, table texts and the database, over the crates that these stand on: they stand here so that a change of a test
 //! proves none of them anew, and none of them is proved a second time with its tests.
 #![tactic(auto)]
 
@@ -10,6 +10,8 @@ mod emoji;
 mod errors;
 #[cfg(test)]
 mod fixtures;
+#[cfg(test)]
+mod lines;
 #[cfg(test)]
 mod maps;
 #[cfg(test)]

@@ -22,16 +22,16 @@ enum Step {
 
 impl Step {
     fn take(self, alloc: Global, builder: &mut CodePointInversionListBuilder) -> Result<(), Fail> {
-        match self {
-            Step::Char(ch) => builder.add_char(ch)?,
-            Step::Number(c) => builder.add32(c)?,
-            Step::Range(range) => builder.add_range32(range)?,
-            Step::Add(list) => builder.add_set(&set_of(alloc, list)?)?,
-            Step::Remove(list) => builder.remove_set(&set_of(alloc, list)?)?,
-            Step::Retain(list) => builder.retain_set(&set_of(alloc, list)?)?,
-            Step::Complement => builder.complement()?,
-        }
-        Ok(())
+        let taken = match self {
+            Step::Char(ch) => builder.add_char(ch),
+            Step::Number(c) => builder.add32(c),
+            Step::Range(range) => builder.add_range32(range),
+            Step::Add(list) => builder.add_set(&set_of(alloc, list)?),
+            Step::Remove(list) => builder.remove_set(&set_of(alloc, list)?),
+            Step::Retain(list) => builder.retain_set(&set_of(alloc, list)?),
+            Step::Complement => builder.complement(),
+        };
+        Ok(taken?)
     }
 }
 

@@ -1,5 +1,5 @@
 //! Sets of code points together with strings.
-use cp_invlist::{CodePointInversionList, NoMemory};
+use cp_invlist::CodePointInversionList;
 use cp_strset::laws::{faultless, one_list};
 use cp_strset::{CodePointInversionListAndStringList, StringListError};
 use std::alloc::{AllocError, Global};
@@ -79,34 +79,45 @@ fn first_wrong(set: &CodePointInversionListAndStringList) -> Option<usize> {
     None
 }
 
+/// The letters with two strings.
+fn two_strings(alloc: Global) -> Result<CodePointInversionListAndStringList, Fail> {
+    Ok(set_of(alloc, &["", "ab"])??)
+}
+
 #[test]
 fn a_set_holds_code_points_and_strings(rt: HostRuntime) -> Result<(), Fail> {
-    let set = set_of(rt.alloc(), &["", "ab"])??;
+    let set = two_strings(rt.alloc())?;
     assert_eq!(rt; first_wrong(&set), None);
     Ok(())
 }
 
 /// Whether a copy of the set equals it.
-fn is_copied(alloc: Global, set: &CodePointInversionListAndStringList) -> Result<bool, NoMemory> {
+fn is_copied(alloc: Global) -> Result<bool, Fail> {
+    let set = two_strings(alloc)?;
     let copy = set.copy(alloc)?;
-    Ok(copy == *set)
+    Ok(copy == set)
 }
 
 #[test]
 fn a_copy_equals_its_set(rt: HostRuntime) -> Result<(), Fail> {
-    let set = set_of(rt.alloc(), &["", "ab"])??;
-    assert_eq!(rt; is_copied(rt.alloc(), &set), Ok(true));
+    let is_copied = is_copied(rt.alloc())?;
+    assert!(rt; is_copied);
     Ok(())
+}
+
+/// The set as a pattern.
+const PATTERN: &str = "[\\u{2d}\\u{61}-\\u{63}{}{\\u{61}\\u{62}}]";
+
+/// Whether the set is written so.
+fn is_written(alloc: Global) -> Result<bool, Fail> {
+    let set = two_strings(alloc)?;
+    Ok(set.to_pattern(alloc)?.as_str() == PATTERN)
 }
 
 #[test]
 fn a_set_is_written_as_a_pattern(rt: HostRuntime) -> Result<(), Fail> {
-    let set = set_of(rt.alloc(), &["", "ab"])??;
-    let pattern = set.to_pattern(rt.alloc())?;
-    assert_eq!(rt;
-        pattern.as_str(),
-        "[\\u{2d}\\u{61}-\\u{63}{}{\\u{61}\\u{62}}]"
-    );
+    let is_written = is_written(rt.alloc())?;
+    assert!(rt; is_written);
     Ok(())
 }
 
@@ -125,8 +136,8 @@ fn refusal(alloc: Global, texts: &[&str]) -> Result<Option<StringListError>, Fai
 #[test]
 fn the_first_faulty_string_is_named(rt: HostRuntime) -> Result<(), Fail> {
     for (texts, expected) in FAULTY {
-        let found = refusal(rt.alloc(), texts)?;
-        assert_eq!(rt; found, Some(*expected));
+        let is_refused = refusal(rt.alloc(), texts)? == Some(*expected);
+        assert!(rt; is_refused, "{expected}");
     }
     Ok(())
 }

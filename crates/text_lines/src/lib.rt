@@ -4,8 +4,6 @@
 mod fields;
 mod lines;
 mod parts;
-#[cfg(test)]
-mod tests;
 
 pub use fields::{before_comment, split_field};
 pub use lines::split_line;

@@ -2,6 +2,8 @@
 use crate::fixtures::map_of;
 use cp_trie::{ConvertError, TrieValue};
 use std::alloc::Global;
+use std::fmt;
+use std::process::Abort;
 
 /// Values at 41 and past the end of a map of another type, or why there is none.
 type Converted<T> = Result<(T, T), ConvertError>;
@@ -17,20 +19,32 @@ fn converted<T: TrieValue>(
     Some(converted.map(|map| (map.get32(0x41), map.error_value())))
 }
 
+/// Asserts that this comes of it.
+fn assert_converts<T: TrieValue + fmt::Debug>(
+    rt: &impl Abort,
+    alloc: Global,
+    starts: &[(u32, u32)],
+    error_value: u32,
+    expected: Converted<T>,
+) {
+    assert_eq!(rt; converted::<T>(alloc, starts, error_value), Some(expected));
+}
+
 #[test]
 fn values_convert_one_by_one(rt: HostRuntime) {
-    let values = converted::<char>(rt.alloc(), &[(0, 0), (0x41, 97), (0x5B, 0)], 0);
-    assert_eq!(rt; values, Some(Ok(('a', '\0'))));
+    let starts = &[(0, 0), (0x41, 97), (0x5B, 0)];
+    assert_converts(&rt, rt.alloc(), starts, 0, Ok(('a', '\0')));
 }
 
 #[test]
 fn the_first_value_that_does_not_convert_is_named(rt: HostRuntime) {
-    let values = converted::<u8>(rt.alloc(), &[(0, 0), (0x41, 300), (0x5B, 0)], 0);
-    assert_eq!(rt; values, Some(Err(ConvertError::Value { index: 1 })));
+    let starts = &[(0, 0), (0x41, 300), (0x5B, 0)];
+    let refused = Err(ConvertError::Value { index: 1 });
+    assert_converts::<u8>(&rt, rt.alloc(), starts, 0, refused);
 }
 
 #[test]
 fn an_error_value_that_does_not_convert_is_named_behind_the_runs(rt: HostRuntime) {
-    let values = converted::<char>(rt.alloc(), &[(0, 0)], 0xD800);
-    assert_eq!(rt; values, Some(Err(ConvertError::Value { index: 1 })));
+    let refused = Err(ConvertError::Value { index: 1 });
+    assert_converts::<char>(&rt, rt.alloc(), &[(0, 0)], 0xD800, refused);
 }

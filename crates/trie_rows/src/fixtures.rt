@@ -2,6 +2,7 @@
 use cp_invlist::CodePointRange;
 use cp_trie::{CodePointMapRange, CodePointTrie, TrieError, TrieValue};
 use std::alloc::{AllocError, Global};
+use std::process::Abort;
 
 pub(crate) fn run<T>(start: u32, end: u32, value: T) -> CodePointMapRange<T> {
     CodePointMapRange {
@@ -45,7 +46,7 @@ pub(crate) fn first_wrong<T: TrieValue>(map: &CodePointTrie<T>, rows: &[(u32, T)
 }
 
 /// The same of the map whose values begin at these numbers, with this value past the end.
-pub(crate) fn first_wrong_of<T: TrieValue>(
+fn first_wrong_of<T: TrieValue>(
     alloc: Global,
     starts: &[(u32, T)],
     error_value: T,
@@ -53,4 +54,15 @@ pub(crate) fn first_wrong_of<T: TrieValue>(
 ) -> Result<Option<u32>, TrieError> {
     let map = map_of(alloc, starts, error_value)?;
     Ok(first_wrong(&map, rows))
+}
+
+/// Asserts that this map has these values. A failure tells the first number at which it has another.
+pub(crate) fn assert_values<T: TrieValue>(
+    rt: &impl Abort,
+    alloc: Global,
+    starts: &[(u32, T)],
+    error_value: T,
+    rows: &[(u32, T)],
+) {
+    assert_eq!(rt; first_wrong_of(alloc, starts, error_value, rows), Ok(None));
 }

@@ -1,7 +1,8 @@
 //! Maps whose boundaries stand at the edges of pages and blocks, and maps with pages that are almost the same.
-use crate::fixtures::{first_wrong, first_wrong_of, map_of, run};
+use crate::fixtures::{assert_values, first_wrong, map_of, run};
 use cp_trie::{CodePointMapRange, CodePointTrie, TrieError};
 use std::alloc::{AllocError, Global};
+use std::process::Abort;
 
 /// The first of these places beside which the map has another value than it was made with.
 fn first_wrong_start(map: &CodePointTrie<u32>, starts: &[(u32, u32)]) -> Option<u32> {
@@ -21,16 +22,13 @@ fn first_wrong_start_of(alloc: Global, starts: &[(u32, u32)]) -> Result<Option<u
     Ok(first_wrong_start(&map, starts))
 }
 
-/// The same of a list of places, where memory sufficed for it.
-fn first_wrong_start_of_list(
-    alloc: Global,
-    starts: Result<Vec<(u32, u32)>, AllocError>,
-) -> Result<Option<u32>, TrieError> {
-    first_wrong_start_of(alloc, &starts?)
+/// Asserts that a map whose values begin at these places has them there.
+fn assert_starts(rt: &impl Abort, alloc: Global, starts: &[(u32, u32)]) {
+    assert_eq!(rt; first_wrong_start_of(alloc, starts), Ok(None));
 }
 
 /// The first and the last places of pages and blocks, and those beside them.
-const EDGES: [u32; 19] = [
+const EDGES: &[u32] = &[
     1, 0x3F, 0x40, 0x41, 0x7F, 0x80, 0xFFF, 0x1000, 0x1001, 0x103F, 0x1040, 0xFFFF, 0x1_0000,
     0x10_EFFF, 0x10_F000, 0x10_FFBF, 0x10_FFC0, 0x10_FFFE, 0x10_FFFF,
 ];
@@ -38,8 +36,7 @@ const EDGES: [u32; 19] = [
 #[test]
 fn a_boundary_at_an_edge_of_a_page_or_a_block_is_read(rt: HostRuntime) {
     for edge in EDGES {
-        let wrong = first_wrong_start_of(rt.alloc(), &[(0, 7), (edge, 9)]);
-        assert_eq!(rt; wrong, Ok(None));
+        assert_starts(&rt, rt.alloc(), &[(0, 7), (*edge, 9)]);
     }
 }
 
@@ -54,9 +51,10 @@ fn starts_at_edges(alloc: Global) -> Result<Vec<(u32, u32)>, AllocError> {
 }
 
 #[test]
-fn boundaries_at_all_edges_of_pages_and_blocks_are_read(rt: HostRuntime) {
-    let starts = starts_at_edges(rt.alloc());
-    assert_eq!(rt; first_wrong_start_of_list(rt.alloc(), starts), Ok(None));
+fn boundaries_at_all_edges_of_pages_and_blocks_are_read(rt: HostRuntime) -> Result<(), AllocError> {
+    let starts = starts_at_edges(rt.alloc())?;
+    assert_starts(&rt, rt.alloc(), &starts);
+    Ok(())
 }
 
 /// Pages of the values 0 and 1 that have another one at their last place.
@@ -84,9 +82,8 @@ const LAST_VALUES: &[(u32, u32)] = &[
 
 #[test]
 fn pages_that_differ_in_their_last_value_alone_stay_apart(rt: HostRuntime) {
-    assert_eq!(rt; first_wrong_start_of(rt.alloc(), LAST), Ok(None));
-    let wrong = first_wrong_of(rt.alloc(), LAST, u32::MAX, LAST_VALUES);
-    assert_eq!(rt; wrong, Ok(None));
+    assert_starts(&rt, rt.alloc(), LAST);
+    assert_values(&rt, rt.alloc(), LAST, u32::MAX, LAST_VALUES);
 }
 
 /// Pages of the value 2 that have another one at their first place, the second of them twice.
@@ -102,7 +99,7 @@ const FIRST: &[(u32, u32)] = &[
 
 #[test]
 fn pages_that_differ_in_their_first_value_alone_stay_apart(rt: HostRuntime) {
-    assert_eq!(rt; first_wrong_start_of(rt.alloc(), FIRST), Ok(None));
+    assert_starts(&rt, rt.alloc(), FIRST);
 }
 
 /// Values that begin alike in each block, where pages are equal too.
@@ -117,9 +114,10 @@ fn starts_of_equal_blocks(alloc: Global) -> Result<Vec<(u32, u32)>, AllocError> 
 }
 
 #[test]
-fn equal_pages_and_equal_blocks_are_read_alike(rt: HostRuntime) {
-    let starts = starts_of_equal_blocks(rt.alloc());
-    assert_eq!(rt; first_wrong_start_of_list(rt.alloc(), starts), Ok(None));
+fn equal_pages_and_equal_blocks_are_read_alike(rt: HostRuntime) -> Result<(), AllocError> {
+    let starts = starts_of_equal_blocks(rt.alloc())?;
+    assert_starts(&rt, rt.alloc(), &starts);
+    Ok(())
 }
 
 /// So many runs whose lengths and values are pseudo-random, seven of eight of them short.

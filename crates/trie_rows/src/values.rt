@@ -1,5 +1,5 @@
 //! What maps answer at numbers, and which numbers have a value.
-use crate::fixtures::{first_wrong, first_wrong_of, map_of};
+use crate::fixtures::{assert_values, first_wrong, map_of};
 use cp_trie::{CodePointTrie, TrieError};
 use std::alloc::Global;
 
@@ -18,7 +18,7 @@ const VALUES: &[(u32, u8)] = &[
 
 #[test]
 fn values_are_read(rt: HostRuntime) {
-    assert_eq!(rt; first_wrong_of(rt.alloc(), LETTERS, 0, VALUES), Ok(None));
+    assert_values(&rt, rt.alloc(), LETTERS, 0, VALUES);
 }
 
 /// The values of two characters.

@@ -1,0 +1,76 @@
+//! Lines of a text, and the fields of a line.
+use text_lines::{before_comment, split_behind, split_field, split_line};
+
+/// Texts, their first lines and what stands behind these.
+const LINES: &[(&str, Option<(&str, &str)>)] = &[
+    ("a", Some(("a", ""))),
+    ("a\n", Some(("a", ""))),
+    ("a\nb", Some(("a", "b"))),
+    ("a\r\nb\r\n", Some(("a", "b\r\n"))),
+    ("a\rb\n", Some(("a\rb", ""))),
+    ("a\r", Some(("a\r", ""))),
+    ("a\r\r\nb", Some(("a\r", "b"))),
+    ("\n\nb", Some(("", "\nb"))),
+    ("\r\n", Some(("", ""))),
+    ("\u{85}\u{2028}\n", Some(("\u{85}\u{2028}", ""))),
+    ("", None),
+];
+
+#[test]
+fn the_first_line_is_split(rt: HostRuntime) {
+    for (text, parts) in LINES {
+        assert!(rt; split_line(text) == *parts, "at {text}");
+    }
+}
+
+/// Lines, their first fields and what stands behind these.
+const FIELDS: &[(&[u8], Option<(&[u8], &[u8])>)] = &[
+    (b"a", Some((b"a", b""))),
+    (b" \tab c ", Some((b"ab", b" c "))),
+    (b"a\tb", Some((b"a", b"\tb"))),
+    (b"a\r", Some((b"a\r", b""))),
+    (b"a#b", Some((b"a#b", b""))),
+    (b"", None),
+    (b" \t ", None),
+];
+
+#[test]
+fn fields_are_split(rt: HostRuntime) {
+    for (line, parts) in FIELDS {
+        assert!(rt; split_field(line) == *parts, "at {line:?}");
+    }
+}
+
+/// Lines, and what of them is no comment.
+const COMMENTS: &[(&[u8], &[u8])] = &[
+    (b"a b", b"a b"),
+    (b"a #b # c", b"a "),
+    (b"a#b", b"a"),
+    (b"#", b""),
+    (b"", b""),
+];
+
+#[test]
+fn a_comment_is_left_out(rt: HostRuntime) {
+    for (line, rest) in COMMENTS {
+        assert!(rt; before_comment(line) == *rest, "at {line:?}");
+    }
+}
+
+/// Texts, cut behind their first line that is `end`.
+const PARTS: &[(&str, (&str, &str))] = &[
+    ("a\nend\nb\n", ("a\nend\n", "b\n")),
+    ("end", ("end", "")),
+    ("a\r\n end\t# b\r\nend\n", ("a\r\n end\t# b\r\n", "end\n")),
+    ("a\nend b\nends\n#end\n", ("a\nend b\nends\n#end\n", "")),
+    ("end b\nb end\nend#\nc", ("end b\nb end\nend#\n", "c")),
+    ("END\n", ("END\n", "")),
+    ("", ("", "")),
+];
+
+#[test]
+fn a_text_is_cut_behind_a_word(rt: HostRuntime) {
+    for (text, parts) in PARTS {
+        assert!(rt; split_behind(text, b"end") == *parts, "at {text}");
+    }
+}
