@@ -1,7 +1,8 @@
 -- Joining neighbours of equal value keeps the values and leaves the maximal runs, of which a map has one list.
-use Rattle.std.proofs.Common.{◌≡◌, ℕ, ◌+◌, ◌<◌, ◌≤◌, Bool, true, false, cond, ◌||◌, List, [], ◌∷◌, refl, sym, ap, ap₂, ◌∙◌, inl, inr, arith}
+use Rattle.std.proofs.Common.{◌≡◌, ℕ, ◌+◌, ◌<◌, ◌≤◌, Bool, true, false, cond, ◌||◌, List, [], ◌∷◌, ◌++◌, length, get_or, drop, refl, sym, ap, ap₂, ◌∙◌, append_assoc, inl, inr, arith}
 use Rattle.std.proofs.lemmas.Bool.Decides.{nat_tests}
 use Rattle.std.proofs.lemmas.Bool.{cases_lt}
+use Rattle.std.proofs.lemmas.List.{drop_all}
 use Rattle.cp_invlist.specs.Ranges.{in_range}
 use Rattle.cp_invlist.specs.declared.ranges.CodePointRange.{CodePointRange}
 use Rattle.std.specs.Prelude.{IsTrue, ◌&&◌, nat_eq, None}
@@ -10,6 +11,7 @@ use Rattle.cp_trie.specs.Joined.{up_to, joined_from, joined}
 use Rattle.cp_trie.specs.Map.{CodePointMap, value_at}
 use Rattle.cp_trie.specs.Runs.{value_in, AreRunsFrom}
 use Rattle.cp_trie.specs.declared.ranges.CodePointMapRange.{CodePointMapRange}
+use Rattle.cp_trie.proofs.ConversionLemmas.{left_from}
 use Rattle.cp_trie.proofs.CoverLemmas.{IsCover, Spells, Spells-value_in, IsCover-from_no_fault, no_fault-from_IsCover}
 
 -- a number lies in two ranges that touch, taken as one, exactly where it lies in one of them
@@ -141,3 +143,20 @@ IsCover-from_test false last left rs none order covers both = absurd (let f : fa
 IsCover-from_test true last left rs none order covers both =
     let end : last.range.end ≡ 0x10_FFFF = grind (arith, nat_tests, both) in
     covers refl (rw none (refl, order refl, omega arith, omega arith))
+
+-- a run that is pending takes the next one, which has an equal value, and what they all make stays
+pub joined_from-equal : {V : Type 0} (eq : V → V → Bool) (done all rs : List (CodePointMapRange V)) (i : ℕ) (r s : CodePointMapRange V) → i < length rs → s ≡ get_or rs i s → true ≡ eq r.value s.value → done ++ joined_from eq r (drop i rs) ≡ all → done ++ joined_from eq (up_to r s) (drop (i + 1) rs) ≡ all
+joined_from-equal eq done all rs i r s within read same h =
+    ap (λ b. done ++ cond b (joined_from eq (up_to r s) (drop (i + 1) rs)) (r ∷ joined_from eq s (drop (i + 1) rs))) same
+    ∙ (ap (λ l. done ++ joined_from eq r l) (sym (left_from rs i s within read)) ∙ h)
+
+-- it is done where the next one, which is then pending, has another value
+pub joined_from-other : {V : Type 0} (eq : V → V → Bool) (done all rs : List (CodePointMapRange V)) (i : ℕ) (r s : CodePointMapRange V) → i < length rs → s ≡ get_or rs i s → false ≡ eq r.value s.value → done ++ joined_from eq r (drop i rs) ≡ all → (done ++ r ∷ []) ++ joined_from eq s (drop (i + 1) rs) ≡ all
+joined_from-other eq done all rs i r s within read other h =
+    append_assoc done (r ∷ []) (joined_from eq s (drop (i + 1) rs))
+    ∙ (ap (λ b. done ++ cond b (joined_from eq (up_to r s) (drop (i + 1) rs)) (r ∷ joined_from eq s (drop (i + 1) rs))) other
+    ∙ (ap (λ l. done ++ joined_from eq r l) (sym (left_from rs i s within read)) ∙ h))
+
+-- and it is the last where none is left
+pub joined_from-last : {V : Type 0} (eq : V → V → Bool) (done all rs : List (CodePointMapRange V)) (i : ℕ) (r : CodePointMapRange V) → length rs ≤ i → done ++ joined_from eq r (drop i rs) ≡ all → done ++ r ∷ [] ≡ all
+joined_from-last eq done all rs i r none h = ap (λ l. done ++ joined_from eq r l) (sym (drop_all i rs none)) ∙ h
