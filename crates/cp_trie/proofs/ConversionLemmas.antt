@@ -32,8 +32,8 @@ IsCover-runs_by convert e i n (r ∷ rs) none cover =
     let p = passed (convert r.value) (refused_from convert e (i + 1) rs) i none in
     rw p.1 (cover.0, cover.1, cover.2, IsCover-runs_by convert e (i + 1) (r.range.end + 1) rs p.2 cover.3)
 
--- what is left from an index on begins with the element read there
-pub left_from : {X : Type 0} (rs : List X) (i : ℕ) (r : X) → i < length rs → r ≡ get_or rs i r → drop i rs ≡ r ∷ drop (i + 1) rs
+-- what is left from an index on begins with the run read there
+pub left_from : {V : Type 0} (rs : List (CodePointMapRange V)) (i : ℕ) (r : CodePointMapRange V) → i < length rs → r ≡ get_or rs i r → drop i rs ≡ r ∷ drop (i + 1) rs
 left_from rs i r within read = drop_more rs i r within ∙ ap (λ x. x ∷ drop (i + 1) rs) (sym read)
 
 -- a run whose value does not convert is refused

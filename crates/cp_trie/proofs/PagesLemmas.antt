@@ -3,12 +3,13 @@ use Rattle.std.proofs.Common.{◌≡◌, ℕ, zero, suc, ◌+◌, ◌*◌, ◌-�
 use Rattle.std.specs.Prelude.{option_and_then, option_map}
 use Rattle.std.specs.List.{slice_get}
 use Rattle.std.proofs.lemmas.Bool.{cases_lt}
-use Rattle.std.proofs.lemmas.List.{length-replicate}
-use Rattle.cp_trie.specs.Rows.{row_of, AreWhole, rows_of}
+use Rattle.std.proofs.lemmas.List.{drop_more, length-replicate}
+use Rattle.cp_trie.specs.Rows.{row_of, AreWhole, rows_of, spelled}
 use Rattle.cp_trie.specs.Pages.{values_of, page_of, PlacesStandFor, StandFor}
 use Rattle.cp_trie.specs.declared.pages.Pages.TheVariants.{One}
 use Rattle.cp_trie.specs.Runs.{run_at}
 use Rattle.cp_trie.specs.declared.ranges.CodePointMapRange.{CodePointMapRange}
+use Rattle.cp_trie.specs.declared.rows.Repeated.{Repeated}
 use Rattle.cp_trie.proofs.ConversionLemmas.{left_from}
 use Rattle.cp_trie.proofs.CoverLemmas.{IsCover}
 use Rattle.cp_trie.proofs.SearchLemmas.{run_at-within, run_at-behind}
@@ -84,6 +85,20 @@ values_of-next front more rs i r within read all taken =
     ap (λ l. l ++ values_of (drop (i + 1) rs)) taken
     ∙ (append_assoc front (replicate (r.range.end - r.range.start + 1) r.value) (values_of (drop (i + 1) rs))
     ∙ (ap (λ l. front ++ l) (sym (ap values_of (left_from rs i r within read))) ∙ all))
+
+-- where numbers stand in front of those of a list from an index on, those there have room behind them
+pub room_for_repeated : (front : List ℕ) (rs : List Repeated) (i : ℕ) (d : Repeated) → i < length rs → front ++ spelled (drop i rs) ≡ spelled rs → length front + (get_or rs i d).count ≤ length (spelled rs)
+room_for_repeated front rs i d within all =
+    let r = get_or rs i d in
+    omega (arith, length-append front (spelled (drop i rs)), ap length all, ap (λ (l : List Repeated). length (spelled l)) (drop_more rs i d within), length-append (replicate r.count r.number) (spelled (drop (i + 1) rs)), length-replicate r.count r.number)
+
+-- and go to the front
+pub spelled-next : (front more : List ℕ) (rs : List Repeated) (i : ℕ) (d : Repeated) → i < length rs → front ++ spelled (drop i rs) ≡ spelled rs → more ≡ front ++ replicate (get_or rs i d).count (get_or rs i d).number → more ++ spelled (drop (i + 1) rs) ≡ spelled rs
+spelled-next front more rs i d within all taken =
+    let r = get_or rs i d in
+    ap (λ l. l ++ spelled (drop (i + 1) rs)) taken
+    ∙ (append_assoc front (replicate r.count r.number) (spelled (drop (i + 1) rs))
+    ∙ (ap (λ l. front ++ l) (sym (ap spelled (drop_more rs i d within))) ∙ all))
 
 -- the value at a code point is that of the run that holds it
 slice_get-values_of : {V : Type 0} (n : ℕ) (rs : List (CodePointMapRange V)) (i c : ℕ) → IsCover n rs → c ≡ n + i → c ≤ 0x10_FFFF → slice_get (values_of rs) i ≡ option_map (λ r. r.value) (run_at rs c)
