@@ -1,9 +1,9 @@
 -- Walks over runs whose values are mapped as the walk meets them.
-use Rattle.std.proofs.Common.{◌≡◌, ℕ, zero, suc, ◌+◌, ◌<◌, ◌-◌, ◌≤◌, Bool, true, false, Option, List, [], ◌∷◌, length, take, drop, get_or, sym, subst, ◌∙◌, inl, inr, arith}
+use Rattle.std.proofs.Common.{◌≡◌, ℕ, zero, suc, ◌+◌, ◌<◌, ◌-◌, ◌≤◌, Bool, true, false, Option, List, [], ◌∷◌, length, take, drop, get_or, refl, sym, ap, subst, ◌∙◌, inl, inr, arith}
 use Rattle.std.proofs.lemmas.Bool.{cases_lt}
 use Rattle.std.proofs.lemmas.List.{get_or-drop, get_or_read, length-drop, take_all}
 use Rattle.std.specs.Iterator.{Drains}
-use Rattle.cp_trie.specs.Mapped.{TakesEach, TakesEachValue, IsFunctionOnEach, IsFunctionOnValues, KeepsMapping, AnswersWith, TakesRun, MappedStep, AreMappedRunsFrom}
+use Rattle.cp_trie.specs.Mapped.{TakesEach, TakesEachValue, IsFunctionOnEach, IsFunctionOnValues, KeepsMapping, AnswersWith, IsPassingFront, TakesRun, MappedStep, AreMappedRunsFrom}
 use Rattle.cp_trie.specs.declared.ranges.CodePointMapRange.{CodePointMapRange}
 use Rattle.cp_trie.proofs.CoverLemmas.{IsCover, Spells}
 
@@ -33,6 +33,12 @@ TakesEach-tail {T} pre r rs rest split takes k d h =
 -- what a part of a list from an index on is
 pub part-from : {X : Type 0} (rs : List X) (n : ℕ) → take (length rs - n) (drop n rs) ≡ drop n rs
 part-from rs n = take_all (length rs - n) (drop n rs) (omega (arith, length-drop n rs))
+
+-- a step that takes the first run with so many behind it that pass, up to the end of the last of them
+pub TakesRun-from : {T U : Type 0} (eq : U → U → Bool) (post : T → U → Type 0) (r : CodePointMapRange T) (rs rest : List (CodePointMapRange T)) (last : CodePointMapRange T) (u : U) (n : ℕ) → rs ≡ r ∷ rest → post r.value u → IsPassingFront post (eq u) rest n → last ≡ get_or rs n last → TakesRun eq post rs (record { range = record { start = r.range.start; end = (get_or rs n last).range.end }; value = u }) (take (length rest - n) (drop n rest))
+TakesRun-from eq post r rs rest last u n split answers passes read =
+    let here = rw split at read in
+    rw split (refl, answers, n, passes, ap (λ x. x.range.end) (sym here ∙ get_or_read (r ∷ rest) n last (omega (arith, passes.0)) here r), part-from rest n)
 
 -- what a mapping keeps at the value of each run it keeps at those behind some of them
 IsFunctionOnEach-drop : {T U : Type 0} (post : T → U → Type 0) (rs : List (CodePointMapRange T)) (n : ℕ) → IsFunctionOnEach post rs → IsFunctionOnEach post (drop n rs)
