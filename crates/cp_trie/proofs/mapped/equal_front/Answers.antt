@@ -1,4 +1,4 @@
-use Rattle.std.proofs.Common.{rules, true, ◌≡◌}
+use Rattle.std.proofs.Common.{rules, arith, true, ◌≡◌}
 use Rattle.cp_trie.proofs.MappedLemmas.{more_answers}
 use Rattle.cp_trie.proofs.mapped.equal_front.Goals as goal
 
@@ -6,3 +6,6 @@ pub loop-index-preserved : goal.loop-index-preserved
 loop-index-preserved g c =
     let passes : g.U.PartialEq.eq c.args.value c.map.result ≡ true = search rules in
     more_answers (goal.F-post g c.args.map.now) (g.U.PartialEq.eq c.args.value) true c.args.runs.now c.loop-index.index c.index-runs-index.result c.map.result c.loop-index.invariant c.loop-index-test.true c.index-runs-index.is c.map.ensures passes
+
+pub returns : goal.returns
+returns g c = (omega arith, λ k d h. c.loop-index.invariant k d (omega arith), λ d h. absurd (omega arith))
