@@ -1,15 +1,16 @@
 -- Joining neighbours of equal value keeps the values and leaves the maximal runs, of which a map has one list.
-use Rattle.std.proofs.Common.{◌≡◌, ℕ, ◌+◌, ◌<◌, ◌≤◌, Bool, true, false, cond, ◌||◌, List, [], ◌∷◌, ◌++◌, length, get_or, drop, refl, sym, ap, ap₂, ◌∙◌, append_assoc, inl, inr, arith}
+use Rattle.std.proofs.Common.{◌≡◌, ℕ, ◌+◌, ◌<◌, ◌≤◌, Bool, true, false, cond, ◌||◌, ◌==◌, Some, ◌⊎◌, List, [], ◌∷◌, ◌++◌, length, get_or, drop, refl, sym, ap, ap₂, ◌∙◌, append_assoc, inl, inr, arith}
 use Rattle.std.proofs.lemmas.Bool.Decides.{nat_tests}
 use Rattle.std.proofs.lemmas.Bool.{cases_lt}
 use Rattle.std.proofs.lemmas.List.{drop_all}
 use Rattle.cp_invlist.specs.Ranges.{in_range}
 use Rattle.cp_invlist.specs.declared.ranges.CodePointRange.{CodePointRange}
 use Rattle.std.specs.Prelude.{IsTrue, ◌&&◌, nat_eq, None}
-use Rattle.cp_trie.specs.Faults.{first_fault}
+use Rattle.cp_trie.specs.Faults.{is_in_order, fault_from, first_fault}
 use Rattle.cp_trie.specs.Joined.{up_to, joined_from, joined}
 use Rattle.cp_trie.specs.Map.{CodePointMap, value_at}
 use Rattle.cp_trie.specs.Runs.{value_in, AreRunsFrom}
+use Rattle.cp_trie.specs.declared.error.TrieError.TheVariants.{Gap, Order}
 use Rattle.cp_trie.specs.declared.ranges.CodePointMapRange.{CodePointMapRange}
 use Rattle.cp_trie.proofs.ConversionLemmas.{left_from}
 use Rattle.cp_trie.proofs.CoverLemmas.{IsCover, Spells, Spells-value_in, IsCover-from_no_fault, no_fault-from_IsCover}
@@ -160,3 +161,23 @@ joined_from-other eq done all rs i r s within read other h =
 -- and it is the last where none is left
 pub joined_from-last : {V : Type 0} (eq : V → V → Bool) (done all rs : List (CodePointMapRange V)) (i : ℕ) (r : CodePointMapRange V) → length rs ≤ i → done ++ joined_from eq r (drop i rs) ≡ all → done ++ r ∷ [] ≡ all
 joined_from-last eq done all rs i r none h = ap (λ l. done ++ joined_from eq r l) (sym (drop_all i rs none)) ∙ h
+
+-- a run that starts at the number and is in order leaves the fault to those behind it
+pub fault_from-passed : {V : Type 0} (i n : ℕ) (rs : List (CodePointMapRange V)) (r : CodePointMapRange V) → i < length rs → r ≡ get_or rs i r → r.range.start ≡ n → r.range.start ≤ r.range.end → r.range.end ≤ 0x10_FFFF → fault_from (i + 1) (r.range.end + 1) (drop (i + 1) rs) ≡ fault_from i n (drop i rs)
+fault_from-passed i n rs r within read starts low high =
+    let here : true ≡ (r.range.start == n) = grind (arith, nat_tests) in
+    let ordered : true ≡ is_in_order r = grind (arith, nat_tests) in
+    ap₂ (λ a b. cond a (cond b (fault_from (i + 1) (r.range.end + 1) (drop (i + 1) rs)) (Some (Order i))) (Some (Gap i))) here ordered
+    ∙ ap (λ l. fault_from i n l) (sym (left_from rs i r within read))
+
+-- and one that starts there and is not has the fault
+pub fault_from-order : {V : Type 0} (i n : ℕ) (rs : List (CodePointMapRange V)) (r : CodePointMapRange V) → i < length rs → r ≡ get_or rs i r → r.range.start ≡ n → is_in_order r ≡ false → fault_from i n (drop i rs) ≡ Some (Order i)
+fault_from-order i n rs r within read starts other =
+    let here : (r.range.start == n) ≡ true = grind (arith, nat_tests) in
+    ap (λ l. fault_from i n l) (left_from rs i r within read)
+    ∙ ap₂ (λ a b. cond a (cond b (fault_from (i + 1) (r.range.end + 1) (drop (i + 1) rs)) (Some (Order i))) (Some (Gap i))) here other
+
+-- a run that ends below its start or above 10FFFF is not
+pub out_of_order : {V : Type 0} (r : CodePointMapRange V) → (r.range.end < r.range.start) ⊎ ((r.range.start ≤ r.range.end) × (0x10_FFFF < r.range.end)) → is_in_order r ≡ false
+out_of_order r (inl h) = grind (arith, nat_tests)
+out_of_order r (inr h) = grind (arith, nat_tests)
