@@ -1,10 +1,10 @@
 -- The runs whose values all convert, and the values that they spell.
-use Rattle.std.proofs.Common.{◌≡◌, ℕ, ◌+◌, ◌<◌, ◌≤◌, Bool, true, false, cond, Option, Some, None, List, [], ◌∷◌, ◌++◌, length, get_or, drop, refl, sym, ap, ap₂, ◌∙◌, arith}
+use Rattle.std.proofs.Common.{◌≡◌, ℕ, ◌+◌, ◌<◌, ◌≤◌, Bool, true, false, cond, Option, Some, None, List, [], ◌∷◌, ◌++◌, length, get_or, drop, refl, sym, ap, ap₂, ◌∙◌, append_assoc, arith}
 use Rattle.std.specs.Prelude.{is_some}
 use Rattle.std.proofs.lemmas.List.{drop_more, drop_all, append-nil}
 use Rattle.cp_invlist.specs.Ranges.{in_range}
 use Rattle.cp_trie.specs.Conversion.{refused_from}
-use Rattle.cp_trie.specs.ConvertedRuns.{runs_by, PassesEach}
+use Rattle.cp_trie.specs.ConvertedRuns.{with_run, runs_by, PassesEach}
 use Rattle.cp_trie.specs.Runs.{value_in}
 use Rattle.cp_trie.specs.declared.ranges.CodePointMapRange.{CodePointMapRange}
 use Rattle.cp_trie.proofs.CoverLemmas.{IsCover}
@@ -39,6 +39,18 @@ left_from rs i r within read = drop_more rs i r within ∙ ap (λ x. x ∷ drop 
 -- a run whose value does not convert is refused
 pub refused_from-here : {V W : Type 0} (convert : V → Option W) (e : V) (rs : List (CodePointMapRange V)) (i : ℕ) (r : CodePointMapRange V) → i < length rs → r ≡ get_or rs i r → convert r.value ≡ None → refused_from convert e i (drop i rs) ≡ Some i
 refused_from-here convert e rs i r within read none = ap (λ l. refused_from convert e i l) (left_from rs i r within read) ∙ rw none refl
+
+-- one whose value converts leaves the refusal to those behind it
+pub refused_from-passed : {V W : Type 0} (convert : V → Option W) (e : V) (rs : List (CodePointMapRange V)) (i : ℕ) (r : CodePointMapRange V) (w : W) → i < length rs → r ≡ get_or rs i r → Some w ≡ convert r.value → refused_from convert e (i + 1) (drop (i + 1) rs) ≡ refused_from convert e i (drop i rs)
+refused_from-passed convert e rs i r w within read some =
+    ap (λ o. cond (is_some o) (refused_from convert e (i + 1) (drop (i + 1) rs)) (Some i)) some ∙ ap (λ l. refused_from convert e i l) (sym (left_from rs i r within read))
+
+-- and it is converted behind those that are done
+pub runs_by-next : {V W : Type 0} (convert : V → Option W) (rs : List (CodePointMapRange V)) (done all : List (CodePointMapRange W)) (i : ℕ) (r : CodePointMapRange V) (w : W) → i < length rs → r ≡ get_or rs i r → Some w ≡ convert r.value → done ++ runs_by convert (drop i rs) ≡ all → (done ++ record { range = r.range; value = w } ∷ []) ++ runs_by convert (drop (i + 1) rs) ≡ all
+runs_by-next convert rs done all i r w within read some h =
+    append_assoc done (record { range = r.range; value = w } ∷ []) (runs_by convert (drop (i + 1) rs))
+    ∙ (ap (λ o. done ++ with_run r.range o (runs_by convert (drop (i + 1) rs))) some
+    ∙ (ap (λ l. done ++ runs_by convert l) (sym (left_from rs i r within read)) ∙ h))
 
 -- behind all runs the error value alone is left
 pub refused_from-behind : {V W : Type 0} (convert : V → Option W) (e : V) (rs : List (CodePointMapRange V)) (i : ℕ) → length rs ≡ i → refused_from convert e i (drop i rs) ≡ refused_from convert e (length rs) []

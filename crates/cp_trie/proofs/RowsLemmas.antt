@@ -141,6 +141,10 @@ take-patched xs part more i k within size =
     ∙ (take-append-add (take i xs) (part ++ more) k
     ∙ ap (λ l. take i xs ++ l) (ap (λ j. take j (part ++ more)) (sym size) ∙ take-append_seam part more))
 
+-- the front of a list that was written in front of others
+pub take-written : {V : Type 0} (xs more : List V) (k n : ℕ) → k ≤ n → k ≤ length xs → take k (take n (xs ++ more)) ≡ take k xs
+take-written xs more k n fits within = take-take k n (xs ++ more) fits ∙ take-append-le k xs more within
+
 -- a second fill that begins where the first ends
 pub take-filled_on : {V : Type 0} (xs ys zs : List V) (i n j m k : ℕ) (x : V) → take (i + n) ys ≡ take i xs ++ replicate n x → take (j + m) zs ≡ take j ys ++ replicate m x → j ≡ i + n → n + m ≡ k → take (i + k) zs ≡ take i xs ++ replicate k x
 take-filled_on xs ys zs i n j m k x first second seam sum =

@@ -1,5 +1,5 @@
 -- The numbers of the runs that have one value.
-use Rattle.std.proofs.Common.{◌≡◌, ℕ, ◌+◌, ◌<◌, ◌≤◌, Bool, true, false, ◌&&◌, ◌||◌, List, [], ◌∷◌, length, drop, refl, sym, ap, ap₂, ◌∙◌, inl, inr, arith}
+use Rattle.std.proofs.Common.{◌≡◌, ℕ, ◌+◌, ◌<◌, ◌≤◌, Bool, true, false, ◌&&◌, ◌||◌, List, [], ◌∷◌, length, get_or, drop, refl, sym, ap, ap₂, ◌∙◌, inl, inr, arith}
 use Rattle.std.proofs.lemmas.Bool.{cases_lt}
 use Rattle.std.proofs.lemmas.List.{drop_all}
 use Rattle.std.proofs.lemmas.Bool.Decides.{nat_tests}
@@ -7,6 +7,7 @@ use Rattle.cp_invlist.specs.InversionList.{is_code_point}
 use Rattle.cp_invlist.specs.Ranges.{in_code_points}
 use Rattle.cp_trie.specs.Runs.{value_in}
 use Rattle.cp_trie.specs.declared.ranges.CodePointMapRange.{CodePointMapRange}
+use Rattle.cp_trie.proofs.ConversionLemmas.{left_from}
 use Rattle.cp_trie.proofs.CoverLemmas.{IsCover, value_in-within, value_in-behind, in_range-within, in_range-before, in_range-behind}
 
 -- the number is a code point of a run whose value is equal to the value
@@ -25,6 +26,10 @@ or-false false = refl
 and-true : (a : Bool) → (a && true) ≡ a
 and-true true = refl
 and-true false = refl
+
+or-assoc : (a b c : Bool) → ((a || b) || c) ≡ (a || (b || c))
+or-assoc true b c = refl
+or-assoc false b c = refl
 
 -- no run of a cover holds a number below it
 holds_value-before : {V : Type 0} (eq : V → V → Bool) (v : V) (n : ℕ) (rs : List (CodePointMapRange V)) (c : ℕ) → IsCover n rs → c < n → holds_value eq v rs c ≡ false
@@ -53,6 +58,19 @@ holds_value-value_in eq v n (r ∷ rs) e c cover h =
           ∙ (ap (λ w. eq w v) (sym (value_in-within r rs e c (omega arith) within))
           ∙ ap (λ b. b && eq (value_in (r ∷ rs) e c) v) (sym point))))
     ]
+
+-- the numbers of a run whose value is equal to the value are gathered
+pub holds_value-taken : {V : Type 0} (eq : V → V → Bool) (v : V) (rs : List (CodePointMapRange V)) (i : ℕ) (r : CodePointMapRange V) (c : ℕ) (b all : Bool) → i < length rs → r ≡ get_or rs i r → true ≡ eq r.value v → (b || holds_value eq v (drop i rs) c) ≡ all → ((b || in_code_points r.range c) || holds_value eq v (drop (i + 1) rs) c) ≡ all
+holds_value-taken eq v rs i r c b all within read same h =
+    or-assoc b (in_code_points r.range c) (holds_value eq v (drop (i + 1) rs) c)
+    ∙ (ap (λ a. b || ((a && in_code_points r.range c) || holds_value eq v (drop (i + 1) rs) c)) same
+    ∙ (ap (λ l. b || holds_value eq v l c) (sym (left_from rs i r within read)) ∙ h))
+
+-- those of another run are not
+pub holds_value-passed : {V : Type 0} (eq : V → V → Bool) (v : V) (rs : List (CodePointMapRange V)) (i : ℕ) (r : CodePointMapRange V) (c : ℕ) (b all : Bool) → i < length rs → r ≡ get_or rs i r → false ≡ eq r.value v → (b || holds_value eq v (drop i rs) c) ≡ all → (b || holds_value eq v (drop (i + 1) rs) c) ≡ all
+holds_value-passed eq v rs i r c b all within read other h =
+    ap (λ a. b || ((a && in_code_points r.range c) || holds_value eq v (drop (i + 1) rs) c)) other
+    ∙ (ap (λ l. b || holds_value eq v l c) (sym (left_from rs i r within read)) ∙ h)
 
 -- once all runs are done, what was gathered is what they hold
 pub holds_value-all_done : {V : Type 0} (eq : V → V → Bool) (v : V) (rs : List (CodePointMapRange V)) (i c : ℕ) (b : Bool) → length rs ≤ i → (b || holds_value eq v (drop i rs) c) ≡ holds_value eq v rs c → b ≡ holds_value eq v rs c
