@@ -1,11 +1,11 @@
 -- Joining neighbours of equal value keeps the values and leaves the maximal runs, of which a map has one list.
-use Rattle.std.proofs.Common.{◌≡◌, ℕ, ◌+◌, ◌<◌, ◌≤◌, Bool, true, false, cond, ◌||◌, ◌==◌, Some, ◌⊎◌, List, [], ◌∷◌, ◌++◌, length, get_or, drop, refl, sym, ap, ap₂, ◌∙◌, append_assoc, inl, inr, arith}
+use Rattle.std.proofs.Common.{◌≡◌, ℕ, ◌+◌, ◌%◌, ◌<◌, ◌≤◌, Bool, true, false, cond, not, ◌||◌, ◌==◌, Some, ◌⊎◌, List, [], ◌∷◌, ◌++◌, length, get_or, drop, refl, sym, ap, ap₂, ◌∙◌, append_assoc, inl, inr, arith}
 use Rattle.std.proofs.lemmas.Bool.Decides.{nat_tests}
 use Rattle.std.proofs.lemmas.Bool.{cases_lt}
 use Rattle.std.proofs.lemmas.List.{drop_all}
 use Rattle.cp_invlist.specs.Ranges.{in_range}
 use Rattle.cp_invlist.specs.declared.ranges.CodePointRange.{CodePointRange}
-use Rattle.std.specs.Prelude.{IsTrue, ◌&&◌, nat_eq, None}
+use Rattle.std.specs.Prelude.{IsTrue, ◌&&◌, nat_eq, nat_lt, None}
 use Rattle.cp_trie.specs.Faults.{is_in_order, fault_from, first_fault}
 use Rattle.cp_trie.specs.Joined.{up_to, joined_from, joined}
 use Rattle.cp_trie.specs.Map.{CodePointMap, value_at}
@@ -130,7 +130,7 @@ IsCover-joined eq n [] cover = cover
 IsCover-joined eq n (r ∷ rs) cover = IsCover-joined_from eq n r rs cover
 
 -- where a run is apart from the next, and joining changes nothing from that one on, it changes nothing
-pub joined_from-apart : {V : Type 0} (eq : V → V → Bool) (r s : CodePointMapRange V) (ss : List (CodePointMapRange V)) → eq r.value s.value ≡ false → joined_from eq s ss ≡ s ∷ ss → joined_from eq r (s ∷ ss) ≡ r ∷ s ∷ ss
+joined_from-apart : {V : Type 0} (eq : V → V → Bool) (r s : CodePointMapRange V) (ss : List (CodePointMapRange V)) → eq r.value s.value ≡ false → joined_from eq s ss ≡ s ∷ ss → joined_from eq r (s ∷ ss) ≡ r ∷ s ∷ ss
 joined_from-apart eq r s ss apart same =
     ap (λ b. cond b (joined_from eq (up_to r s) ss) (r ∷ joined_from eq s ss)) apart ∙ ap (λ l. r ∷ l) same
 
@@ -144,6 +144,43 @@ IsCover-from_test false last left rs none order covers both = absurd (let f : fa
 IsCover-from_test true last left rs none order covers both =
     let end : last.range.end ≡ 0x10_FFFF = grind (arith, nat_tests, both) in
     covers refl (rw none (refl, order refl, omega arith, omega arith))
+
+-- and joining changes nothing in runs that end with a last one, of which a test says so, where it changes nothing from that one on
+pub joined-from_test : {V : Type 0} (eq : V → V → Bool) (test : Bool) (last : CodePointMapRange V) (left rs : List (CodePointMapRange V)) → left ≡ [] → (IsTrue test → joined_from eq last left ≡ last ∷ left → joined eq rs ≡ rs) → IsTrue (test && nat_eq last.range.end 0x10_FFFF) → joined eq rs ≡ rs
+joined-from_test eq false last left rs none same both = absurd (let f : false ≡ true = both in cc)
+joined-from_test eq true last left rs none same both = same refl (rw none refl)
+
+-- four tests that hold together
+pub all_four : (a b c d : Bool) → IsTrue (((a && b) && c) && d) → (a ≡ true) × (b ≡ true) × (c ≡ true) × (d ≡ true)
+all_four true true true true h = (refl, refl, refl, refl)
+all_four true true true false h = cc
+all_four true true false d h = cc
+all_four true false c d h = cc
+all_four false b c d h = cc
+
+-- where a run touches the one before it and goes further, that one and those from this one on cover if these do
+pub IsCover-before : {V : Type 0} (r s : CodePointMapRange V) (rs : List (CodePointMapRange V)) (i : ℕ) → i < length rs → s ≡ get_or rs i s → nat_eq s.range.start ((r.range.end + 1) % 0x1_0000_0000) ≡ true → nat_lt r.range.end s.range.end ≡ true → r.range.start ≤ r.range.end → IsCover s.range.start (s ∷ drop (i + 1) rs) → IsCover r.range.start (r ∷ drop i rs)
+IsCover-before r s rs i within read touches further order cover =
+    let past : r.range.end < s.range.end = grind (arith, nat_tests, further) in
+    let starts : s.range.start ≡ (r.range.end + 1) % 0x1_0000_0000 = grind (arith, nat_tests, touches) in
+    let high : s.range.end ≤ 0x10_FFFF = cover.2 in
+    rw (left_from rs i s within read) (refl, order, omega arith, (omega arith, omega arith, high, cover.3))
+
+-- it is in order
+pub in_order-next : {V : Type 0} (r s : CodePointMapRange V) → nat_eq s.range.start ((r.range.end + 1) % 0x1_0000_0000) ≡ true → nat_lt r.range.end s.range.end ≡ true → s.range.start ≤ s.range.end
+in_order-next r s touches further =
+    let past : r.range.end < s.range.end = grind (arith, nat_tests, further) in
+    let starts : s.range.start ≡ (r.range.end + 1) % 0x1_0000_0000 = grind (arith, nat_tests, touches) in
+    omega arith
+
+differ : (b ne : Bool) → ne ≡ not b → ne ≡ true → b ≡ false
+differ true ne is holds = cc
+differ false ne is holds = refl
+
+-- and where its value is another, joining changes nothing from the one before it on if it changes nothing from this one on
+pub joined_from-before : {V : Type 0} (eq : V → V → Bool) (r s : CodePointMapRange V) (rs : List (CodePointMapRange V)) (i : ℕ) (ne : Bool) → i < length rs → s ≡ get_or rs i s → ne ≡ not (eq r.value s.value) → ne ≡ true → joined_from eq s (drop (i + 1) rs) ≡ s ∷ drop (i + 1) rs → joined_from eq r (drop i rs) ≡ r ∷ drop i rs
+joined_from-before eq r s rs i ne within read is holds same =
+    rw (left_from rs i s within read) (joined_from-apart eq r s (drop (i + 1) rs) (differ (eq r.value s.value) ne is holds) same)
 
 -- a run that is pending takes the next one, which has an equal value, and what they all make stays
 pub joined_from-equal : {V : Type 0} (eq : V → V → Bool) (done all rs : List (CodePointMapRange V)) (i : ℕ) (r s : CodePointMapRange V) → i < length rs → s ≡ get_or rs i s → true ≡ eq r.value s.value → done ++ joined_from eq r (drop i rs) ≡ all → done ++ joined_from eq (up_to r s) (drop (i + 1) rs) ≡ all
