@@ -1,5 +1,5 @@
 -- A walk over the elements of two sets in order gives the merged list.
-use Rattle.std.proofs.Common.{◌≡◌, ℕ, zero, suc, ◌%◌, ◌<◌, ◌≤◌, Bool, true, false, not, ◌==◌, if◌then◌else◌, Some, None, List, [], ◌∷◌, ◌++◌, length, take, drop, All, refl, sym, ap, ap₂, ◌∙◌, subst, append_assoc, arith, ◌⊎◌, inl, inr}
+use Rattle.std.proofs.Common.{◌≡◌, ℕ, zero, suc, ◌+◌, ◌%◌, ◌<◌, ◌≤◌, Bool, true, false, not, ◌==◌, if◌then◌else◌, Some, None, List, [], ◌∷◌, ◌++◌, length, take, drop, All, refl, sym, ap, ap₂, ◌∙◌, subst, append_assoc, IfSome, arith, length-drop, ◌⊎◌, inl, inr}
 use mathlib.Core.Bool.{beq}
 use Rattle.std.proofs.lemmas.Bool.{le-leb, lt-leb, eq-eqb, ne_eqb, cases_lt, cases_eq, cond-true, cond-false, cases_Bool}
 use Rattle.std.proofs.lemmas.List.{take-append-drop, drop_all, length-take-le, append-nil}
@@ -455,3 +455,16 @@ pub inside_behind-take : (n : ℕ) (xs : List ℕ) (b : Bool) → n ≤ length x
 inside_behind-take n xs b le =
     beq-differ b (n % 2 == 1) ∙ ap (λ m. differ b (m % 2 == 1)) (sym (length-take-le n xs le))
     ∙ ap (differ b) (sym (odd_length (take n xs))) ∙ sym (inside_behind-odd (take n xs) b)
+
+-- fewer elements are left where those below a number are taken and the first is below it
+pub fewer-below : (xs rest : List ℕ) (n m x y : ℕ) → Some x ≡ slice_get xs 0 → x < y → IfSome (slice_get xs n) (λ z. y ≤ z) → rest ≡ drop n xs → (length rest + m < length xs + m) × (m + length rest < m + length xs)
+fewer-below [] rest n m x y first lt behind is = cc
+fewer-below (a ∷ xs) rest zero m x y first lt behind is = let same : x ≡ a = cc in absurd (omega arith)
+fewer-below (a ∷ xs) rest (suc n) m x y first lt behind is =
+    let less : length rest < length (a ∷ xs) = omega (arith, ap length is, length-drop n xs) in
+    (omega arith, omega arith)
+
+-- and where the first of both lists is taken
+pub fewer-both : (xs ys rest rest' : List ℕ) (x : ℕ) → Some x ≡ slice_get xs 0 → rest ≡ drop 1 xs → rest' ≡ drop 1 ys → length rest + length rest' < length xs + length ys
+fewer-both [] ys rest rest' x first is is' = cc
+fewer-both (a ∷ xs) ys rest rest' x first is is' = omega (arith, ap length is, ap length is', length-drop 1 ys)

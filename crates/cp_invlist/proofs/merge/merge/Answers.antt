@@ -1,7 +1,7 @@
-use Rattle.std.proofs.Common.{rules, ◌≡◌, Some, None, [], ap, ap₂, sym, ◌∙◌, arith, ◌⊎◌, inl, inr}
+use Rattle.std.proofs.Common.{rules, ◌≡◌, Some, None, [], ap, ap₂, sym, ◌∙◌, arith, ◌⊎◌, inl, inr, length}
 use Rattle.std.specs.List.{slice_get}
 use Rattle.cp_invlist.specs.Merge.{extended}
-use Rattle.cp_invlist.proofs.MergeLemmas.{Walks, Walks-first, Walks-second, Walks-both, Walks-rest, Walks-list, Walks-members, AreBelowFirst-from}
+use Rattle.cp_invlist.proofs.MergeLemmas.{Walks, Walks-first, Walks-second, Walks-both, Walks-rest, Walks-list, Walks-members, AreBelowFirst-from, fewer-below, fewer-both}
 use Rattle.cp_invlist.proofs.merge.merge.Goals.{in_default, in_default-2}
 use Rattle.cp_invlist.proofs.merge.merge.Given.{Over}
 use Rattle.cp_invlist.proofs.merge.merge.Goals as goal
@@ -60,3 +60,15 @@ returns-clause-list g c = Walks-list c.args.operation c.args.first.now c.args.se
 
 pub returns-clause-members : goal.returns-clause-members
 returns-clause-members g c = Walks-members c.args.operation c.args.first.now c.args.second.now c.extend-3.new.merged.items _ _ (walked g c)
+
+pub elements-smaller-in_ok-extend : goal.elements-smaller-in_ok-extend
+elements-smaller-in_ok-extend g c =
+    (fewer-below c.elements.left.rest.now c.take-stretch.new.self.rest.now c.count_below.result (length c.elements.right.rest.now) c.in-Some-Some.x c.in-Some-Some.y c.in-Some-Some.ensures c.if-x-y.true c.count_below.ensures.behind c.take-stretch.ensures.rest).0
+
+pub elements-smaller-in_ok-extend-2 : goal.elements-smaller-in_ok-extend-2
+elements-smaller-in_ok-extend-2 g c =
+    (fewer-below c.elements.right.rest.now c.take-stretch-then-y-x.new.self.rest.now c.count_below-then-y-x.result (length c.elements.left.rest.now) c.in-Some-Some.y c.in-Some-Some.x c.in-Some-Some.ensures' c.if-y-x.true c.count_below-then-y-x.ensures.behind c.take-stretch-then-y-x.ensures.rest).1
+
+pub elements-smaller : goal.elements-smaller
+elements-smaller g c =
+    fewer-both c.elements.left.rest.now c.elements.right.rest.now c.take.new.self.rest.now c.take-else-y-x.new.self.rest.now c.in-Some-Some.x c.in-Some-Some.ensures c.take.ensures.rest c.take-else-y-x.ensures.rest
