@@ -1,5 +1,5 @@
 -- The ranges that an inversion list spells are the maximal ranges of its members, and there are no others.
-use Rattle.std.proofs.Common.{◌≡◌, ℕ, suc, ◌+◌, ◌-◌, ◌<◌, ◌≤◌, Bool, true, false, not, List, [], ◌∷◌, length, take, drop, refl, sym, ap, ap₂, ◌∙◌, arith, true≢false, subst, inl, inr}
+use Rattle.std.proofs.Common.{◌≡◌, ℕ, suc, ◌+◌, ◌-◌, ◌<◌, ◌≤◌, Bool, true, false, not, List, [], ◌∷◌, length, take, drop, get_or, refl, sym, ap, ap₂, ◌∙◌, arith, true≢false, subst, inl, inr}
 use Rattle.std.proofs.lemmas.Bool.{le-leb, lt-leb, cases_lt}
 use Rattle.std.proofs.lemmas.List.{take_rest}
 use Rattle.cp_invlist.specs.InversionList.{differ, contains, ascends_from, has_even_length, IsInversionList}
@@ -81,6 +81,12 @@ AreRangesFrom-unique m n (r ∷ rs) (s ∷ ss) hr hs =
     ] in
     ap₂ ◌∷◌ (ap₂ (λ (a b : ℕ). let x : CodePointRange = record { start = a; end = b } in x) starts ends)
     (AreRangesFrom-unique m (r.end + 1) rs ss hr.5 (subst (λ (k : ℕ). AreRangesFrom m (k + 1) ss) (sym ends) hs.5))
+
+-- the first range of a list with two elements and more
+pub ranges_of-first : (xs : List ℕ) → 2 ≤ length xs → ranges_of xs ≡ record { start = get_or xs 0 0; end = get_or xs 1 0 - 1 } ∷ ranges_of (take (length xs - 2) (drop 2 xs))
+ranges_of-first [] le = absurd (omega arith)
+ranges_of-first (a ∷ []) le = absurd (omega arith)
+ranges_of-first (a ∷ b ∷ xs) le = rw (take_rest (a ∷ b ∷ xs) 2)
 
 -- what is left of a list behind its first range
 pub IsInversionList-rest : (xs : List ℕ) → 2 ≤ length xs → IsInversionList xs → IsInversionList (take (length xs - 2) (drop 2 xs))
