@@ -1,3 +1,4 @@
+pub mod Bounds
 pub mod DigitBounds
 pub mod NumbersInBraces
 pub mod EscapeReading
