@@ -1,8 +1,9 @@
-use Rattle.std.proofs.Common.{length, ◌∷◌, ap, ◌∙◌, rules, arith}
+use Rattle.std.proofs.Common.{length, ◌∷◌, ap, ◌∙◌, ◌<◌, rules, arith, lt_trans, lt_of_lt_of_le}
 use Rattle.std.specs.Str.{chars}
 use Rattle.cp_invlist.specs.InversionList.{contains}
 use Rattle.uset_read.specs.Spelled.{around_seen, next_seen}
 use Rattle.uset_read.specs.Reading.{braced_in}
+use Rattle.uset_read.proofs.Bounds.{of_rest, place_below}
 use Rattle.uset_read.proofs.NumbersInBraces.{first_stops, first_goes, next_stops, next_closes, next_goes}
 use Rattle.uset_read.proofs.escape.read_braced.Goals as goal
 
@@ -17,7 +18,7 @@ loop-more-init c =
     let skipped = c.skip_white_space.ensures.skipped in
     let h = first_goes (contains c.args.white_space.now) (around_seen c.args.around) (chars c.args.begin.now) (chars c.args.text.now) _ _ (rw skipped at c.in_ok-first.ensures.parts) in (
       search rules,
-      omega (arith, c.in_ok-first.ensures.shorter, c.skip_white_space.ensures.within),
+      lt_of_lt_of_le c.in_ok-first.ensures.shorter c.skip_white_space.ensures.within,
       omega (arith, c.in_ok-first.ensures.fewer, c.skip_white_space.ensures.no_more),
       (length (chars c.args.text.now), omega (arith, c.in_ok-first.ensures.fewer, c.skip_white_space.ensures.no_more), rw c.new-more.ensures.items h),
     )
@@ -37,6 +38,16 @@ returns-in-Closed-clause-parts c =
     (chars c.in-Closed.behind.now) (braced_in (contains c.args.white_space.now) (around_seen c.args.around) (chars c.args.begin.now) (chars c.args.text.now)) at.2 at.1 parts in
     rw h c.end_numbers.ensures.parts
 
+pub returns-in-Closed-clause-shorter : goal.returns-in-Closed-clause-shorter
+returns-in-Closed-clause-shorter c =
+    let shorter = rw c.in-Closed.is at c.in_ok-behind.ensures.shorter in
+    of_rest (λ t. length t < length c.args.text.now) _ _ (lt_trans shorter c.loop-more.invariant.1) c.end_numbers.ensures.rest
+
+pub returns-in-Closed-clause-fewer : goal.returns-in-Closed-clause-fewer
+returns-in-Closed-clause-fewer c =
+    let fewer = rw c.in-Closed.is at c.in_ok-behind.ensures.fewer in
+    of_rest (λ t. length (chars t) < length (chars c.args.text.now)) _ _ (lt_trans fewer c.loop-more.invariant.2) c.end_numbers.ensures.rest
+
 pub loop-more-preserved : goal.loop-more-preserved
 loop-more-preserved c =
     let at = c.loop-more.invariant.3 in
@@ -45,4 +56,4 @@ loop-more-preserved c =
     let fewer = rw c.in-Number.is at c.in_ok-behind.ensures.fewer in
     let h = next_goes (contains c.args.white_space.now) (around_seen c.args.around) (chars c.args.begin.now) at.0 c.in-Number.number (c.in_ok-first.first ∷ c.loop-more.more.items) (chars c.loop-more.rest.now)
     (chars c.in-Number.behind.now) (braced_in (contains c.args.white_space.now) (around_seen c.args.around) (chars c.args.begin.now) (chars c.args.text.now)) at.2 at.1 parts fewer in
-    (search rules, omega (arith, shorter, c.loop-more.invariant.1), omega (arith, fewer, c.loop-more.invariant.2), (h.0, h.1, rw c.in_ok-push-in-Number.ensures.items h.2))
+    (search rules, lt_trans shorter c.loop-more.invariant.1, lt_trans fewer c.loop-more.invariant.2, (h.0, h.1, rw c.in_ok-push-in-Number.ensures.items h.2))
