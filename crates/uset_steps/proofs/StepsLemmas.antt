@@ -17,6 +17,10 @@ pub done_more : (sets : List NamedSet) (ss : List Step) (s : Step) (m : Member) 
 done_more sets [] s m b = refl
 done_more sets (t ∷ ss) s m b = done_more sets ss s m (step_done sets t m b)
 
+-- the last of the steps, which is the first of those from the last to the first
+pub last_done : (sets : List NamedSet) (left next : List Step) (s : Step) (m : Member) (b c : Bool) → left ≡ next ++ s ∷ [] → c ≡ step_done sets s m b → steps_done sets (reverse next) m c ≡ steps_done sets (reverse left) m b
+last_done sets left next s m b c is does = ap (steps_done sets (reverse next) m) does ∙ ap (λ ss. steps_done sets ss m b) (sym (ap reverse is ∙ reverse-append next (s ∷ [])))
+
 pub done_append : (sets : List NamedSet) (xs ys : List Step) (m : Member) (b : Bool) → steps_done sets (xs ++ ys) m b ≡ steps_done sets ys m (steps_done sets xs m b)
 done_append sets [] ys m b = refl
 done_append sets (x ∷ xs) ys m b = done_append sets xs ys m (step_done sets x m b)
