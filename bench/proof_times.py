@@ -1,13 +1,15 @@
 #!/usr/bin/env python3
 """Tells which functions of a crate take longest to prove, and on what.
 
-Usage: bench/proof_times.py NAME [COUNT]. It checks the crate from nothing and by one process, in a copy where the crates
-below are as their checks left them (they are proved first where none did). A check writes some thirty files for a
-function as it goes, so the time from one file to the next is that of what the file tells of. Two kinds are told apart:
-`Lts`, the steps of the function, which grow with its length, its exits and what it owns, so that a shorter function
-costs less; and `Proof`, its proof, most of it the search for what no answer is written for, so that an answer costs less.
+Usage: bench/proof_times.py NAME [COUNT] [--tests]. It checks the crate, or with --tests the crate with its tests, from
+nothing and by one process, in a copy where the crates below are as their checks left them (they are proved first where
+none did). A check writes some thirty files for a function as it goes, so the time from one file to the next is that of
+what the file tells of; other work on the machine counts too. Two kinds are told apart: `Lts`, the steps of the function,
+which grow with its length, its exits and what it owns, so that a shorter function costs less; and `Proof`, its proof,
+most of it the search for what no answer is written for, so that an answer costs less.
 """
 
+import argparse
 import collections
 import re
 import shutil
@@ -49,12 +51,15 @@ def seconds_by_kind(crate):
 
 
 def main():
-    if len(sys.argv) not in (2, 3):
-        sys.exit(__doc__)
-    count = int(sys.argv[2]) if len(sys.argv) == 3 else 20
-    with tempfile.TemporaryDirectory() as name:
-        crate = write_copy(Path(name), sys.argv[1])
-        checked = subprocess.run(["rt", "check", "--jobs", "1"], cwd=crate, stdout=subprocess.PIPE, stderr=subprocess.STDOUT, text=True)
+    parser = argparse.ArgumentParser(description=__doc__, formatter_class=argparse.RawDescriptionHelpFormatter)
+    parser.add_argument("name")
+    parser.add_argument("count", nargs="?", type=int, default=20)
+    parser.add_argument("--tests", action="store_true")
+    asked = parser.parse_args()
+    check = ["rt", "check", "--jobs", "1", *(["--test"] if asked.tests else [])]
+    with tempfile.TemporaryDirectory() as folder:
+        crate = write_copy(Path(folder), asked.name)
+        checked = subprocess.run(check, cwd=crate, stdout=subprocess.PIPE, stderr=subprocess.STDOUT, text=True)
         seconds = seconds_by_kind(crate)
     if checked.returncode:
         sys.exit(checked.stdout)
@@ -63,7 +68,7 @@ def main():
         subjects[subject] += spent
         kinds[kind] += spent
     print(f"{sum(kinds.values()):7.1f} s in all, {kinds['Lts']:.1f} Lts, {kinds['Proof']:.1f} Proof")
-    for subject, spent in subjects.most_common(count):
+    for subject, spent in subjects.most_common(asked.count):
         print(f"{spent:7.1f} s, {seconds[subject, 'Lts']:5.1f} Lts, {seconds[subject, 'Proof']:5.1f} Proof: {subject}")
 
 
