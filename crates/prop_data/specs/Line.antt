@@ -43,7 +43,7 @@ header_words =
     codes "set" ∷ codes "map" ∷ codes "names" ∷ codes "long" ∷ codes "short" ∷ codes "scx" ∷ codes "ext" ∷ codes "emoji" ∷ []
 
 unfoldable pub is_header_word : List ℕ → Bool
-is_header_word field = list_any (bytes_eq field) header_words
+is_header_word field = list_any (λ word. bytes_eq word field) header_words
 
 abbrev pub is_end : List ℕ → Bool
 is_end field = bytes_eq field (codes "end")

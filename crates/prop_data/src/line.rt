@@ -85,18 +85,13 @@ const EMOJI: &[u8] = b"emoji";
 
 const END: &[u8] = b"end";
 
+const HEADER_WORDS: &[&[u8]] = &[SET, MAP, NAMES, LONG, SHORT, SCX, EXT, EMOJI];
+
 #[tactic(auto, unfolding(crate::specs::Line::is_header_word))]
 fn is_header_word(field: &[u8]) -> bool
     ensures { result ≡ is_header_word field.now }
 {
-    field == SET
-        || field == MAP
-        || field == NAMES
-        || field == LONG
-        || field == SHORT
-        || field == SCX
-        || field == EXT
-        || field == EMOJI
+    HEADER_WORDS.contains(&field)
 }
 
 fn is_end(field: &[u8]) -> bool
