@@ -1,7 +1,7 @@
 //! The words after the program's name.
 ghost use Rattle.std.specs.Prelude.{◌≡◌, None, Some, map, IfNone, IfSome};
 ghost use Rattle.std.specs.String.{string_bytes};
-ghost use Rattle.uset_tool.specs.Words.{command_of};
+ghost use Rattle.uset_tool.specs.Words.{command_named, command_of};
 ghost use Rattle.uset_tool.specs.Commands.{command_seen};
 
 use crate::count::{Count, count_of};
@@ -17,14 +17,25 @@ pub(crate) enum Command {
     Gen(Count),
 }
 
+/// The command of one word.
+fn command_named(word: &str) -> Option<Command>
+    ensures known { IfSome result (λ c. command_named word.now ≡ Some (command_seen c)) }
+    ensures unknown { IfNone result (command_named word.now ≡ None) }
+{
+    match word {
+        "eval" => Some(Command::Eval),
+        "tables" => Some(Command::Tables),
+        _ => None,
+    }
+}
+
 /// The command that the words are, where they are a known list.
 pub(crate) fn find_command(words: &[String]) -> Option<Command>
     ensures known { IfSome result (λ c. command_of (map string_bytes words.now) ≡ Some (command_seen c)) }
     ensures unknown { IfNone result (command_of (map string_bytes words.now) ≡ None) }
 {
     match words {
-        [word] if word.as_str() == "eval" => Some(Command::Eval),
-        [word] if word.as_str() == "tables" => Some(Command::Tables),
+        [word] => command_named(word),
         [word, number] if word.as_str() == "gen" => Some(Command::Gen(count_of(number)?)),
         _ => None,
     }
