@@ -9,10 +9,19 @@ use std::alloc::Global;
 
 /// A set in the making. A bracket that closes gives it to the one around it, and only that of the outermost
 /// one is made a list.
-#[derive(Drop)]
 pub struct Gathered {
     code_points: Painting,
     strings: Strings,
+}
+
+// By hand, so that letting a value go is one call in each proof.
+impl Drop for Gathered {
+    fn drop(self) {
+        let Self {
+            code_points: _,
+            strings: _,
+        } = self;
+    }
 }
 
 impl Gathered {
@@ -49,14 +58,27 @@ impl Gathered {
         self.strings.insert(text)
     }
 
+    /// What was gathered of each kind.
+    fn into_parts(self) -> (Painting, Strings)
+        ensures code_points { result.0 ≡ self.code_points }
+        ensures strings { result.1 ≡ self.strings }
+    {
+        let Self {
+            code_points,
+            strings,
+        } = self;
+        (code_points, strings)
+    }
+
     /// Adds the members of the operand.
     pub fn join(&mut self, operand: Operand<'_>, alloc: Global) -> Result<(), NoMemory>
         ensures { OnOk result (HasMembers self.new (λ m. gathered_in self.old m || operand_in operand.entry m)) }
     {
         match operand {
             Operand::Gathered(other) => {
-                self.code_points.join(other.code_points)?;
-                self.strings.append(other.strings)
+                let (code_points, strings) = other.into_parts();
+                self.code_points.join(code_points)?;
+                self.strings.append(strings)
             }
             Operand::Set(set) => {
                 self.code_points.add_set(set.code_points())?;
@@ -73,8 +95,9 @@ impl Gathered {
     {
         match operand {
             Operand::Gathered(other) => {
-                self.strings.remove_all(other.strings);
-                self.code_points.remove(other.code_points)
+                let (code_points, strings) = other.into_parts();
+                self.strings.remove_all(strings);
+                self.code_points.remove(code_points)
             }
             Operand::Set(set) => {
                 self.strings.remove_listed(set);
@@ -91,8 +114,9 @@ impl Gathered {
     {
         match operand {
             Operand::Gathered(other) => {
-                self.strings.keep_only(other.strings);
-                self.code_points.retain(other.code_points)
+                let (code_points, strings) = other.into_parts();
+                self.strings.keep_only(strings);
+                self.code_points.retain(code_points)
             }
             Operand::Set(set) => {
                 self.strings.keep_listed(set);
@@ -121,8 +145,12 @@ impl Gathered {
     pub fn into_set(self, alloc: Global) -> Result<CodePointInversionListAndStringList, NoMemory>
         ensures { IfOk result (λ set. (m : Member) → in_set set m ≡ gathered_in self m) }
     {
-        let code_points = self.code_points.into_set()?;
-        let strings = self.strings.into_list(alloc)?;
+        let Self {
+            code_points,
+            strings,
+        } = self;
+        let code_points = code_points.into_set()?;
+        let strings = strings.into_list(alloc)?;
         faultless();
         let Ok(set) = CodePointInversionListAndStringList::try_from(code_points, strings) else {
             unreachable!()

@@ -17,12 +17,21 @@ pub enum Operand<'a> {
 }
 
 /// The code points of a property.
-#[derive(Drop)]
 pub enum Source<'a> {
     /// Those of a set that stands elsewhere.
     Lent(&'a CodePointInversionList),
     /// Those of a set that was made for the property.
     Owned(CodePointInversionList),
+}
+
+// By hand, so that letting a value go is one call in each proof.
+impl Drop for Source<'_> {
+    fn drop(self) {
+        match self {
+            Source::Lent(_) => {}
+            Source::Owned(_) => {}
+        }
+    }
 }
 
 impl Source<'_> {

@@ -110,7 +110,7 @@ impl<'a> Later<'a> {
         if let Some(place) = self.places.of(&named.name) {
             return Ok(place);
         }
-        let Named { name, set } = named;
+        let (name, set) = named.into_parts();
         let place = self.sets.len();
         let kept = set.own_ranges().saturating_add(SHARE);
         self.kept = self.kept.saturating_add(kept);

@@ -12,7 +12,6 @@ const MANY_RANGES: usize = 32;
 const MANY_STRINGS: usize = 4;
 
 /// A set that has a name, without the name.
-#[derive(Drop)]
 pub enum NamedSet<'a> {
     /// A set with strings.
     Set(&'a CodePointInversionListAndStringList),
@@ -22,11 +21,41 @@ pub enum NamedSet<'a> {
     Complement(Source<'a>),
 }
 
+// By hand, so that letting a value go is one call in each proof.
+impl Drop for NamedSet<'_> {
+    fn drop(self) {
+        match self {
+            NamedSet::Set(_) => {}
+            NamedSet::CodePoints(_) => {}
+            NamedSet::Complement(_) => {}
+        }
+    }
+}
+
 /// A set with its name.
-#[derive(Drop)]
 pub struct Named<'a> {
     pub name: Name,
     pub set: NamedSet<'a>,
+}
+
+// By hand, so that letting a value go is one call in each proof.
+impl Drop for Named<'_> {
+    fn drop(self) {
+        let Self { name: _, set: _ } = self;
+    }
+}
+
+impl<'a> Named<'a> {
+    ghost use Rattle.std.specs.Prelude.{◌≡◌};
+
+    /// The name and the set.
+    pub(crate) fn into_parts(self) -> (Name, NamedSet<'a>)
+        ensures name { result.0 ≡ self.entry.name }
+        ensures set { result.1 ≡ self.entry.set }
+    {
+        let Self { name, set } = self;
+        (name, set)
+    }
 }
 
 impl NamedSet<'_> {

@@ -7,4 +7,4 @@ pub returns-in-Some-clause-kept : goal.returns-in-Some-clause-kept
 returns-in-Some-clause-kept c = λ sets is. kept_before sets (name_seen c.args.named.name) c.args.self.now c.in-Some.place c.in-Some.ensures.found
 
 pub returns-clause-kept : goal.returns-clause-kept
-returns-clause-kept c = λ sets is. kept_now sets c.args.named c.args.self.now _ c.len-place.result (search rules) c.in_ok-push.ensures.items c.in_ok-add.ensures is
+returns-clause-kept c = λ sets is. kept_now sets c.args.named c.args.self.now _ c.len-place.result (search rules) (rw c.into_parts-name.ensures.set at c.in_ok-push.ensures.items) (rw c.into_parts-name.ensures.name at c.in_ok-add.ensures) is
