@@ -1,5 +1,5 @@
 //! Maps that are converted to another type of values.
-use crate::fixtures::map_of;
+use crate::fixtures::{assert_equal, map_of};
 use cp_trie::{ConvertError, TrieValue};
 use std::alloc::Global;
 use std::fmt;
@@ -27,7 +27,8 @@ fn assert_converts<T: TrieValue + fmt::Debug>(
     error_value: u32,
     expected: Converted<T>,
 ) {
-    assert_eq!(rt; converted::<T>(alloc, starts, error_value), Some(expected));
+    let found = converted::<T>(alloc, starts, error_value);
+    assert_equal(rt, found, Some(expected));
 }
 
 #[test]

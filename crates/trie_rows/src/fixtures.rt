@@ -2,7 +2,17 @@
 use cp_invlist::CodePointRange;
 use cp_trie::{CodePointMapRange, CodePointTrie, TrieError, TrieValue};
 use std::alloc::{AllocError, Global};
+use std::fmt;
 use std::process::Abort;
+
+/// Asserts that both values are the same. An assertion is proved slowly wherever it stands, so that tests share this one.
+pub(crate) fn assert_equal<T: PartialEq + fmt::Debug + Drop>(
+    rt: &impl Abort,
+    found: T,
+    expected: T,
+) {
+    assert_eq!(rt; found, expected);
+}
 
 pub(crate) fn run<T>(start: u32, end: u32, value: T) -> CodePointMapRange<T> {
     CodePointMapRange {
@@ -64,5 +74,6 @@ pub(crate) fn assert_values<T: TrieValue>(
     error_value: T,
     rows: &[(u32, T)],
 ) {
-    assert_eq!(rt; first_wrong_of(alloc, starts, error_value, rows), Ok(None));
+    let wrong = first_wrong_of(alloc, starts, error_value, rows);
+    assert_equal(rt, wrong, Ok(None));
 }

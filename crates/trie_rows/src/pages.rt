@@ -1,5 +1,5 @@
 //! Maps whose boundaries stand at the edges of pages and blocks, and maps with pages that are almost the same.
-use crate::fixtures::{assert_values, first_wrong, map_of, run};
+use crate::fixtures::{assert_equal, assert_values, first_wrong, map_of, run};
 use cp_trie::{CodePointMapRange, CodePointTrie, TrieError};
 use std::alloc::{AllocError, Global};
 use std::process::Abort;
@@ -24,7 +24,7 @@ fn first_wrong_start_of(alloc: Global, starts: &[(u32, u32)]) -> Result<Option<u
 
 /// Asserts that a map whose values begin at these places has them there.
 fn assert_starts(rt: &impl Abort, alloc: Global, starts: &[(u32, u32)]) {
-    assert_eq!(rt; first_wrong_start_of(alloc, starts), Ok(None));
+    assert_equal(rt, first_wrong_start_of(alloc, starts), Ok(None));
 }
 
 /// The first and the last places of pages and blocks, and those beside them.
@@ -169,5 +169,6 @@ fn right_in_map(alloc: Global, count: u32) -> Result<(usize, u32), TrieError> {
 
 #[test]
 fn each_code_point_has_the_value_of_its_run(rt: HostRuntime) {
-    assert_eq!(rt; right_in_map(rt.alloc(), 5_000), Ok((5_000, 0x11_0000)));
+    let right = right_in_map(rt.alloc(), 5_000);
+    assert_equal(&rt, right, Ok((5_000, 0x11_0000)));
 }

@@ -1,5 +1,5 @@
 //! Runs that make no map, and the maximal runs of maps.
-use crate::fixtures::{map_of, run};
+use crate::fixtures::{assert_equal, map_of, run};
 use cp_trie::{CodePointMapRange, CodePointTrie, TrieError};
 use std::alloc::{AllocError, Global};
 
@@ -31,7 +31,8 @@ fn fault_of(alloc: Global, ends: &[(u32, u32)]) -> Result<Option<TrieError>, All
 #[test]
 fn runs_that_do_not_cover_are_refused(rt: HostRuntime) {
     for (index, (runs, fault)) in FAULTY.iter().enumerate() {
-        assert_eq!(rt; fault_of(rt.alloc(), runs), Ok(Some(*fault)), "at {index}");
+        let found = fault_of(rt.alloc(), runs);
+        assert_equal(&rt, (index, found), (index, Ok(Some(*fault))));
     }
 }
 
@@ -53,7 +54,7 @@ fn runs_are_maximal(rt: HostRuntime) {
         Some(run(0x5B, 0x10_FFFF, 0)),
         None,
     ];
-    assert_eq!(rt; walk(rt.alloc()), Ok(expected));
+    assert_equal(&rt, walk(rt.alloc()), Ok(expected));
 }
 
 /// A walk over the mapped runs of a map.
@@ -71,5 +72,5 @@ fn mapped_runs_are_joined(rt: HostRuntime) {
         None,
         None,
     ];
-    assert_eq!(rt; mapped_walk(rt.alloc()), Ok(expected));
+    assert_equal(&rt, mapped_walk(rt.alloc()), Ok(expected));
 }

@@ -1,7 +1,7 @@
 //! Look-ups with a ledger of the caller's.
 ghost use Rattle.std.specs.Prelude.{◌≡◌, ◌+◌, ◌<◌, ◌≤◌};
 
-use crate::fixtures::map_of;
+use crate::fixtures::{assert_equal, map_of};
 use cp_invlist::Steps;
 use cp_trie::{CodePointTrie, TrieError};
 use std::alloc::Global;
@@ -49,5 +49,5 @@ fn looked_up(alloc: Global) -> Result<((u32, u32), u32, u32), TrieError> {
 
 #[test]
 fn a_look_up_takes_four_reads_at_most(rt: HostRuntime) {
-    assert_eq!(rt; looked_up(rt.alloc()), Ok(((2, 0), 2, 18)));
+    assert_equal(&rt, looked_up(rt.alloc()), Ok(((2, 0), 2, 18)));
 }

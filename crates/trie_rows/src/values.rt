@@ -1,5 +1,5 @@
 //! What maps answer at numbers, and which numbers have a value.
-use crate::fixtures::{assert_values, first_wrong, map_of};
+use crate::fixtures::{assert_equal, assert_values, first_wrong, map_of};
 use cp_trie::{CodePointTrie, TrieError};
 use std::alloc::Global;
 
@@ -29,7 +29,7 @@ fn values_of_characters(alloc: Global) -> Result<(u8, u8), TrieError> {
 
 #[test]
 fn a_character_has_the_value_of_its_number(rt: HostRuntime) {
-    assert_eq!(rt; values_of_characters(rt.alloc()), Ok((0, 1)));
+    assert_equal(&rt, values_of_characters(rt.alloc()), Ok((0, 1)));
 }
 
 /// The first number at which the copy of a map has another value.
@@ -41,7 +41,7 @@ fn first_wrong_of_copy(alloc: Global) -> Option<Option<u32>> {
 
 #[test]
 fn a_copy_answers_alike(rt: HostRuntime) {
-    assert_eq!(rt; first_wrong_of_copy(rt.alloc()), Some(None));
+    assert_equal(&rt, first_wrong_of_copy(rt.alloc()), Some(None));
 }
 
 /// The value at the last code point, at the number behind it, and past the end.
@@ -56,7 +56,7 @@ fn last_values(alloc: Global) -> Result<[char; 3], TrieError> {
 
 #[test]
 fn past_the_last_code_point_stands_the_error_value(rt: HostRuntime) {
-    assert_eq!(rt; last_values(rt.alloc()), Ok(['a', 'z', 'z']));
+    assert_equal(&rt, last_values(rt.alloc()), Ok(['a', 'z', 'z']));
 }
 
 /// Whether the numbers that have the value are those of the inversion list.
@@ -73,5 +73,5 @@ fn have_sets(alloc: Global) -> Result<bool, TrieError> {
 
 #[test]
 fn the_set_of_a_value_has_each_of_its_runs(rt: HostRuntime) {
-    assert_eq!(rt; have_sets(rt.alloc()), Ok(true));
+    assert_equal(&rt, have_sets(rt.alloc()), Ok(true));
 }
