@@ -1,7 +1,6 @@
 //! The rows of the binary properties.
-use crate::fixtures::first_false;
+use crate::fixtures::{assert_equal, assert_names, assert_pairs};
 use prop_binary::{EmojiTable, SetTable, ecma262_table, laws};
-use std::test::Fail;
 
 /// The long name of each binary property, in the order of the tables' numbers.
 const NAMES: [&str; 69] = [
@@ -76,74 +75,74 @@ const NAMES: [&str; 69] = [
     "XID_Start",
 ];
 
-#[test]
-fn tables_are_found_by_the_names_that_they_have(rt: HostRuntime) -> Result<(), Fail> {
-    laws::numbers_of_tables();
-    let mut number = 0u8;
-    for name in &NAMES {
-        let table = SetTable::from_name(name.as_bytes()).ok_or("no table")?;
-        assert_eq!(rt; table.number(), number);
-        assert!(rt; table.name() == name.as_bytes());
-        number = number.wrapping_add(1);
+/// Whether a table has this name, and this number.
+fn is_found(name: &[u8], number: usize) -> bool {
+    match SetTable::from_name(name) {
+        Some(table) => usize::from(table.number()) == number && table.name() == name,
+        None => false,
     }
-    Ok(())
+}
+
+#[test]
+fn tables_are_found_by_the_names_that_they_have(rt: HostRuntime) {
+    laws::numbers_of_tables();
+    for (number, name) in NAMES.iter().enumerate() {
+        assert!(rt; is_found(name.as_bytes(), number), "for {name}");
+    }
 }
 
 #[test]
 fn types_have_their_names(rt: HostRuntime) {
-    let alphabetic = laws::names_to_emoji_presentation()[2].1;
-    let extender = laws::names_from_extender()[0].1;
-    let white_space = laws::names_from_pattern_syntax()[15].1;
     let (long, short) = laws::names_of_basic_emoji();
-    let facts = [
-        (alphabetic == "Alpha".as_bytes(), "Alpha"),
-        (extender == "Ext".as_bytes(), "Ext"),
-        (white_space == "WSpace".as_bytes(), "WSpace"),
-        (long == "Basic_Emoji".as_bytes(), "Basic_Emoji"),
-        (short == long, "one name of the emoji set"),
-        (
-            EmojiTable::BASIC_EMOJI.name() == long,
-            "the name of its table",
-        ),
-        (
-            EmojiTable::BASIC_EMOJI.number() == 0,
-            "the number of its table",
-        ),
+    let names = &[
+        (laws::names_to_emoji_presentation()[2].1, "Alpha"),
+        (laws::names_from_extender()[0].1, "Ext"),
+        (laws::names_from_pattern_syntax()[15].1, "WSpace"),
+        (long, "Basic_Emoji"),
+        (short, "Basic_Emoji"),
+        (EmojiTable::BASIC_EMOJI.name(), "Basic_Emoji"),
     ];
-    assert_eq!(rt; first_false(&facts), None);
+    assert_names(&rt, names);
+    assert_equal(&rt, EmojiTable::BASIC_EMOJI.number(), 0);
 }
 
 #[test]
 fn tables_are_found_by_their_exact_long_names(rt: HostRuntime) {
-    let start = SetTable::from_name(b"XID_Start");
-    let facts = [
-        (start == Some(SetTable::XID_START), "XID_Start"),
-        (SetTable::from_name(b"XIDS").is_none(), "XIDS"),
-        (SetTable::from_name(b"xid_start").is_none(), "xid_start"),
-        (
-            SetTable::GRAPHEME_LINK.name() == "Grapheme_Link".as_bytes(),
-            "Grapheme_Link",
-        ),
+    let found = &[
+        (SetTable::from_name(b"XID_Start"), Some(SetTable::XID_START)),
+        (SetTable::from_name(b"XIDS"), None),
+        (SetTable::from_name(b"xid_start"), None),
     ];
-    assert_eq!(rt; first_false(&facts), None);
+    assert_pairs(&rt, found);
+    assert_names(&rt, &[(SetTable::GRAPHEME_LINK.name(), "Grapheme_Link")]);
+}
+
+/// Names that ECMA-262 does not have.
+const UNKNOWN: &[&str] = &[
+    "ahex", "space", "Any", "ASCII", "Assigned", "Hyphen", "Gr_Link", "",
+];
+
+/// The first of the names that ECMA-262 has.
+fn first_known(names: &[&'static str]) -> Option<&'static str> {
+    for name in names {
+        if ecma262_table(name.as_bytes()).is_some() {
+            return Some(*name);
+        }
+    }
+    None
 }
 
 #[test]
 fn names_of_ecma_262_are_long_or_short(rt: HostRuntime) {
-    for (name, table) in [
-        ("AHex", Some(SetTable::ASCII_HEX_DIGIT)),
-        ("ASCII_Hex_Digit", Some(SetTable::ASCII_HEX_DIGIT)),
-        ("Emoji", Some(SetTable::EMOJI)),
-        ("WSpace", Some(SetTable::WHITE_SPACE)),
-        ("ahex", None),
-        ("space", None),
-        ("Any", None),
-        ("ASCII", None),
-        ("Assigned", None),
-        ("Hyphen", None),
-        ("Gr_Link", None),
-        ("", None),
-    ] {
-        assert_eq!(rt; ecma262_table(name.as_bytes()), table, "for {name}");
-    }
+    let known = &[
+        (ecma262_table(b"AHex"), Some(SetTable::ASCII_HEX_DIGIT)),
+        (
+            ecma262_table(b"ASCII_Hex_Digit"),
+            Some(SetTable::ASCII_HEX_DIGIT),
+        ),
+        (ecma262_table(b"Emoji"), Some(SetTable::EMOJI)),
+        (ecma262_table(b"WSpace"), Some(SetTable::WHITE_SPACE)),
+    ];
+    assert_pairs(&rt, known);
+    assert_equal(&rt, first_known(UNKNOWN), None);
 }
