@@ -1,9 +1,7 @@
 //! Sets of code points that are built step by step.
-use cp_invlist::{
-    CodePointInversionList, CodePointInversionListBuilder, CodePointRange, InversionListError,
-};
+use crate::fixtures::assert_equal;
+use cp_invlist::{CodePointInversionList, CodePointInversionListBuilder, CodePointRange};
 use std::alloc::Global;
-use std::test::Fail;
 
 /// A step of a builder.
 #[derive(Clone, Copy)]
@@ -21,7 +19,8 @@ enum Step {
 }
 
 impl Step {
-    fn take(self, alloc: Global, builder: &mut CodePointInversionListBuilder) -> Result<(), Fail> {
+    /// Takes the step, if memory is left for it.
+    fn take(self, alloc: Global, builder: &mut CodePointInversionListBuilder) -> Option<()> {
         let taken = match self {
             Step::Char(ch) => builder.add_char(ch),
             Step::Number(c) => builder.add32(c),
@@ -31,12 +30,12 @@ impl Step {
             Step::Retain(list) => builder.retain_set(&set_of(alloc, list)?),
             Step::Complement => builder.complement(),
         };
-        Ok(taken?)
+        taken.ok()
     }
 }
 
-fn set_of(alloc: Global, list: &[u32]) -> Result<CodePointInversionList, InversionListError> {
-    CodePointInversionList::try_from_inversion_list(alloc, list)
+fn set_of(alloc: Global, list: &[u32]) -> Option<CodePointInversionList> {
+    CodePointInversionList::try_from_inversion_list(alloc, list).ok()
 }
 
 /// Steps, and the list behind each.
@@ -71,34 +70,32 @@ fn take_all(
     alloc: Global,
     builder: &mut CodePointInversionListBuilder,
     rows: &[(Step, &[u32])],
-) -> Result<(), Fail> {
+) -> Option<()> {
     for (step, _) in rows {
         step.take(alloc, builder)?;
     }
-    Ok(())
+    Some(())
 }
 
 /// Whether the steps of the rows build a set with this list.
-fn are_built(alloc: Global, rows: &[(Step, &[u32])], list: &[u32]) -> Result<bool, Fail> {
+fn are_built(alloc: Global, rows: &[(Step, &[u32])], list: &[u32]) -> Option<bool> {
     let mut builder = CodePointInversionListBuilder::new(alloc);
     take_all(alloc, &mut builder, rows)?;
     let set = builder.build();
-    Ok(set.get_inversion_list() == list)
+    Some(set.get_inversion_list() == list)
 }
 
 /// The index of the first row behind which the list is another.
-fn first_wrong(alloc: Global) -> Result<Option<usize>, Fail> {
+fn first_wrong(alloc: Global) -> Option<usize> {
     for (index, (_, list)) in STEPS.iter().enumerate() {
-        if !are_built(alloc, &STEPS[..=index], list)? {
-            return Ok(Some(index));
+        if are_built(alloc, &STEPS[..=index], list) != Some(true) {
+            return Some(index);
         }
     }
-    Ok(None)
+    None
 }
 
 #[test]
-fn sets_are_built_and_combined(rt: HostRuntime) -> Result<(), Fail> {
-    let wrong = first_wrong(rt.alloc())?;
-    assert_eq!(rt; wrong, None);
-    Ok(())
+fn sets_are_built_and_combined(rt: HostRuntime) {
+    assert_equal(&rt, first_wrong(rt.alloc()), None);
 }

@@ -1,6 +1,7 @@
 //! Combinations of sets whose steps are counted.
 ghost use Rattle.std.specs.Prelude.{◌≡◌, ◌+◌, ◌<◌, length, IfOk, OnOk};
 
+use crate::fixtures::assert_equal;
 use cp_invlist::laws::same_members;
 use cp_invlist::{CodePointInversionList, CodePointInversionListBuilder, Steps};
 use std::alloc::Global;
@@ -27,14 +28,16 @@ fn builder_of(alloc: Global, list: &[u32]) -> Result<CodePointInversionListBuild
     Ok(builder)
 }
 
-/// The set of the first list, combined with that of the second: a step for each element of both.
-fn combined<L: Ledger>(
+/// Whether the set of the first list, combined with that of the second, has the expected list: a step for each element of
+/// both.
+fn is_combined<L: Ledger>(
     alloc: Global,
     operation: Operation,
     first: &[u32],
     second: &[u32],
+    expected: &[u32],
     steps: &mut Steps<L>,
-) -> Result<CodePointInversionList, Fail>
+) -> Result<bool, Fail>
     ensures { OnOk result (steps.new ≡ steps.old + (length first.now + length second.now)) }
 {
     let second = CodePointInversionList::try_from_inversion_list(alloc, second)?;
@@ -44,36 +47,54 @@ fn combined<L: Ledger>(
         Operation::Remove => builder.remove_set_steps(&second, steps)?,
         Operation::Retain => builder.retain_set_steps(&second, steps)?,
     }
-    Ok(builder.build())
+    let set = builder.build();
+    Ok(set.get_inversion_list() == expected)
 }
-
 /// To 41-5A it adds 61-7A, in 4 steps.
-fn letters<L: Ledger>(alloc: Global, steps: &mut Steps<L>) -> Result<CodePointInversionList, Fail>
+fn letters<L: Ledger>(alloc: Global, steps: &mut Steps<L>) -> Result<bool, Fail>
     ensures { OnOk result (steps.new ≡ steps.old + 4) }
 {
-    combined(alloc, Operation::Add, &[0x41, 0x5B], &[0x61, 0x7B], steps)
+    let expected = &[0x41, 0x5B, 0x61, 0x7B];
+    is_combined(
+        alloc,
+        Operation::Add,
+        &[0x41, 0x5B],
+        &[0x61, 0x7B],
+        expected,
+        steps,
+    )
 }
 
 /// From those it removes 41-42, in 6 steps.
-fn later_letters<L: Ledger>(
-    alloc: Global,
-    steps: &mut Steps<L>,
-) -> Result<CodePointInversionList, Fail>
+fn later_letters<L: Ledger>(alloc: Global, steps: &mut Steps<L>) -> Result<bool, Fail>
     ensures { OnOk result (steps.new ≡ steps.old + 6) }
 {
     let letters = &[0x41, 0x5B, 0x61, 0x7B];
-    combined(alloc, Operation::Remove, letters, &[0x41, 0x43], steps)
+    let expected = &[0x43, 0x5B, 0x61, 0x7B];
+    is_combined(
+        alloc,
+        Operation::Remove,
+        letters,
+        &[0x41, 0x43],
+        expected,
+        steps,
+    )
 }
 
 /// Of those it keeps 43-61, in 6 steps.
-fn letters_up_to_a<L: Ledger>(
-    alloc: Global,
-    steps: &mut Steps<L>,
-) -> Result<CodePointInversionList, Fail>
+fn letters_up_to_a<L: Ledger>(alloc: Global, steps: &mut Steps<L>) -> Result<bool, Fail>
     ensures { OnOk result (steps.new ≡ steps.old + 6) }
 {
     let letters = &[0x43, 0x5B, 0x61, 0x7B];
-    combined(alloc, Operation::Retain, letters, &[0x43, 0x62], steps)
+    let expected = &[0x43, 0x5B, 0x61, 0x62];
+    is_combined(
+        alloc,
+        Operation::Retain,
+        letters,
+        &[0x43, 0x62],
+        expected,
+        steps,
+    )
 }
 
 /// Whether the three have their lists, counted in one ledger of the caller's.
@@ -86,20 +107,12 @@ fn are_combined<L: Ledger>(alloc: Global, blank: Blank) -> Result<bool, Fail>
     let all = letters(alloc, &mut steps)?;
     let later = later_letters(alloc, &mut steps)?;
     let up_to_a = letters_up_to_a(alloc, &mut steps)?;
-    Ok(
-        has_list(&all, &[0x41, 0x5B, 0x61, 0x7B])
-            && has_list(&later, &[0x43, 0x5B, 0x61, 0x7B])
-            && has_list(&up_to_a, &[0x43, 0x5B, 0x61, 0x62]),
-    )
-}
-
-fn has_list(set: &CodePointInversionList, list: &[u32]) -> bool {
-    set.get_inversion_list() == list
+    Ok(all && later && up_to_a)
 }
 
 #[test]
 fn counted_calls_take_each_element_once(rt: HostRuntime) -> Result<(), Fail> {
     let are_combined = are_combined::<Brand>(rt.alloc(), Blank::new(1))?;
-    assert!(rt; are_combined);
+    assert_equal(&rt, are_combined, true);
     Ok(())
 }

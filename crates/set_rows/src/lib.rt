@@ -7,6 +7,8 @@ mod built;
 #[cfg(test)]
 mod counted;
 #[cfg(test)]
+mod fixtures;
+#[cfg(test)]
 mod lists;
 #[cfg(test)]
 mod strings;

@@ -1,9 +1,9 @@
 //! Sets of code points together with strings.
+use crate::fixtures::assert_equal;
 use cp_invlist::CodePointInversionList;
 use cp_strset::laws::{faultless, one_list};
 use cp_strset::{CodePointInversionListAndStringList, StringListError};
 use std::alloc::{AllocError, Global};
-use std::test::Fail;
 
 /// The hyphen and the letters `a` to `c`, as an inversion list.
 const LETTERS: &[u32] = &[0x2D, 0x2E, 0x61, 0x64];
@@ -20,10 +20,10 @@ fn strings(alloc: Global, texts: &[&str]) -> Result<Vec<String>, AllocError> {
 fn set_of(
     alloc: Global,
     texts: &[&str],
-) -> Result<Result<CodePointInversionListAndStringList, StringListError>, Fail> {
-    let letters = CodePointInversionList::try_from_inversion_list(alloc, LETTERS)?;
-    let strings = strings(alloc, texts)?;
-    Ok(CodePointInversionListAndStringList::try_from(letters, strings))
+) -> Option<Result<CodePointInversionListAndStringList, StringListError>> {
+    let letters = CodePointInversionList::try_from_inversion_list(alloc, LETTERS).ok()?;
+    let strings = strings(alloc, texts).ok()?;
+    Some(CodePointInversionListAndStringList::try_from(letters, strings))
 }
 
 /// What is expected of a set.
@@ -80,45 +80,46 @@ fn first_wrong(set: &CodePointInversionListAndStringList) -> Option<usize> {
 }
 
 /// The letters with two strings.
-fn two_strings(alloc: Global) -> Result<CodePointInversionListAndStringList, Fail> {
-    Ok(set_of(alloc, &["", "ab"])??)
+fn two_strings(alloc: Global) -> Option<CodePointInversionListAndStringList> {
+    set_of(alloc, &["", "ab"])?.ok()
+}
+
+/// The index of the first row that does not hold of the letters with two strings.
+fn first_wrong_of_two_strings(alloc: Global) -> Option<Option<usize>> {
+    let set = two_strings(alloc)?;
+    Some(first_wrong(&set))
 }
 
 #[test]
-fn a_set_holds_code_points_and_strings(rt: HostRuntime) -> Result<(), Fail> {
-    let set = two_strings(rt.alloc())?;
-    assert_eq!(rt; first_wrong(&set), None);
-    Ok(())
+fn a_set_holds_code_points_and_strings(rt: HostRuntime) {
+    assert_equal(&rt, first_wrong_of_two_strings(rt.alloc()), Some(None));
 }
 
 /// Whether a copy of the set equals it.
-fn is_copied(alloc: Global) -> Result<bool, Fail> {
+fn is_copied(alloc: Global) -> Option<bool> {
     let set = two_strings(alloc)?;
-    let copy = set.copy(alloc)?;
-    Ok(copy == set)
+    let copy = set.copy(alloc).ok()?;
+    Some(copy == set)
 }
 
 #[test]
-fn a_copy_equals_its_set(rt: HostRuntime) -> Result<(), Fail> {
-    let is_copied = is_copied(rt.alloc())?;
-    assert!(rt; is_copied);
-    Ok(())
+fn a_copy_equals_its_set(rt: HostRuntime) {
+    assert_equal(&rt, is_copied(rt.alloc()), Some(true));
 }
 
 /// The set as a pattern.
 const PATTERN: &str = "[\\u{2d}\\u{61}-\\u{63}{}{\\u{61}\\u{62}}]";
 
 /// Whether the set is written so.
-fn is_written(alloc: Global) -> Result<bool, Fail> {
+fn is_written(alloc: Global) -> Option<bool> {
     let set = two_strings(alloc)?;
-    Ok(set.to_pattern(alloc)?.as_str() == PATTERN)
+    let pattern = set.to_pattern(alloc).ok()?;
+    Some(pattern.as_str() == PATTERN)
 }
 
 #[test]
-fn a_set_is_written_as_a_pattern(rt: HostRuntime) -> Result<(), Fail> {
-    let is_written = is_written(rt.alloc())?;
-    assert!(rt; is_written);
-    Ok(())
+fn a_set_is_written_as_a_pattern(rt: HostRuntime) {
+    assert_equal(&rt, is_written(rt.alloc()), Some(true));
 }
 
 /// Lists of strings, and why they are refused.
@@ -129,17 +130,15 @@ const FAULTY: &[(&[&str], StringListError)] = &[
 ];
 
 /// Why the letters with these strings are refused, if they are.
-fn refusal(alloc: Global, texts: &[&str]) -> Result<Option<StringListError>, Fail> {
-    Ok(set_of(alloc, texts)?.err())
+fn refusal(alloc: Global, texts: &[&str]) -> Option<StringListError> {
+    set_of(alloc, texts)?.err()
 }
 
 #[test]
-fn the_first_faulty_string_is_named(rt: HostRuntime) -> Result<(), Fail> {
+fn the_first_faulty_string_is_named(rt: HostRuntime) {
     for (texts, expected) in FAULTY {
-        let is_refused = refusal(rt.alloc(), texts)? == Some(*expected);
-        assert!(rt; is_refused, "{expected}");
+        assert_equal(&rt, refusal(rt.alloc(), texts), Some(*expected));
     }
-    Ok(())
 }
 
 #[test]
