@@ -1,11 +1,17 @@
 //! Tests of the sources and sinks, and of the numbers of the statuses.
-use std::alloc::Global;
+use std::alloc::{AllocError, Global};
+use std::fmt;
 use std::io::{self, Cursor, Error, ErrorKind, Read, Write};
-use std::test::Fail;
+use std::process::Abort;
 use uset_tool::{
     Failed, MemorySink, Sink, Source, Status, StdSink, StdSource, SureSink, SureSource, WriteError,
     run,
 };
+
+/// Asserts that both values are the same. An assertion is proved slowly wherever it stands, so that tests share this one.
+fn assert_equal<T: PartialEq + fmt::Debug + Drop>(rt: &impl Abort, found: T, expected: T) {
+    assert_eq!(rt; found, expected);
+}
 
 /// The tables of the pattern syntax, for ASCII, and a pattern.
 const INPUT: &[u8] =
@@ -15,7 +21,7 @@ const INPUT: &[u8] =
 const ANSWER: &[u8] = b"ok 6 0030 0061-007A\n";
 
 /// The word `eval`.
-fn words(alloc: Global) -> Result<Vec<String>, Fail> {
+fn words(alloc: Global) -> Result<Vec<String>, AllocError> {
     let mut words = Vec::new(alloc);
     words.push(String::from_str(alloc, "eval")?)?;
     Ok(words)
@@ -77,7 +83,7 @@ impl Write for PoorWriter<'_> {
 
 /// Runs the program on the pattern, with such a writer. The answer is the status, how many faults of the sink were counted, and
 /// what was written.
-fn run_onto(alloc: Global, takes: Takes) -> Result<(Status, u64, Vec<u8>), Fail> {
+fn run_onto(alloc: Global, takes: Takes) -> Result<(Status, u64, Vec<u8>), AllocError> {
     let words = words(alloc)?;
     let mut source = SureSource::new(INPUT.to_vec(alloc)?);
     let mut bytes = Vec::new(alloc);
@@ -91,14 +97,17 @@ fn run_onto(alloc: Global, takes: Takes) -> Result<(Status, u64, Vec<u8>), Fail>
     Ok((status, faults, bytes))
 }
 
+/// How a run ends, how many faults of its source or its sink were counted, and whether it wrote what it should.
+type End = (Status, u64, bool);
+
 /// How a run with such a writer ends, how many faults of the sink were counted, and whether this was written.
-fn end_onto(alloc: Global, takes: Takes, written: &[u8]) -> Result<(Status, u64, bool), Fail> {
+fn end_onto(alloc: Global, takes: Takes, written: &[u8]) -> Result<End, AllocError> {
     let (status, faults, bytes) = run_onto(alloc, takes)?;
     Ok((status, faults, bytes.as_slice() == written))
 }
 
 /// How a run ends whose reader fails, how many faults of the source were counted, and whether nothing was written.
-fn end_from_failing_reader(alloc: Global) -> Result<(Status, u64, bool), Fail> {
+fn end_from_failing_reader(alloc: Global) -> Result<End, AllocError> {
     let words = words(alloc)?;
     let mut source = StdSource::new(FailingReader { calls: 0 });
     let mut sink = SureSink::new(alloc);
@@ -107,30 +116,36 @@ fn end_from_failing_reader(alloc: Global) -> Result<(Status, u64, bool), Fail> {
 }
 
 #[test]
-fn a_reader_that_fails_ends_the_run_before_an_answer(rt: HostRuntime) -> Result<(), Fail> {
-    let end = end_from_failing_reader(rt.alloc())?;
-    assert_eq!(rt; end, (Status::ReadFault, 1, true));
-    Ok(())
+fn a_reader_that_fails_ends_the_run_before_an_answer(rt: HostRuntime) {
+    let end = end_from_failing_reader(rt.alloc());
+    assert_equal(&rt, end, Ok((Status::ReadFault, 1, true)));
 }
 
 #[test]
-fn a_writer_that_takes_one_byte_a_call_is_given_all(rt: HostRuntime) -> Result<(), Fail> {
-    let end = end_onto(rt.alloc(), Takes::OneByte, ANSWER)?;
-    assert_eq!(rt; end, (Status::Done, 0, true));
-    Ok(())
+fn a_writer_that_takes_one_byte_a_call_is_given_all(rt: HostRuntime) {
+    let end = end_onto(rt.alloc(), Takes::OneByte, ANSWER);
+    assert_equal(&rt, end, Ok((Status::Done, 0, true)));
 }
 
 #[test]
-fn a_writer_that_takes_nothing_or_fails_ends_the_run(rt: HostRuntime) -> Result<(), Fail> {
+fn a_writer_that_takes_nothing_or_fails_ends_the_run(rt: HostRuntime) {
     for takes in [Takes::Nothing, Takes::NothingAndFails] {
-        let end = end_onto(rt.alloc(), takes, b"")?;
-        assert_eq!(rt; end, (Status::WriteFault, 1, true));
+        let end = end_onto(rt.alloc(), takes, b"");
+        assert_equal(&rt, end, Ok((Status::WriteFault, 1, true)));
     }
-    Ok(())
 }
 
-/// How many bytes the source gives at each of three calls that ask for two, and the buffer behind the first.
-fn reads<S: Source>(source: &mut S) -> Result<([usize; 3], [u8; 2]), Failed> {
+/// What a source of a test gives, and what is written to a sink.
+const THREE: &[u8] = b"abc";
+
+/// How many bytes a source gives at each of three calls that ask for two, and the buffer behind the first.
+type Reads = ([usize; 3], [u8; 2]);
+
+/// How the three bytes are read.
+const READ: Reads = ([2, 1, 0], [b'a', b'b']);
+
+/// Reads the source so.
+fn reads<S: Source>(source: &mut S) -> Result<Reads, Failed> {
     let mut buffer = [0u8; 2];
     let first = source.read(&mut buffer)?;
     let front = buffer;
@@ -141,19 +156,16 @@ fn reads<S: Source>(source: &mut S) -> Result<([usize; 3], [u8; 2]), Failed> {
 
 #[test]
 fn a_reader_of_std_is_a_source(rt: HostRuntime) {
-    let mut source = StdSource::new(Cursor::new(b"abc".as_slice()));
-    assert_eq!(rt; reads(&mut source), Ok(([2, 1, 0], [b'a', b'b'])));
+    let mut source = StdSource::new(Cursor::new(THREE));
+    assert_equal(&rt, reads(&mut source), Ok(READ));
 }
 
 #[test]
-fn a_source_in_memory_gives_its_bytes_once(rt: HostRuntime) -> Result<(), Fail> {
-    let mut source = SureSource::new(b"abc".to_vec(rt.alloc())?);
-    assert_eq!(rt; reads(&mut source), Ok(([2, 1, 0], [b'a', b'b'])));
+fn a_source_in_memory_gives_its_bytes_once(rt: HostRuntime) -> Result<(), AllocError> {
+    let mut source = SureSource::new(THREE.to_vec(rt.alloc())?);
+    assert_equal(&rt, reads(&mut source), Ok(READ));
     Ok(())
 }
-
-/// What is written to a sink.
-const THREE: &[u8] = b"abc";
 
 /// How many bytes the sink takes of three, and whether it then has so many of them.
 fn taken(sink: &mut MemorySink, written: &[u8]) -> Result<(usize, bool), WriteError> {
@@ -164,7 +176,7 @@ fn taken(sink: &mut MemorySink, written: &[u8]) -> Result<(usize, bool), WriteEr
 #[test]
 fn a_sink_in_memory_takes_a_piece_a_call(rt: HostRuntime) {
     let mut sink = MemorySink::new(rt.alloc(), 2, Vec::new(rt.alloc()));
-    assert_eq!(rt; taken(&mut sink, b"ab"), Ok((2, true)));
+    assert_equal(&rt, taken(&mut sink, b"ab"), Ok((2, true)));
 }
 
 /// How many bytes the sink that never fails takes of three, and whether it then has them.
@@ -176,28 +188,31 @@ fn takes_all(sink: &mut SureSink) -> Result<(usize, bool), WriteError> {
 #[test]
 fn a_sink_that_never_fails_keeps_what_it_takes(rt: HostRuntime) {
     let mut sink = SureSink::new(rt.alloc());
-    assert_eq!(rt; takes_all(&mut sink), Ok((3, true)));
+    assert_equal(&rt, takes_all(&mut sink), Ok((3, true)));
 }
 
 #[test]
 fn a_writer_of_std_is_a_sink(rt: HostRuntime) {
     let mut sink = StdSink::new(Vec::new(rt.alloc()));
-    assert_eq!(rt; sink.write(b"ab"), Ok(2));
+    assert_equal(&rt, sink.write(b"ab"), Ok(2));
 }
+
+/// Statuses, and their numbers.
+const NUMBERS: &[(Status, u8)] = &[
+    (Status::Done, 0),
+    (Status::SomeErr, 1),
+    (Status::Usage, 2),
+    (Status::Tables, 3),
+    (Status::ReadFault, 4),
+    (Status::WriteFault, 5),
+    (Status::NoMemory, 6),
+    (Status::NotText, 7),
+    (Status::TooLong, 8),
+];
 
 #[test]
 fn statuses_have_their_numbers(rt: HostRuntime) {
-    for (number, status) in [
-        (0, Status::Done),
-        (1, Status::SomeErr),
-        (2, Status::Usage),
-        (3, Status::Tables),
-        (4, Status::ReadFault),
-        (5, Status::WriteFault),
-        (6, Status::NoMemory),
-        (7, Status::NotText),
-        (8, Status::TooLong),
-    ] {
-        assert_eq!(rt; status.code(), number);
+    for (status, number) in NUMBERS {
+        assert_equal(&rt, status.code(), *number);
     }
 }
