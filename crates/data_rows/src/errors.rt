@@ -1,4 +1,5 @@
 //! How errors show themselves.
+use crate::fixtures::assert_equal;
 use cp_invlist::NoMemory;
 use prop_data::{DataError, EmojiTable, LoadError, TableError, TableErrorKind, TableName};
 use std::alloc::{AllocError, Global};
@@ -55,8 +56,8 @@ fn shown_data_errors(alloc: Global) -> Result<String, AllocError> {
 
 #[test]
 fn an_error_of_data_shows_its_name(rt: HostRuntime) {
-    assert!(rt; is_text(shown_data_errors(rt.alloc()), "Absent NoMemory"));
-    assert!(rt; ABSENT != DataError::NoMemory);
+    let shows = is_text(shown_data_errors(rt.alloc()), "Absent NoMemory");
+    assert_equal(&rt, (shows, ABSENT != DataError::NoMemory), (true, true));
 }
 
 /// What errors of a table text show.
@@ -74,6 +75,7 @@ fn shown_errors(alloc: Global) -> Result<String, AllocError> {
 
 #[test]
 fn errors_show_their_names(rt: HostRuntime) {
-    assert!(rt; is_text(shown_errors(rt.alloc()), "TableError Table NoMemory"));
-    assert!(rt; LoadError::from(NoMemory) == LoadError::NoMemory);
+    let shows = is_text(shown_errors(rt.alloc()), "TableError Table NoMemory");
+    let refused = LoadError::from(NoMemory);
+    assert_equal(&rt, (shows, refused), (true, LoadError::NoMemory));
 }

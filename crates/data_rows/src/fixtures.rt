@@ -1,7 +1,18 @@
 //! A table text with tables of every kind, and what a table text is refused with.
 use prop_data::{LoadError, MapTable, PropertyDatabase, TableError, TableErrorKind};
 use std::alloc::Global;
+use std::fmt;
 use std::process::Abort;
+
+/// Asserts that both values are the same. An assertion is proved slowly wherever it stands, so that tests share those of this
+/// file.
+pub(crate) fn assert_equal<T: PartialEq + fmt::Debug + Drop>(
+    rt: &impl Abort,
+    found: T,
+    expected: T,
+) {
+    assert_eq!(rt; found, expected);
+}
 
 /// Tables of every kind.
 pub(crate) const EVERY_KIND: &str = "set XID_Start\n41-5A\n61-7A\n\

@@ -1,22 +1,34 @@
 //! Tables of names that are built name by name.
+ghost use Rattle.prop_names.specs.Folding.{stored_folding};
+ghost use Rattle.std.specs.Prelude.{◌≡◌, IfSome};
+ghost use Rattle.std.specs.String.{string_bytes};
+
+use crate::fixtures::assert_equal;
 use prop_names::{NamesBuilder, PropertyValueNameToEnumMap, ascii_text, stored_folding};
 use std::alloc::Global;
 
-/// Adds a name of ASCII whose folding has no other value, if memory is left for it.
-fn insert(alloc: Global, builder: &mut NamesBuilder, name: &[u8], value: u16) -> Option<()> {
+/// The text of a name of ASCII and its folding, if memory is left for them.
+fn text_and_folding(alloc: Global, name: &[u8]) -> Option<(String, String)>
+    ensures { IfSome result (λ texts. string_bytes texts.1 ≡ stored_folding (string_bytes texts.0)) }
+{
     if !name.is_ascii() {
         return None;
     }
+    let text = ascii_text(alloc, name).ok()?;
     let folding = stored_folding(alloc, name).ok()?;
+    Some((text, folding))
+}
+
+/// Adds a name of ASCII whose folding has no other value, if memory is left for it.
+fn insert(alloc: Global, builder: &mut NamesBuilder, name: &[u8], value: u16) -> Option<()> {
+    let (text, folding) = text_and_folding(alloc, name)?;
     if builder
         .value_of_folding(&folding)
         .is_some_and(|other| other != value)
     {
         return None;
     }
-    builder
-        .insert(ascii_text(alloc, name).ok()?, folding, value)
-        .ok()
+    builder.insert(text, folding, value).ok()
 }
 
 /// Adds three names, of which two have one value.
@@ -64,30 +76,29 @@ fn wrong_in_scripts(alloc: Global) -> Option<&'static str> {
 
 #[test]
 fn names_that_were_added_in_any_order_are_found(rt: HostRuntime) {
-    assert_eq!(rt; wrong_in_scripts(rt.alloc()), None);
+    assert_equal(&rt, wrong_in_scripts(rt.alloc()), None);
 }
 
-/// Whether the text of a name of ASCII is the name, and its folding is this.
+/// Names, and their foldings.
+const FOLDINGS: &[(&str, &str)] = &[
+    ("Old_Italic", "olditalic"),
+    ("A-b C", "a-b c"),
+    ("[9]", "[9]"),
+    ("_", ""),
+    ("", ""),
+];
+
+/// Whether the text of the name is the name, and its folding is this.
 fn folds_to(alloc: Global, name: &str, expected: &str) -> Option<bool> {
-    if !name.as_bytes().is_ascii() {
-        return None;
-    }
-    let text = ascii_text(alloc, name.as_bytes()).ok()?;
-    let folding = stored_folding(alloc, name.as_bytes()).ok()?;
+    let (text, folding) = text_and_folding(alloc, name.as_bytes())?;
     Some(text.as_str() == name && folding.as_str() == expected)
 }
 
 #[test]
 fn a_name_is_folded_without_low_lines_in_lower_case(rt: HostRuntime) {
-    for (name, expected) in [
-        ("Old_Italic", "olditalic"),
-        ("A-b C", "a-b c"),
-        ("[9]", "[9]"),
-        ("_", ""),
-        ("", ""),
-    ] {
+    for (name, expected) in FOLDINGS {
         let folds = folds_to(rt.alloc(), name, expected);
-        assert!(rt; folds == Some(true), "at {name}");
+        assert_equal(&rt, (*name, folds), (*name, Some(true)));
     }
 }
 
@@ -105,5 +116,5 @@ fn values_of_foldings(alloc: Global) -> Option<[Option<u16>; 3]> {
 #[test]
 fn a_folding_has_the_value_of_its_names(rt: HostRuntime) {
     let values = values_of_foldings(rt.alloc());
-    assert!(rt; values == Some([Some(25), None, None]));
+    assert_equal(&rt, values, Some([Some(25), None, None]));
 }

@@ -1,5 +1,7 @@
 //! Tables of long and short names: names by their values.
-use crate::fixtures::{EVERY_KIND, Faulty, Map, Row, assert_faults, assert_rows, table_of};
+use crate::fixtures::{
+    EVERY_KIND, Faulty, Map, Row, assert_equal, assert_faults, assert_rows, table_of,
+};
 use prop_data::{
     MapTable, PropertyDatabase, PropertyEnumToValueNameLinearMap, PropertyEnumToValueNameLookup,
     TableErrorKind,
@@ -236,7 +238,7 @@ fn wrong_in_list(alloc: Global) -> Result<Option<u32>, AllocError> {
 
 #[test]
 fn names_are_listed_by_their_numbers(rt: HostRuntime) {
-    assert_eq!(rt; wrong_in_list(rt.alloc()), Ok(None));
+    assert_equal(&rt, wrong_in_list(rt.alloc()), Ok(None));
 }
 
 /// Names that are none, a second name of a value, and numbers of no value.
