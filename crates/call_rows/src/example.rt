@@ -1,4 +1,5 @@
 //! The example of README.md.
+use crate::fixtures::assert_equal;
 use cp_strset::CodePointInversionListAndStringList;
 use prop_data::PropertyDatabase;
 use std::alloc::Global;
@@ -75,10 +76,8 @@ fn example(alloc: Global) -> Result<String, Fail> {
 #[test]
 fn the_example_of_the_guide_has_its_answer(rt: HostRuntime) -> Result<(), Fail> {
     let text = example(rt.alloc())?;
-    assert_eq!(rt;
-        text.as_str(),
-        "24 bytes, b: true, a: false, ch: true\n\
-        0062-0064\n0066-0068\n006A-006E\n0070-0074\n0076-007A\nch\n"
-    );
+    let expected = "24 bytes, b: true, a: false, ch: true\n\
+        0062-0064\n0066-0068\n006A-006E\n0070-0074\n0076-007A\nch\n";
+    assert_equal(&rt, text.as_str(), expected);
     Ok(())
 }

@@ -3,8 +3,19 @@ use cp_invlist::CodePointInversionList;
 use cp_strset::CodePointInversionListAndStringList;
 use prop_data::{LoadError, PropertyDatabase};
 use std::alloc::{AllocError, Global};
+use std::fmt;
 use std::process::Abort;
 use uset_fault::ParseError;
+
+/// Asserts that both values are the same. An assertion is proved slowly wherever it stands, so that tests share those of this
+/// file.
+pub(crate) fn assert_equal<T: PartialEq + fmt::Debug + Drop>(
+    rt: &impl Abort,
+    found: T,
+    expected: T,
+) {
+    assert_eq!(rt; found, expected);
+}
 
 /// The three syntax tables for ASCII.
 pub(crate) const SYNTAX: &str =
@@ -31,7 +42,7 @@ pub(crate) fn first_wrong<T, R: Row<T>>(alloc: Global, lent: &T, rows: &[R]) -> 
 
 /// Asserts that each row holds, with nothing lent to it. A failure tells the index of the first that does not.
 pub(crate) fn assert_rows<R: Row<()>>(rt: &impl Abort, alloc: Global, rows: &[R]) {
-    assert_eq!(rt; first_wrong(alloc, &(), rows), None);
+    assert_equal(rt, first_wrong(alloc, &(), rows), None);
 }
 
 /// The index of the first row that does not hold of the text's database. This function alone owns a database, since it
@@ -79,7 +90,8 @@ pub(crate) fn assert_rows_of_set<R: Row<CodePointInversionListAndStringList>>(
     texts: &[&str],
     rows: &[R],
 ) {
-    assert_eq!(rt; first_wrong_of_set(alloc, list, texts, rows), Some(None));
+    let wrong = first_wrong_of_set(alloc, list, texts, rows);
+    assert_equal(rt, wrong, Some(None));
 }
 
 /// Strings of these texts.

@@ -3,7 +3,7 @@ ghost use Rattle.std.specs.Prelude.{◌≤◌, length};
 ghost use Rattle.uset_read.specs.Stops.{left_at};
 ghost use Rattle.uset_read.specs.Cursors.{left_of};
 
-use crate::fixtures::{Row, assert_rows, first_wrong};
+use crate::fixtures::{Row, assert_equal, assert_rows, first_wrong};
 use cp_invlist::{CodePointInversionList, InversionListError};
 use std::alloc::Global;
 use std::process::Abort;
@@ -35,7 +35,7 @@ fn assert_rows_of_list<R: Row<CodePointInversionList>>(
     list: &[u32],
     rows: &[R],
 ) {
-    assert_eq!(rt; first_wrong_of_list(alloc, list, rows), Ok(None));
+    assert_equal(rt, first_wrong_of_list(alloc, list, rows), Ok(None));
 }
 
 /// Whether the escape spells so many numbers, the first of which this is, or this character where the count is 0.
@@ -124,19 +124,15 @@ fn is_not_read(
     cursor: Cursor<'_>,
     why: Why,
 ) -> bool {
-    match unit {
-        Unit::Escape(around) => match read_escape(alloc, white_space, around, cursor.rest()) {
-            Ok(_) => false,
-            Err(stop) => is_stopped(cursor, stop, why),
-        },
-        Unit::String => match read_string(alloc, white_space, cursor.rest()) {
-            Ok(_) => false,
-            Err(stop) => is_stopped(cursor, stop, why),
-        },
-        Unit::Property => match read_property(alloc, white_space, cursor.rest()) {
-            Ok(_) => false,
-            Err(stop) => is_stopped(cursor, stop, why),
-        },
+    let text = cursor.rest();
+    let stop = match unit {
+        Unit::Escape(around) => read_escape(alloc, white_space, around, text).err(),
+        Unit::String => read_string(alloc, white_space, text).err(),
+        Unit::Property => read_property(alloc, white_space, text).err(),
+    };
+    match stop {
+        Some(stop) => is_stopped(cursor, stop, why),
+        None => false,
     }
 }
 
@@ -185,10 +181,8 @@ fn a_fault_of_an_escape_has_one_place(rt: HostRuntime) {
 #[test]
 fn a_cursor_counts_bytes(rt: HostRuntime) {
     let cursor = Cursor::new("ä]");
-    assert_eq!(rt;
-        (cursor.offset(), cursor.rest(), cursor.at("]").offset()),
-        (0, "ä]", 2)
-    );
+    let found = (cursor.offset(), cursor.rest(), cursor.at("]").offset());
+    assert_equal(&rt, found, (0, "ä]", 2));
 }
 
 /// A text, the characters of the string in front, and the text behind the string.

@@ -1,5 +1,5 @@
 //! Maps of variables.
-use crate::fixtures::set_of;
+use crate::fixtures::{assert_equal, set_of};
 use cp_strset::CodePointInversionListAndStringList;
 use std::alloc::Global;
 use std::process::Abort;
@@ -183,7 +183,7 @@ fn wrong_of(alloc: Global, course: Course) -> Option<Wrong> {
 
 /// Asserts that each step of the course has its answer. A failure tells the index of the first of each part that has not.
 fn assert_course(rt: &impl Abort, alloc: Global, course: Course) {
-    assert_eq!(rt; wrong_of(alloc, course), Some((None, None, None)));
+    assert_equal(rt, wrong_of(alloc, course), Some((None, None, None)));
 }
 
 const BOUND: &[Step] = &[
@@ -303,13 +303,12 @@ fn copied_of(alloc: Global, expected: Kept) -> Option<(bool, bool)> {
 
 #[test]
 fn a_copy_of_a_value_is_the_same(rt: HostRuntime) {
-    assert_eq!(rt; copied_of(rt.alloc(), Kept::Letters), Some((true, true)));
+    let copied = copied_of(rt.alloc(), Kept::Letters);
+    assert_equal(&rt, copied, Some((true, true)));
 }
 
 #[test]
 fn a_copy_of_a_string_is_the_same(rt: HostRuntime) {
-    assert_eq!(rt;
-        copied_of(rt.alloc(), Kept::String("z")),
-        Some((true, false))
-    );
+    let copied = copied_of(rt.alloc(), Kept::String("z"));
+    assert_equal(&rt, copied, Some((true, false)));
 }
