@@ -31,7 +31,7 @@ pub(crate) fn assert_facts(rt: &impl Abort, facts: &[(bool, &str)]) {
 /// Asserts that each value is the one beside it. A failure tells both, and their index.
 pub(crate) fn assert_pairs<T: PartialEq + fmt::Debug>(rt: &impl Abort, pairs: &[(T, T)]) {
     for (index, (found, expected)) in pairs.iter().enumerate() {
-        assert_eq!(rt; found, expected, "at {index}");
+        assert_equal(rt, (index, found), (index, expected));
     }
 }
 
@@ -49,11 +49,8 @@ pub(crate) fn assert_unpacks<T: TrieValue + fmt::Debug>(
 ) {
     for (value, expected) in rows {
         let refused = ValueError { value: *value };
-        assert_eq!(rt;
-            T::try_from_u32(*value),
-            expected.ok_or(refused),
-            "for {value}"
-        );
+        let found = T::try_from_u32(*value);
+        assert_equal(rt, (*value, found), (*value, expected.ok_or(refused)));
     }
 }
 

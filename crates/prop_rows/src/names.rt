@@ -1,5 +1,5 @@
 //! The tables of names that the property types have.
-use crate::fixtures::{assert_names, first_false};
+use crate::fixtures::{assert_equal, assert_names, first_false};
 use cp_trie::TrieValue;
 use prop_values::{
     Block, CanonicalCombiningClass, GeneralCategory, GeneralCategoryGroup,
@@ -40,7 +40,7 @@ fn first_wrong((number, category, class): Row) -> Option<&'static str> {
 fn a_table_of_names_accepts_the_numbers_that_unpack(rt: HostRuntime) {
     laws::numbers_of_names_tables();
     for row in ROWS {
-        assert_eq!(rt; first_wrong(*row), None, "at {}", row.0);
+        assert_equal(&rt, (row.0, first_wrong(*row)), (row.0, None));
     }
 }
 

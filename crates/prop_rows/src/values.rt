@@ -338,31 +338,19 @@ fn values_are_ordered_by_their_numbers(rt: HostRuntime) {
     let facts = &[
         (Script::Common < Script::Latin, "Common before Latin"),
         (
-            Script::Ethiopic == Script::Ethiopian,
-            "two names of Ethiopic",
-        ),
-        (
             GeneralCategory::Unassigned < GeneralCategory::FinalPunctuation,
             "the first category before the last",
         ),
-        (
-            HangulSyllableType::LVSyllable == HangulSyllableType::LeadingVowelSyllable,
-            "two names of a syllable type",
-        ),
-        (
-            BidiClass::PopDirectionalIsolate.to_icu4c_value() == 22,
-            "the number of a class",
-        ),
-        (
-            BidiClass::from_icu4c_value(13) == BidiClass::ArabicLetter,
-            "the class of 13",
-        ),
-        (
-            Script::from_icu4c_value(60_000) == Script::Chisoi,
-            "a number past the scripts",
-        ),
     ];
     assert_facts(&rt, facts);
+    assert_equal(&rt, Script::Ethiopic, Script::Ethiopian);
+    let syllable = HangulSyllableType::LVSyllable;
+    assert_equal(&rt, syllable, HangulSyllableType::LeadingVowelSyllable);
+    assert_equal(&rt, BidiClass::PopDirectionalIsolate.to_icu4c_value(), 22);
+    let letter = BidiClass::from_icu4c_value(13);
+    assert_equal(&rt, letter, BidiClass::ArabicLetter);
+    // a number past the others
+    assert_equal(&rt, Script::from_icu4c_value(60_000), Script::Chisoi);
 }
 
 #[test]
