@@ -1,5 +1,5 @@
 //! How many tables of each kind a text has.
-use crate::fixtures::{TABLES, is_answered, words_of};
+use crate::fixtures::{TABLES, assert_holds, is_answered, words_of};
 use std::alloc::{AllocError, Global};
 use std::process::Abort;
 
@@ -13,8 +13,8 @@ fn is_counted(alloc: Global, tables: &str, expected: &str, code: u8) -> Result<b
 /// Each table text has the answer beside it, and the run over it ends with the status of this number.
 fn assert_counted(rt: &impl Abort, alloc: Global, rows: &[(&str, &str)], code: u8) {
     for (tables, expected) in rows {
-        let holds = is_counted(alloc, tables, expected, code) == Ok(true);
-        assert!(rt; holds, "for {expected}");
+        let holds = is_counted(alloc, tables, expected, code);
+        assert_holds(rt, holds, tables, expected);
     }
 }
 

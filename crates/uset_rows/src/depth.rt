@@ -1,5 +1,5 @@
 //! Patterns of a million sets inside one another.
-use crate::fixtures::{TABLES, is_evaluated};
+use crate::fixtures::{TABLES, assert_holds, is_evaluated};
 use std::alloc::{AllocError, Global};
 use std::process::Abort;
 
@@ -32,8 +32,8 @@ fn are_nested(
 
 /// The sets, closed, have the answer; without what closes them they are cut short.
 fn assert_nested(rt: &impl Abort, alloc: Global, opening: &str, innermost: &str, expected: &str) {
-    let holds = are_nested(alloc, opening, innermost, expected) == Ok(true);
-    assert!(rt; holds, "{opening}");
+    let holds = are_nested(alloc, opening, innermost, expected);
+    assert_holds(rt, holds, opening, expected);
 }
 
 #[test]

@@ -1,4 +1,5 @@
 //! The texts that errors show.
+use crate::fixtures::assert_equal;
 use cp_invlist::{InversionListError, NoMemory};
 use cp_strset::StringListError;
 use std::alloc::{AllocError, Global};
@@ -49,15 +50,11 @@ fn text_of(alloc: Global, shown: Shown) -> Result<String, AllocError> {
     }
 }
 
-/// Whether the error shows this name.
-fn shows(alloc: Global, shown: Shown, name: &str) -> Result<bool, AllocError> {
-    Ok(text_of(alloc, shown)?.as_str() == name)
-}
-
 #[test]
-fn errors_show_their_names(rt: HostRuntime) {
+fn errors_show_their_names(rt: HostRuntime) -> Result<(), AllocError> {
     for (shown, name) in SHOWN {
-        let holds = shows(rt.alloc(), *shown, name) == Ok(true);
-        assert!(rt; holds, "{name}");
+        let text = text_of(rt.alloc(), *shown)?;
+        assert_equal(&rt, text.as_str(), name);
     }
+    Ok(())
 }

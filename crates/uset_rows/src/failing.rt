@@ -1,5 +1,5 @@
 //! Devices in memory that fail at one call after another.
-use crate::fixtures::{TABLES, eval};
+use crate::fixtures::{TABLES, assert_equal, eval};
 use std::alloc::{AllocError, Global};
 use uset_tool::{MemorySink, MemorySource, Status, run};
 
@@ -106,5 +106,6 @@ fn ends_of_failing_calls(alloc: Global) -> Result<Ends, AllocError> {
 
 #[test]
 fn a_call_that_fails_ends_the_run(rt: HostRuntime) {
-    assert_eq!(rt; ends_of_failing_calls(rt.alloc()), Ok((None, None, true)));
+    let ends = ends_of_failing_calls(rt.alloc());
+    assert_equal(&rt, ends, Ok((None, None, true)));
 }

@@ -1,6 +1,7 @@
 //! Patterns that are refused, with the place of each fault.
 use crate::fixtures::{
-    TABLES, assert_fault, assert_faults, assert_read, assert_unexpected, is_evaluated, is_refused,
+    assert_equal, assert_fault, assert_faults, assert_read, assert_unexpected, have_answer,
+    is_refused,
 };
 use std::alloc::{AllocError, Global};
 use std::process::Abort;
@@ -208,21 +209,21 @@ fn front_with_another_fault(alloc: Global) -> Result<Option<String>, AllocError>
 
 #[test]
 fn each_front_of_a_pattern_ends_where_more_is_due(rt: HostRuntime) {
-    assert_eq!(rt; front_with_another_fault(rt.alloc()), Ok(None));
+    assert_equal(&rt, front_with_another_fault(rt.alloc()), Ok(None));
     assert_read(&rt, rt.alloc(), &[(WHOLE, "22 0000-10FFFF")]);
 }
 
 /// Whether a name of a million letters is read to its end, unbound and bound.
 fn is_read_to_its_end(alloc: Global) -> Result<bool, AllocError> {
     let name = "a".repeat(alloc, 1_000_000)?;
-    let input = format!(in alloc; "{TABLES}pat [${name}]\nlet {name} char 62\npat [${name}]\n")?;
+    let lines = format!(in alloc; "pat [${name}]\nlet {name} char 62\npat [${name}]")?;
     let expected = format!(in alloc;
         "err [${name}← error: unknown variable\nbound {name}\nok 1000003 0062\n"
     )?;
-    is_evaluated(alloc, input.into_bytes(), &expected, 1)
+    have_answer(alloc, &lines, &expected, 1)
 }
 
 #[test]
 fn a_name_of_a_million_letters_is_read_to_its_end(rt: HostRuntime) {
-    assert_eq!(rt; is_read_to_its_end(rt.alloc()), Ok(true));
+    assert_equal(&rt, is_read_to_its_end(rt.alloc()), Ok(true));
 }

@@ -1,7 +1,28 @@
 //! The tables and the calls that the rows share.
 use crate::run_in_memory;
 use std::alloc::{AllocError, Global};
+use std::fmt;
 use std::process::Abort;
+
+/// Asserts that both values are the same. An assertion is proved slowly wherever it stands, so that tests share this one and
+/// the next.
+pub(crate) fn assert_equal<T: PartialEq + fmt::Debug + Drop>(
+    rt: &impl Abort,
+    found: T,
+    expected: T,
+) {
+    assert_eq!(rt; found, expected);
+}
+
+/// Asserts that the text has the answer that is expected. A failure tells both.
+pub(crate) fn assert_holds(
+    rt: &impl Abort,
+    holds: Result<bool, AllocError>,
+    text: &str,
+    expected: &str,
+) {
+    assert!(rt; holds == Ok(true), "at {text}, expected {expected}");
+}
 
 /// Tables of every kind: those of the pattern syntax, a binary property, General_Category with names of groups, Script with its
 /// names, scripts with extensions, combining classes, and an emoji set. Block has none.
@@ -68,8 +89,8 @@ pub(crate) fn have_answer(
 
 /// The lines, behind the tables, have the answers, and the run ends with the status of this number.
 pub(crate) fn assert_answer(rt: &impl Abort, alloc: Global, lines: &str, expected: &str, code: u8) {
-    let holds = have_answer(alloc, lines, expected, code) == Ok(true);
-    assert!(rt; holds, "at {lines}, expected {expected}");
+    let holds = have_answer(alloc, lines, expected, code);
+    assert_holds(rt, holds, lines, expected);
 }
 
 /// Each of the lines has the answer beside it, and each run ends with the status of this number.
@@ -89,8 +110,8 @@ fn is_read(alloc: Global, pattern: &str, expected: &str) -> Result<bool, AllocEr
 /// Each pattern, behind the bindings, is read with the length and the members beside it.
 pub(crate) fn assert_read(rt: &impl Abort, alloc: Global, rows: &[(&str, &str)]) {
     for (pattern, expected) in rows {
-        let holds = is_read(alloc, pattern, expected) == Ok(true);
-        assert!(rt; holds, "at {pattern}, expected {expected}");
+        let holds = is_read(alloc, pattern, expected);
+        assert_holds(rt, holds, pattern, expected);
     }
 }
 
@@ -114,8 +135,8 @@ pub(crate) fn assert_fault(
     front: &str,
     words: &str,
 ) {
-    let holds = is_refused(alloc, pattern, front, words) == Ok(true);
-    assert!(rt; holds, "at {pattern}, expected {words} behind {front}");
+    let holds = is_refused(alloc, pattern, front, words);
+    assert_holds(rt, holds, pattern, words);
 }
 
 /// Each pattern, behind the bindings, is refused with these words behind the front beside it.
@@ -137,7 +158,7 @@ fn is_unexpected(alloc: Global, pattern: &str, front: &str) -> Result<bool, Allo
 /// Each pattern, behind the bindings, is refused at the last character of the front beside it, which is unexpected.
 pub(crate) fn assert_unexpected(rt: &impl Abort, alloc: Global, rows: &[(&str, &str)]) {
     for (pattern, front) in rows {
-        let holds = is_unexpected(alloc, pattern, front) == Ok(true);
-        assert!(rt; holds, "at {pattern}, expected {front}");
+        let holds = is_unexpected(alloc, pattern, front);
+        assert_holds(rt, holds, pattern, front);
     }
 }

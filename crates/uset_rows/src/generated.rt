@@ -1,5 +1,5 @@
 //! Patterns that a number tells, and the sizes of their sets.
-use crate::fixtures::{SYNTAX, is_answered, words_of};
+use crate::fixtures::{SYNTAX, assert_equal, assert_holds, is_answered, words_of};
 use crate::run_in_memory;
 use std::alloc::{AllocError, Global};
 use std::process::Abort;
@@ -80,8 +80,8 @@ const REFUSED: &[(&str, &str, u8)] = &[
 #[test]
 fn a_table_is_absent_or_has_a_fault(rt: HostRuntime) {
     for (input, expected, code) in REFUSED {
-        let holds = ends(rt.alloc(), &["gen", "1"], input, expected, *code) == Ok(true);
-        assert!(rt; holds, "for {expected}");
+        let holds = ends(rt.alloc(), &["gen", "1"], input, expected, *code);
+        assert_holds(&rt, holds, input, expected);
     }
 }
 
@@ -103,5 +103,5 @@ fn longest_ends_alike(alloc: Global) -> Result<bool, AllocError> {
 
 #[test]
 fn the_longest_pattern_is_measured_alike_twice(rt: HostRuntime) {
-    assert_eq!(rt; longest_ends_alike(rt.alloc()), Ok(true));
+    assert_equal(&rt, longest_ends_alike(rt.alloc()), Ok(true));
 }

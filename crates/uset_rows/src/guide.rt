@@ -1,5 +1,5 @@
 //! The examples of docs/PATTERNS.md, as one script.
-use crate::fixtures::is_evaluated;
+use crate::fixtures::{assert_equal, is_evaluated};
 use std::alloc::{AllocError, Global};
 
 /// The tables of the document, as a text: those of examples/tables.txt.
@@ -138,5 +138,5 @@ fn have_their_answers(alloc: Global) -> Result<bool, AllocError> {
 
 #[test]
 fn examples_of_the_guide_have_their_answers(rt: HostRuntime) {
-    assert_eq!(rt; have_their_answers(rt.alloc()), Ok(true));
+    assert_equal(&rt, have_their_answers(rt.alloc()), Ok(true));
 }

@@ -1,5 +1,5 @@
 //! Patterns that are read, with their ranges and strings.
-use crate::fixtures::{TABLES, assert_answers, assert_read, is_evaluated};
+use crate::fixtures::{assert_answers, assert_equal, assert_read, have_answer};
 use std::alloc::{AllocError, Global};
 
 /// Characters, ranges, escapes, hyphens and dollar signs.
@@ -100,11 +100,10 @@ fn lines_without_an_answer_and_other_ends_of_lines_are_read(rt: HostRuntime) {
 fn are_answered_in_order(alloc: Global) -> Result<bool, AllocError> {
     let lines = "pat [a-z0]\npat [b]\n".repeat(alloc, 5_000)?;
     let answers = "ok 6 0030 0061-007A\nok 3 0062\n".repeat(alloc, 5_000)?;
-    let input = format!(in alloc; "{TABLES}{lines}")?;
-    is_evaluated(alloc, input.into_bytes(), &answers, 0)
+    have_answer(alloc, &lines, &answers, 0)
 }
 
 #[test]
 fn answers_of_more_than_a_piece_are_written_in_order(rt: HostRuntime) {
-    assert_eq!(rt; are_answered_in_order(rt.alloc()), Ok(true));
+    assert_equal(&rt, are_answered_in_order(rt.alloc()), Ok(true));
 }

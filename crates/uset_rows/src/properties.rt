@@ -1,6 +1,7 @@
 //! Properties.
-use crate::fixtures::{SYNTAX, assert_faults, assert_read, assert_unexpected, eval};
-use crate::run_in_memory;
+use crate::fixtures::{
+    SYNTAX, assert_faults, assert_holds, assert_read, assert_unexpected, is_evaluated,
+};
 use std::alloc::{AllocError, Global};
 
 /// Binary properties, in words and under a caret, a `P` and an unequal sign.
@@ -230,77 +231,87 @@ fn properties_are_answered_with_their_ranges_or_faults(rt: HostRuntime) {
     assert_faults(&rt, alloc, UNFIT, "unexpected character '\\\\'");
 }
 
-/// Tables in which some of what a property may ask is there, with a pattern and its answer.
-const PARTIAL: &[(&str, &str, &str)] = &[
+/// Tables in which some of what a property may ask is there, with a pattern, its answer and the number of the
+/// status.
+const PARTIAL: &[(&str, &str, &str, u8)] = &[
     // A group without categories hides the script of its name.
     (
         "map General_Category 0\nnames General_Category_Mask\n100 Latn\nmap Script 103\n61 25\nnames Script\n25 Latn\n",
         "[:Latn:]",
         "ok 8",
+        0,
     ),
     // Where the categories are absent the script is found, and where the scripts are, the binary property.
     (
         "names General_Category_Mask\n2 Latn\nmap Script 103\n61 25\nnames Script\n25 Latn\n",
         "[:Latn:]",
         "ok 8 0061",
+        0,
     ),
     (
         "names General_Category_Mask\n2 Dash\nnames Script\n25 Dash\nset Dash\n2D\n",
         "[:Dash:]",
         "ok 8 002D",
+        0,
     ),
     (
         "names Script\n25 Latn\n",
         "[:scx=Latn:]",
         "err [:scx=Latn← error: unknown property",
+        1,
     ),
     // A stored name of low lines alone is found by a query that folds to nothing.
     (
         "map Script 103\n61 25\nnames Script\n25 _\n",
         "[:sc=-:]",
         "ok 8 0061",
+        0,
     ),
     // Blocks by their names and their numbers.
     (
         "map Block 0\n0-7F 1\n80-FF 300\nnames Block\n1 Basic_Latin\n",
         "[:blk=basic latin:]",
         "ok 19 0000-007F",
+        0,
     ),
     (
         "map Block 0\n0-7F 1\n80-FF 300\nnames Block\n1 Basic_Latin\n",
         "[:Block=+300:]",
         "ok 14 0080-00FF",
+        0,
     ),
     (
         "names Block\n1 ASCII\n",
         "[:blk=65535:]",
         "err [:blk=65535← error: internal error",
+        1,
     ),
     (
         "names Block\n1 ASCII\n",
         "[:blk=65536:]",
         "err [:blk=65536← error: unknown property",
+        1,
     ),
 ];
 
-/// Whether the pattern has the answer under the tables of the syntax and these.
+/// Whether the pattern has the answer under the tables of the syntax and these, and the run ends with the status of this
+/// number.
 fn is_resolved(
     alloc: Global,
     tables: &str,
     pattern: &str,
     answer: &str,
+    code: u8,
 ) -> Result<bool, AllocError> {
-    let words = eval(alloc)?;
     let input = format!(in alloc; "{SYNTAX}{tables}end\npat {pattern}\n")?;
     let expected = format!(in alloc; "{answer}\n")?;
-    let (_, sink) = run_in_memory(alloc, &words, input.into_bytes());
-    Ok(sink.written() == expected.as_bytes())
+    is_evaluated(alloc, input.into_bytes(), &expected, code)
 }
 
 #[test]
 fn properties_are_resolved_by_the_tables_that_are_there(rt: HostRuntime) {
-    for (tables, pattern, answer) in PARTIAL {
-        let holds = is_resolved(rt.alloc(), tables, pattern, answer) == Ok(true);
-        assert!(rt; holds, "at {pattern}, expected {answer}");
+    for (tables, pattern, answer, code) in PARTIAL {
+        let holds = is_resolved(rt.alloc(), tables, pattern, answer, *code);
+        assert_holds(&rt, holds, pattern, answer);
     }
 }

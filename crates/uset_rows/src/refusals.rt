@@ -1,5 +1,5 @@
 //! Inputs that are refused.
-use crate::fixtures::{is_answered, is_evaluated};
+use crate::fixtures::{assert_equal, assert_holds, is_answered, is_evaluated};
 use std::alloc::{AllocError, Global};
 
 /// Inputs, with the answer and the number of the status.
@@ -22,8 +22,8 @@ fn is_refused(alloc: Global, input: &[u8], expected: &str, code: u8) -> Result<b
 #[test]
 fn inputs_are_refused_with_their_cause(rt: HostRuntime) {
     for (input, expected, code) in REFUSED {
-        let holds = is_refused(rt.alloc(), input, expected, *code) == Ok(true);
-        assert!(rt; holds, "for {expected}");
+        let holds = is_refused(rt.alloc(), input, expected, *code);
+        assert_holds(&rt, holds, "an input", expected);
     }
 }
 
@@ -37,12 +37,18 @@ fn comment_ends(
     is_evaluated(alloc, vec![in alloc; b'#'; length]?, expected, code)
 }
 
+/// Lengths of comments, up to the limit and past it, each with its answer and the number of its status.
+const LENGTHS: &[(usize, &str, u8)] = &[
+    (8_388_608, "tables line 2: NoEnd\n", 3),
+    (8_388_609, "input is too long\n", 8),
+];
+
 #[test]
 fn an_input_past_the_limit_is_too_long(rt: HostRuntime) {
-    let at_the_limit = comment_ends(rt.alloc(), 8_388_608, "tables line 2: NoEnd\n", 3);
-    assert_eq!(rt; at_the_limit, Ok(true));
-    let past_it = comment_ends(rt.alloc(), 8_388_609, "input is too long\n", 8);
-    assert_eq!(rt; past_it, Ok(true));
+    for (length, expected, code) in LENGTHS {
+        let holds = comment_ends(rt.alloc(), *length, expected, *code);
+        assert_holds(&rt, holds, "a comment", expected);
+    }
 }
 
 /// Whether no words are answered with the usage.
@@ -54,5 +60,5 @@ fn no_words_end(alloc: Global) -> Result<bool, AllocError> {
 
 #[test]
 fn no_words_are_answered_with_the_usage(rt: HostRuntime) {
-    assert_eq!(rt; no_words_end(rt.alloc()), Ok(true));
+    assert_equal(&rt, no_words_end(rt.alloc()), Ok(true));
 }

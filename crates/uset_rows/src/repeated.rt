@@ -1,5 +1,5 @@
 //! Sets that are named again and again in one bracket.
-use crate::fixtures::have_answer;
+use crate::fixtures::{assert_holds, have_answer};
 use std::alloc::{AllocError, Global};
 use std::process::Abort;
 
@@ -51,8 +51,8 @@ fn denotes(alloc: Global, pattern: &str, members: &str) -> Result<bool, AllocErr
 
 /// The pattern is read whole, with these members.
 fn assert_denotes(rt: &impl Abort, alloc: Global, pattern: &str, members: &str) {
-    let holds = denotes(alloc, pattern, members) == Ok(true);
-    assert!(rt; holds, "at {pattern}, expected {members}");
+    let holds = denotes(alloc, pattern, members);
+    assert_holds(rt, holds, pattern, members);
 }
 
 #[test]
@@ -83,7 +83,7 @@ fn is_unclosed(alloc: Global, pattern: &str, words: &str) -> Result<bool, AllocE
 #[test]
 fn a_property_that_is_named_again_is_closed_as_the_first_time(rt: HostRuntime) {
     for (pattern, words) in UNCLOSED {
-        let holds = is_unclosed(rt.alloc(), pattern, words) == Ok(true);
-        assert!(rt; holds, "at {pattern}, expected {words}");
+        let holds = is_unclosed(rt.alloc(), pattern, words);
+        assert_holds(&rt, holds, pattern, words);
     }
 }

@@ -1,5 +1,5 @@
 //! Lines that bind variables.
-use crate::fixtures::{assert_answers, have_answer};
+use crate::fixtures::{assert_answers, assert_equal, assert_holds, have_answer};
 use std::alloc::{AllocError, Global};
 
 /// Scripts whose every line is answered.
@@ -129,11 +129,13 @@ const BAD: &[&str] = &[
     "letters",
 ];
 
+/// The answers to such a line, which binds nothing, and to a pattern that names a variable.
+const BAD_LINE: &str = "err bad line\nerr [$a← error: unknown variable\n";
+
 /// Whether the line is refused, and binds nothing.
 fn is_bad(alloc: Global, line: &str) -> Result<bool, AllocError> {
     let lines = format!(in alloc; "{line}\npat [$a]")?;
-    let answers = "err bad line\nerr [$a← error: unknown variable\n";
-    have_answer(alloc, &lines, answers, 1)
+    have_answer(alloc, &lines, BAD_LINE, 1)
 }
 
 #[test]
@@ -141,10 +143,15 @@ fn names_are_bound_once_by_lines_of_their_form(rt: HostRuntime) {
     assert_answers(&rt, rt.alloc(), BOUND, 0);
     assert_answers(&rt, rt.alloc(), REFUSED, 1);
     for line in BAD {
-        let holds = is_bad(rt.alloc(), line) == Ok(true);
-        assert!(rt; holds, "at {line}");
+        let holds = is_bad(rt.alloc(), line);
+        assert_holds(&rt, holds, line, BAD_LINE);
     }
 }
+
+/// The answers to lines that bind the set of every second letter, that join it a thousand times, alone and to all other
+/// code points, and that take it away from the letters as often.
+const OF_EVERY_SECOND: &str =
+    "bound s\nok 2002 0061 0063 0065 0067 0069 006B 006D 006F 0071 0073 0075 0077 0079\nok 2007 0000-10FFFF\nok 3007 0062 0064 0066 0068 006A 006C 006E 0070 0072 0074 0076 0078 007A\n";
 
 /// Whether a set that is joined or taken away a thousand times counts once.
 fn counts_once(alloc: Global) -> Result<bool, AllocError> {
@@ -153,15 +160,10 @@ fn counts_once(alloc: Global) -> Result<bool, AllocError> {
     let lines = format!(in alloc;
         "let s set [acegikmoqsuwy]\npat [{joined}]\npat [[^$s]{joined}]\npat [[a-z]{removed}]"
     )?;
-    let letters = "0061 0063 0065 0067 0069 006B 006D 006F 0071 0073 0075 0077 0079";
-    let others = "0062 0064 0066 0068 006A 006C 006E 0070 0072 0074 0076 0078 007A";
-    let answers = format!(in alloc;
-        "bound s\nok 2002 {letters}\nok 2007 0000-10FFFF\nok 3007 {others}\n"
-    )?;
-    have_answer(alloc, &lines, &answers, 0)
+    have_answer(alloc, &lines, OF_EVERY_SECOND, 0)
 }
 
 #[test]
 fn a_set_that_is_joined_or_taken_away_a_thousand_times_counts_once(rt: HostRuntime) {
-    assert_eq!(rt; counts_once(rt.alloc()), Ok(true));
+    assert_equal(&rt, counts_once(rt.alloc()), Ok(true));
 }
