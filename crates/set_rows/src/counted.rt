@@ -3,7 +3,7 @@ ghost use Rattle.std.specs.Prelude.{◌≡◌, ◌+◌, ◌<◌, length, IfOk, O
 
 use crate::fixtures::assert_equal;
 use cp_invlist::laws::same_members;
-use cp_invlist::{CodePointInversionList, CodePointInversionListBuilder, Steps};
+use cp_invlist::{CodePointInversionList, CodePointInversionListBuilder, NoMemory, Steps};
 use std::alloc::Global;
 use std::marker::Brand;
 use std::sync::ledger::{Blank, Ledger};
@@ -28,6 +28,22 @@ fn builder_of(alloc: Global, list: &[u32]) -> Result<CodePointInversionListBuild
     Ok(builder)
 }
 
+/// Combines what was built with the set: a step for each element of both.
+fn combine<L: Ledger>(
+    operation: Operation,
+    builder: &mut CodePointInversionListBuilder,
+    set: &CodePointInversionList,
+    steps: &mut Steps<L>,
+) -> Result<(), NoMemory>
+    ensures { OnOk result (steps.new ≡ steps.old + (length builder.old + length set.now)) }
+{
+    match operation {
+        Operation::Add => builder.add_set_steps(set, steps),
+        Operation::Remove => builder.remove_set_steps(set, steps),
+        Operation::Retain => builder.retain_set_steps(set, steps),
+    }
+}
+
 /// Whether the set of the first list, combined with that of the second, has the expected list: a step for each element of
 /// both.
 fn is_combined<L: Ledger>(
@@ -42,14 +58,10 @@ fn is_combined<L: Ledger>(
 {
     let second = CodePointInversionList::try_from_inversion_list(alloc, second)?;
     let mut builder = builder_of(alloc, first)?;
-    match operation {
-        Operation::Add => builder.add_set_steps(&second, steps)?,
-        Operation::Remove => builder.remove_set_steps(&second, steps)?,
-        Operation::Retain => builder.retain_set_steps(&second, steps)?,
-    }
-    let set = builder.build();
-    Ok(set.get_inversion_list() == expected)
+    combine(operation, &mut builder, &second, steps)?;
+    Ok(builder.build().get_inversion_list() == expected)
 }
+
 /// To 41-5A it adds 61-7A, in 4 steps.
 fn letters<L: Ledger>(alloc: Global, steps: &mut Steps<L>) -> Result<bool, Fail>
     ensures { OnOk result (steps.new ≡ steps.old + 4) }
@@ -104,10 +116,11 @@ fn are_combined<L: Ledger>(alloc: Global, blank: Blank) -> Result<bool, Fail>
     requires some { 0 < blank.parts }
 {
     let mut steps = Steps::<L>::new(blank);
-    let all = letters(alloc, &mut steps)?;
-    let later = later_letters(alloc, &mut steps)?;
-    let up_to_a = letters_up_to_a(alloc, &mut steps)?;
-    Ok(all && later && up_to_a)
+    Ok(
+        letters(alloc, &mut steps)?
+            && later_letters(alloc, &mut steps)?
+            && letters_up_to_a(alloc, &mut steps)?,
+    )
 }
 
 #[test]
