@@ -13,7 +13,7 @@ use Rattle.std.specs.List.{list_all}
 use Rattle.std.specs.Str.{bytes_eq, chars, IsUtf8}
 use Rattle.uset_grammar.specs.Text.{Text}
 use Rattle.uset_grammar.specs.Place.{size}
-use Rattle.uset_grammar.specs.Shown.{quoted, words, message, up_to_place, front_past}
+use Rattle.uset_grammar.specs.Shown.{quoted, message, up_to_place, front_past}
 use Rattle.uset_fault.specs.declared.error.ParseError.{ParseError}
 use Rattle.uset_fault.specs.declared.error.ParseErrorKind.{ParseErrorKind}
 use Rattle.uset_fault.specs.declared.error.ParseErrorKind.TheVariants.{UnexpectedChar, UnknownProperty, UnknownVariable, UnexpectedVariable, Eof, Internal, Unimplemented, InvalidEscape, NoMemory}

@@ -1,7 +1,7 @@
 -- What an error says of a source: its kind as the grammar has it, and its place.
 use Rattle.std.specs.Fmt.{digits}
 use Rattle.std.specs.Prelude.{ℕ, false, nat_lt, ◌==◌, List, [], ◌++◌, codes, Option, Some, None, if◌then◌else◌}
-use Rattle.uset_grammar.specs.Text.{Text, ◌∈◌}
+use Rattle.uset_grammar.specs.Text.{Text}
 use Rattle.uset_grammar.specs.Place.{size}
 use Rattle.uset_grammar.specs.Shown.{front_past, words, shown, message}
 use Rattle.uset_grammar.specs.Outcome.{Kind, unexpected, unimplemented, invalid_escape, unknown_property, internal, unknown_variable, unexpected_variable, eof}

@@ -1,7 +1,6 @@
-use Rattle.std.proofs.Common.{◌≡◌, ◌∷◌, ◌++◌, [], ap, ap₂, sym, ◌∙◌, slice_index_or}
+use Rattle.std.proofs.Common.{sym}
 use Rattle.std.proofs.lemmas.List.{take_more}
 use Rattle.std.proofs.lemmas.Str.{encode_ascii}
-use Rattle.std.specs.String.{string_bytes}
 use Rattle.prop_names.proofs.folding.ascii_text.Goals as goal
 
 pub loop-byte-preserved : goal.loop-byte-preserved
