@@ -1,5 +1,5 @@
 //! The four calls that read a source.
-use crate::fixtures::{NO_TABLES, Row, SYNTAX, assert_rows_of_text, is_set, is_shown};
+use crate::fixtures::{NO_TABLES, Row, TABLES, assert_rows_of_text, is_set, is_shown};
 use cp_strset::CodePointInversionListAndStringList;
 use prop_data::PropertyDatabase;
 use std::alloc::Global;
@@ -105,14 +105,37 @@ const READ: &[Read] = &[
 
 #[test]
 fn each_call_reads_a_pattern(rt: HostRuntime) {
-    assert_rows_of_text(&rt, rt.alloc(), SYNTAX, READ);
+    assert_rows_of_text(&rt, rt.alloc(), TABLES, READ);
+}
+
+/// A source, its length, and the inversion list that each call reads.
+type ReadByEach = (&'static str, usize, &'static [u32]);
+
+impl Row<PropertyDatabase> for ReadByEach {
+    fn holds(&self, alloc: Global, database: &PropertyDatabase) -> bool {
+        let (source, length, list) = *self;
+        let none = VariableMap::new(alloc);
+        for call in CALLS {
+            match ask(alloc, *call, source, &none, database) {
+                Ok((set, bytes)) if bytes == length && is_set(&set, list, &[]) => {}
+                _ => return false,
+            }
+        }
+        true
+    }
+}
+
+#[test]
+fn each_call_reads_letters_and_a_digit(rt: HostRuntime) {
+    let row: ReadByEach = ("[a-z0]", 6, &[0x30, 0x31, 0x61, 0x7B]);
+    assert_rows_of_text(&rt, rt.alloc(), TABLES, &[row]);
 }
 
 const READ_BELOW: &[Read] = &[(Call::Below, "[$a-c{}$v-]]", 11)];
 
 #[test]
 fn the_reader_below_the_calls_reads_a_pattern(rt: HostRuntime) {
-    assert_rows_of_text(&rt, rt.alloc(), SYNTAX, READ_BELOW);
+    assert_rows_of_text(&rt, rt.alloc(), TABLES, READ_BELOW);
 }
 
 /// Whether the answer is the fault of this kind, at this place.
@@ -178,7 +201,7 @@ const REFUSED_WITHOUT_TABLES: &[Refused] = &[
 
 #[test]
 fn each_call_refuses_a_pattern(rt: HostRuntime) {
-    assert_rows_of_text(&rt, rt.alloc(), SYNTAX, REFUSED);
+    assert_rows_of_text(&rt, rt.alloc(), TABLES, REFUSED);
     assert_rows_of_text(&rt, rt.alloc(), NO_TABLES, REFUSED_WITHOUT_TABLES);
 }
 
@@ -218,12 +241,37 @@ const FAULTS: &[Faulty] = &[
     ("[\\N{DASH}]", ParseErrorKind::Unimplemented, Some(2)),
     ("[$zz]", ParseErrorKind::UnknownVariable, Some(3)),
     ("[:zz:]", ParseErrorKind::UnknownProperty, Some(3)),
+    ("\\p{gc=ä}", ParseErrorKind::UnknownProperty, Some(7)),
     ("[:blk=x:]", ParseErrorKind::Internal, Some(6)),
 ];
 
 #[test]
 fn each_call_gives_the_fault_of_a_source(rt: HostRuntime) {
-    assert_rows_of_text(&rt, rt.alloc(), SYNTAX, FAULTS);
+    assert_rows_of_text(&rt, rt.alloc(), TABLES, FAULTS);
+}
+
+/// A source of which each proper front ends where more is due, without a place.
+#[derive(Clone, Copy)]
+struct Whole(&'static str);
+
+impl Row<PropertyDatabase> for Whole {
+    fn holds(&self, alloc: Global, database: &PropertyDatabase) -> bool {
+        let none = VariableMap::new(alloc);
+        let mut front = String::new(alloc);
+        for c in self.0.chars() {
+            let ends = is_fault_of_each(alloc, &front, ParseErrorKind::Eof, None, &none, database);
+            if !ends || front.push(c).is_err() {
+                return false;
+            }
+        }
+        true
+    }
+}
+
+#[test]
+fn each_front_of_a_source_ends_without_a_place(rt: HostRuntime) {
+    let whole = Whole("[^{h\\u{65}llo\\ world}]");
+    assert_rows_of_text(&rt, rt.alloc(), TABLES, &[whole]);
 }
 
 /// Whether the database has a syntax.
@@ -265,5 +313,5 @@ const SHOWN: &[Shown] = &[
 
 #[test]
 fn a_fault_is_shown_with_its_source_or_another(rt: HostRuntime) {
-    assert_rows_of_text(&rt, rt.alloc(), SYNTAX, SHOWN);
+    assert_rows_of_text(&rt, rt.alloc(), TABLES, SHOWN);
 }

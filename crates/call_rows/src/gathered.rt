@@ -48,7 +48,7 @@ fn gathered_of(
     set: &CodePointInversionListAndStringList,
 ) -> Result<Gathered, NoMemory> {
     let mut gathered = Gathered::new(alloc);
-    gathered.join(Operand::Set(set), alloc)?;
+    gathered.join(alloc, Operand::Set(set))?;
     Ok(gathered)
 }
 
@@ -77,9 +77,9 @@ fn take_step(
     operand: Operand<'_>,
 ) -> Result<(), NoMemory> {
     match step {
-        Step::Join => gathered.join(operand, alloc),
+        Step::Join => gathered.join(alloc, operand),
         Step::Remove => gathered.remove(operand),
-        Step::Retain => gathered.retain(operand, alloc),
+        Step::Retain => gathered.retain(alloc, operand),
         Step::Negate => {
             gathered.negate(alloc);
             Ok(())

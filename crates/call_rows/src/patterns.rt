@@ -1,5 +1,5 @@
 //! Sets written as patterns, and read back.
-use crate::fixtures::{NO_TABLES, Row, SYNTAX, assert_rows_of_text, set_of};
+use crate::fixtures::{NO_TABLES, Row, TABLES, assert_rows_of_text, set_of};
 use cp_invlist::CodePointInversionList;
 use cp_strset::CodePointInversionListAndStringList;
 use prop_data::PropertyDatabase;
@@ -64,7 +64,7 @@ const WRITTEN: &[Written] = &[
 
 #[test]
 fn a_set_is_written_and_read_back(rt: HostRuntime) {
-    assert_rows_of_text(&rt, rt.alloc(), SYNTAX, WRITTEN);
+    assert_rows_of_text(&rt, rt.alloc(), TABLES, WRITTEN);
 }
 
 /// The inversion list of each thousandth code point.
@@ -129,7 +129,7 @@ impl Row<PropertyDatabase> for Large {
 
 #[test]
 fn a_large_set_is_read_back(rt: HostRuntime) {
-    assert_rows_of_text(&rt, rt.alloc(), SYNTAX, &[Large(2_114)]);
+    assert_rows_of_text(&rt, rt.alloc(), TABLES, &[Large(2_114)]);
 }
 
 /// The kind of the fault, which has no place, that the empty set is not read back for.

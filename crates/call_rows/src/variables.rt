@@ -5,9 +5,9 @@ use std::alloc::Global;
 use std::process::Abort;
 use uset_variables::{InsertError, VariableMap, VariableString, VariableValue};
 
-/// The hyphen, the letters `a` to `c` and the string `ab`.
+/// The hyphen, the letters `a` to `c`, the empty string and the string `ab`.
 fn letters(alloc: Global) -> Option<CodePointInversionListAndStringList> {
-    set_of(alloc, &[0x2D, 0x2E, 0x61, 0x64], &["ab"])
+    set_of(alloc, &[0x2D, 0x2E, 0x61, 0x64], &["", "ab"])
 }
 
 fn text(alloc: Global, s: &str) -> Option<String> {
@@ -18,6 +18,7 @@ fn text(alloc: Global, s: &str) -> Option<String> {
 #[derive(Clone, Copy)]
 enum Given {
     Value(&'static str),
+    CharValue(char),
     Char(char),
     String(&'static str),
     Str(&'static str),
@@ -38,8 +39,8 @@ enum Kept {
 enum Step {
     /// The name is bound to what is given.
     Binds(&'static str, Given),
-    /// What is given is refused, since the name is bound to the character.
-    Refuses(&'static str, Given, char),
+    /// What is given is refused, since the name is bound to this.
+    Refuses(&'static str, Given, Kept),
     /// The name is freed, and was bound to the character, if it was to one.
     Frees(&'static str, Option<char>),
     /// The name is bound to this.
@@ -54,37 +55,9 @@ fn is_char(value: &VariableValue, expected: char) -> bool {
     }
 }
 
-/// Whether the name was bound, or was bound before to the character where one is expected.
-fn is_inserted(answer: Result<(), InsertError<'_>>, present: Option<char>) -> bool {
-    match (answer, present) {
-        (Ok(()), None) => true,
-        (Err(InsertError::Present(value)), Some(c)) => is_char(value, c),
-        _ => false,
-    }
-}
-
 /// The value that is a string of this text.
 fn string_value(alloc: Global, s: &str) -> Option<VariableValue> {
     Some(VariableValue::String(VariableString::new(text(alloc, s)?)))
-}
-
-/// Inserts what is given by its call. The answer is whether that ended as expected.
-fn inserts(
-    alloc: Global,
-    variables: &mut VariableMap,
-    name: &str,
-    given: Given,
-    present: Option<char>,
-) -> Option<bool> {
-    let name = text(alloc, name)?;
-    let answer = match given {
-        Given::Value(s) => variables.insert(name, string_value(alloc, s)?),
-        Given::Char(c) => variables.insert_char(name, c),
-        Given::String(s) => variables.insert_string(name, text(alloc, s)?),
-        Given::Str(s) => variables.insert_str(name, s),
-        Given::Letters => variables.insert_set(name, letters(alloc)?),
-    };
-    Some(is_inserted(answer, present))
 }
 
 /// Frees the name. The answer is whether it was bound to the character, or to nothing where none is expected.
@@ -111,6 +84,40 @@ fn is_kept(
     }
 }
 
+/// Whether the name was bound, or was bound before to what is expected.
+fn is_inserted(
+    answer: Result<(), InsertError<'_>>,
+    present: Option<Kept>,
+    letters: &CodePointInversionListAndStringList,
+) -> bool {
+    match (answer, present) {
+        (Ok(()), None) => true,
+        (Err(InsertError::Present(value)), Some(kept)) => is_kept(Some(value), kept, letters),
+        _ => false,
+    }
+}
+
+/// Inserts what is given by its call. The answer is whether that ended as expected.
+fn inserts(
+    alloc: Global,
+    variables: &mut VariableMap,
+    set: &CodePointInversionListAndStringList,
+    name: &str,
+    given: Given,
+    present: Option<Kept>,
+) -> Option<bool> {
+    let name = text(alloc, name)?;
+    let answer = match given {
+        Given::Value(s) => variables.insert(name, string_value(alloc, s)?),
+        Given::CharValue(c) => variables.insert(name, VariableValue::Char(c)),
+        Given::Char(c) => variables.insert_char(name, c),
+        Given::String(s) => variables.insert_string(name, text(alloc, s)?),
+        Given::Str(s) => variables.insert_str(name, s),
+        Given::Letters => variables.insert_set(name, letters(alloc)?),
+    };
+    Some(is_inserted(answer, present, set))
+}
+
 /// Whether the step has its answer.
 fn holds(
     alloc: Global,
@@ -119,9 +126,11 @@ fn holds(
     step: Step,
 ) -> bool {
     match step {
-        Step::Binds(name, given) => inserts(alloc, variables, name, given, None) == Some(true),
-        Step::Refuses(name, given, c) => {
-            inserts(alloc, variables, name, given, Some(c)) == Some(true)
+        Step::Binds(name, given) => {
+            inserts(alloc, variables, letters, name, given, None) == Some(true)
+        }
+        Step::Refuses(name, given, kept) => {
+            inserts(alloc, variables, letters, name, given, Some(kept)) == Some(true)
         }
         Step::Frees(name, expected) => frees(variables, name, expected),
         Step::Keeps(name, expected) => is_kept(variables.get(name), expected, letters),
@@ -222,11 +231,11 @@ fn a_string_of_one_character_is_kept_as_that_character(rt: HostRuntime) {
 const REFUSED: &[Step] = &[
     Step::Binds("a", Given::Str("x")),
     Step::Binds("b", Given::Char('z')),
-    Step::Refuses("a", Given::Value("y"), 'x'),
-    Step::Refuses("a", Given::Char('y'), 'x'),
-    Step::Refuses("a", Given::String("yy"), 'x'),
-    Step::Refuses("a", Given::Str("yy"), 'x'),
-    Step::Refuses("a", Given::Letters, 'x'),
+    Step::Refuses("a", Given::Value("y"), Kept::Char('x')),
+    Step::Refuses("a", Given::Char('y'), Kept::Char('x')),
+    Step::Refuses("a", Given::String("yy"), Kept::Char('x')),
+    Step::Refuses("a", Given::Str("yy"), Kept::Char('x')),
+    Step::Refuses("a", Given::Letters, Kept::Char('x')),
     Step::Keeps("a", Kept::Char('x')),
     Step::Keeps("b", Kept::Char('z')),
 ];
@@ -240,6 +249,7 @@ const FREED: &[Step] = &[
     Step::Binds("a", Given::Char('x')),
     Step::Frees("b", None),
     Step::Frees("a", Some('x')),
+    Step::Frees("a", None),
     Step::Keeps("a", Kept::Nothing),
     Step::Binds("a", Given::Str("yy")),
     Step::Keeps("a", Kept::String("yy")),
@@ -268,6 +278,31 @@ const AFTERWARDS: &[Step] = &[Step::Keeps("a", Kept::Char('x'))];
 #[test]
 fn a_copy_binds_the_same_names(rt: HostRuntime) {
     assert_course(&rt, rt.alloc(), (COPIED, OF_COPY, AFTERWARDS));
+}
+
+/// A name that is bound, freed and bound anew, and two more.
+const BOUND_ANEW: &[Step] = &[
+    Step::Binds("a", Given::String("x")),
+    Step::Keeps("a", Kept::Char('x')),
+    Step::Refuses("a", Given::Char('b'), Kept::Char('x')),
+    Step::Keeps("a", Kept::Char('x')),
+    Step::Frees("a", Some('x')),
+    Step::Frees("a", None),
+    Step::Binds("a", Given::CharValue('b')),
+    Step::Binds("s", Given::Str("xy")),
+    Step::Binds("t", Given::Letters),
+    Step::Refuses("t", Given::Letters, Kept::Letters),
+];
+
+const OF_ITS_COPY: &[Step] = &[
+    Step::Keeps("a", Kept::Char('b')),
+    Step::Keeps("s", Kept::String("xy")),
+    Step::Keeps("t", Kept::Letters),
+];
+
+#[test]
+fn what_a_name_is_bound_to_is_told_where_it_is_bound(rt: HostRuntime) {
+    assert_course(&rt, rt.alloc(), (BOUND_ANEW, OF_ITS_COPY, &[]));
 }
 
 /// The value that is as it is to be kept.

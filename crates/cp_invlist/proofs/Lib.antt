@@ -8,3 +8,4 @@ pub mod FaultLemmas
 pub mod MergeLemmas
 pub mod FirstFault
 pub mod Members
+pub mod HeldLemmas

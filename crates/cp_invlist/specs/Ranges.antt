@@ -1,5 +1,6 @@
 -- Ranges of code points, both ends included, and the maximal ranges of a set.
 use Rattle.std.specs.Prelude.{◌≡◌, ℕ, ◌+◌, ◌-◌, ◌<◌, ◌≤◌, Bool, true, false, ◌&&◌, nat_le, not, if◌then◌else◌, List, [], ◌∷◌}
+use Rattle.std.specs.List.{list_any}
 use Rattle.cp_invlist.specs.InversionList.{is_code_point, contains}
 use Rattle.cp_invlist.specs.declared.ranges.CodePointRange.{CodePointRange}
 
@@ -10,6 +11,10 @@ in_range r c = nat_le r.start c && nat_le c r.end
 -- the number lies in the range and is a code point
 abbrev pub in_code_points : CodePointRange → ℕ → Bool
 in_code_points r c = in_range r c && is_code_point c
+
+-- the number lies in one of the ranges
+abbrev pub in_ranges : List CodePointRange → ℕ → Bool
+in_ranges rs c = list_any (λ r. in_range r c) rs
 
 -- The maximal ranges of a set from a number on, in order: up to the first range nothing is a member, all its numbers are, the
 -- number behind it is none, and from there on it goes on so.

@@ -2,7 +2,7 @@
 ghost use Rattle.std.specs.Prelude.{◌≡◌, ◌&&◌, ℕ, Bool, ◌↔◌, None, Some, List};
 ghost use Rattle.cp_invlist.specs.Fault.{fault_of, IsFirstFault};
 ghost use Rattle.cp_invlist.specs.InversionList.{contains, is_code_point, IsInversionList, HaveSameMembers};
-ghost use Rattle.cp_invlist.specs.Ranges.{AreMaximalRanges};
+ghost use Rattle.cp_invlist.specs.Ranges.{in_ranges, AreMaximalRanges};
 ghost use Rattle.cp_invlist.specs.declared.ranges.CodePointRange.{CodePointRange};
 
 /// Two inversion lists with the same members are the same list.
@@ -28,4 +28,9 @@ pub fn members_are_code_points()
 /// A set has one list of maximal ranges.
 pub fn one_list_of_ranges()
     ensures { (m : ℕ → Bool) (rs qs : List CodePointRange) → AreMaximalRanges m rs → AreMaximalRanges m qs → rs ≡ qs }
+{}
+
+/// The maximal ranges of a set hold its members, and no other number.
+pub fn ranges_hold_members()
+    ensures { (m : ℕ → Bool) (rs : List CodePointRange) → AreMaximalRanges m rs → (c : ℕ) → in_ranges rs c ≡ m c }
 {}

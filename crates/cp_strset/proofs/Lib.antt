@@ -5,3 +5,4 @@ pub mod Clones
 pub mod Written
 pub mod Equality
 pub mod Printable
+pub mod StringsLemmas

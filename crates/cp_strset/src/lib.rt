@@ -17,12 +17,14 @@ ghost use Rattle.cp_strset.specs.StringSet.{contains_text, same_members, HaveSam
 
 pub mod laws;
 mod pattern_text;
+mod strings;
 
 use cp_invlist::{CodePointInversionList, NoMemory};
 use pattern_text::{push_ranges, push_strings};
 use std::alloc::Global;
 use std::cmp::Ordering;
 use std::marker::Model;
+pub use strings::Strings;
 use thiserror::Error;
 
 /// Why a list of strings is refused.

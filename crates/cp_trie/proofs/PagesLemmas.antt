@@ -6,8 +6,7 @@ use Rattle.std.proofs.lemmas.Bool.{cases_lt}
 use Rattle.std.proofs.lemmas.List.{drop_more, length-replicate}
 use Rattle.cp_trie.specs.Rows.{row_of, AreWhole, rows_of, spelled}
 use Rattle.cp_trie.specs.PageTables.{PageTables}
-use Rattle.cp_trie.specs.Pages.{values_of, page_of, value_by, PlacesStandFor, StandFor}
-use Rattle.cp_trie.specs.declared.pages.Pages.TheVariants.{One}
+use Rattle.cp_trie.specs.Pages.{values_of, page_of, value_by, PlacesStandFor}
 use Rattle.cp_trie.specs.Runs.{run_at}
 use Rattle.cp_trie.specs.declared.ranges.CodePointMapRange.{CodePointMapRange}
 use Rattle.cp_trie.specs.declared.rows.Repeated.{Repeated}
@@ -129,11 +128,6 @@ stand_for {V} pages numbers blocks outer rs whole whole_blocks values same cover
     ∙ (sym (slice_get-rows_of pages numbers c (c / 64) (c % 64) whole value_place (omega arith))
     ∙ (ap (λ (l : List V). slice_get l c) values
     ∙ slice_get-values_of 0 rs c c cover (omega arith) h))
-
--- the value of one run that covers stands for each code point
-pub stands_for-one : {V : Type 0} (r : CodePointMapRange V) → IsCover 0 (r ∷ []) → StandFor (One r.value) (r ∷ [])
-stands_for-one {V} r cover c h =
-    ap (λ (o : Option (CodePointMapRange V)). option_map (λ x. x.value) o) (sym (run_at-within r [] c (omega (arith, cover.0)) (omega (arith, cover.3))))
 
 -- three reads give the value that tables lead to
 pub value_by-reads : {V : Type 0} (t : PageTables V) (c block page : ℕ) (v : V) → slice_get t.outer (c / 4096) ≡ Some block → slice_get t.blocks (block * 64 + c / 64 % 64) ≡ Some page → slice_get t.values (page * 64 + c % 64) ≡ Some v → value_by t c ≡ Some v

@@ -4,7 +4,6 @@ pub mod NameLemmas
 pub mod TestsLemmas
 pub mod AboveLemmas
 pub mod SpelledLemmas
-pub mod StringSetLemmas
 pub mod EmojiLemmas
 pub mod ScriptLemmas
 pub mod CountLemmas

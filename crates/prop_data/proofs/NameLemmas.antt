@@ -1,10 +1,10 @@
 -- Rows of tables of names.
-use Rattle.std.proofs.Common.{◌≡◌, ℕ, ◌<◌, Bool, true, false, not, nat_eq, List, [], ◌∷◌, All, IfSome, is_some, Option, Some, None, unwrap_or, cond, refl, sym, ap, ◌∙◌, arith}
+use Rattle.std.proofs.Common.{◌≡◌, ℕ, ◌<◌, Bool, true, false, not, nat_eq, List, [], ◌∷◌, All, is_some, Option, Some, None, unwrap_or, cond, refl, sym, ap, ◌∙◌, arith}
 use Rattle.std.proofs.lemmas.Bool.Decides.{nat_tests}
 use Rattle.std.proofs.lemmas.Bool.{and_parts}
 use Rattle.std.proofs.lemmas.List.Elements.{All-nil, All-cons}
 use Rattle.prop_names.specs.Names.{Names}
-use Rattle.prop_data.specs.declared.error.TableErrorKind.TheVariants.{UnknownLine, BadNumber, BadName, NamesClash}
+use Rattle.prop_data.specs.declared.error.TableErrorKind.TheVariants.{BadName, NamesClash}
 use Rattle.prop_values.specs.Subtag.{is_four_letters, in_subtag_case}
 use Rattle.prop_data.specs.Headers.{names_table, long_table, short_table}
 use Rattle.prop_data.specs.declared.load.texts.Length.{Length}
@@ -15,7 +15,7 @@ use Rattle.prop_data.specs.Changes.{with_names, with_texts}
 use Rattle.prop_data.specs.Line.{Row}
 use Rattle.prop_data.specs.Numbers.{decimal_number}
 use Rattle.prop_data.specs.Tables.{Tables}
-use Rattle.prop_data.specs.LineFault.{is_name_character, is_name, accepts_name, is_other, clashes, name_fault, row_fault, names_row_fault, accepts_value, kept_of, text_fault, text_row_fault, no_text}
+use Rattle.prop_data.specs.LineFault.{is_name_character, is_name, accepts_name, clashes, name_fault, row_fault, names_row_fault, accepts_value, kept_of, text_fault, text_row_fault, no_text}
 
 own_table : (t : ℕ) → nat_eq t t ≡ true
 own_table t = grind (arith, nat_tests)
@@ -42,11 +42,6 @@ accepted_name-some t n v h = by_test (accepts_name t n) h
     by_test true h = (cc, refl)
     by_test false h = cc
 
--- where it is no other, a value there is this one
-pub not_other : (o : Option ℕ) (n : ℕ) → is_other o n ≡ false → IfSome o (λ other. other ≡ n)
-not_other None n h = tt
-not_other (Some v) n h = grind (arith, nat_tests)
-
 -- names are ASCII
 pub is_name-ascii : (text : List ℕ) → is_name text ≡ true → All (λ c. c < 128) text
 is_name-ascii [] h = All-nil (λ c. c < 128)
@@ -68,17 +63,6 @@ text_row Short t n first text second texts tables second_is number_is =
     ap (λ (s : Option (List ℕ)). row_fault (with_texts Short t texts tables) (Some (short_table t)) None (first, s)) second_is
     ∙ (ap (λ (b : Bool). text_row_fault (is_subtags t) t (unwrap_or (cond b (Some texts) (tables.short t)) no_text) (decimal_number first) text) (own_table t)
     ∙ ap (λ (o : Option ℕ). text_row_fault (is_subtags t) t texts o text) (sym number_is))
-
--- the row of a table of one name for each value has two fields
-pub text_row-one_field : (l : Length) (t : ℕ) (first : List ℕ) (second : Option (List ℕ)) (tables : Tables) → second ≡ None → row_fault tables (Some (table_of_length l t)) None (first, second) ≡ Some UnknownLine
-text_row-one_field Long t first second tables is = ap (λ (s : Option (List ℕ)). row_fault tables (Some (long_table t)) None (first, s)) is
-text_row-one_field Short t first second tables is = ap (λ (s : Option (List ℕ)). row_fault tables (Some (short_table t)) None (first, s)) is
-
-pub text_row-bad_number : (l : Length) (t : ℕ) (first text : List ℕ) (second : Option (List ℕ)) (tables : Tables) → second ≡ Some text → decimal_number first ≡ None → row_fault tables (Some (table_of_length l t)) None (first, second) ≡ Some BadNumber
-text_row-bad_number Long t first text second tables is number =
-    ap (λ (s : Option (List ℕ)). row_fault tables (Some (long_table t)) None (first, s)) is ∙ ap (λ (o : Option ℕ). text_row_fault false t (unwrap_or (tables.long t) no_text) o text) number
-text_row-bad_number Short t first text second tables is number =
-    ap (λ (s : Option (List ℕ)). row_fault tables (Some (short_table t)) None (first, s)) is ∙ ap (λ (o : Option ℕ). text_row_fault (is_subtags t) t (unwrap_or (tables.short t) no_text) o text) number
 
 -- the name of a row that passes its tests, as it is kept
 pub text_fault-none : (s : Bool) (t n : ℕ) (texts : ℕ → Option (List ℕ)) (text kept : List ℕ) → accepts_value t n ≡ true → Some kept ≡ kept_of s text → is_some (texts n) ≡ false → text_fault s t texts n text ≡ None

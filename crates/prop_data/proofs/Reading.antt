@@ -1,18 +1,16 @@
 -- Where the reading of a table text stands: some lines are read, and the rest is to come.
-use Rattle.std.proofs.Common.{◌≡◌, ℕ, ◌+◌, ◌≤◌, ◌<◌, true, false, List, [], ◌∷◌, length, Option, Some, None, option_map, cond, refl, sym, ap, ◌∙◌, arith, Err}
+use Rattle.std.proofs.Common.{◌≡◌, ℕ, ◌+◌, ◌≤◌, ◌<◌, List, [], ◌∷◌, length, Some, None, option_map, refl, sym, ap, ◌∙◌, arith, Err}
 use Rattle.text_lines.specs.Lines.{lines}
 use Rattle.text_lines.specs.Fields.{fields}
 use Rattle.prop_data.specs.declared.error.TableError.{TableError}
-use Rattle.prop_data.specs.declared.error.TableErrorKind.TheVariants.{NoEnd}
 use Rattle.prop_data.specs.Line.{Line, line_of}
-use Rattle.prop_data.specs.LinesAbove.{tables_of_lines}
 use Rattle.prop_data.specs.Rows.{or_else}
 use Rattle.prop_data.specs.declared.error.LoadError.{LoadError}
 use Rattle.prop_data.specs.declared.error.LoadError.TheVariants.{Table, NoMemory}
 use Rattle.prop_data.specs.Database.{IsFault}
 use Rattle.prop_data.specs.Loading.{after, Takes}
 use Rattle.prop_data.specs.LineFault.{Above, above, line_fault}
-use Rattle.prop_data.specs.TableText.{at_line, first_fault, laid_on, lines_by_field, table_fault, tables_in}
+use Rattle.prop_data.specs.TableText.{at_line, first_fault, laid_on, lines_by_field, table_fault}
 use Rattle.prop_data.proofs.AboveLemmas.{above-line}
 use Rattle.prop_data.proofs.TestsLemmas.{fault_of_line-line_fault}
 
@@ -50,22 +48,6 @@ next_line text rest line behind seen new number at parts shorter whole is =
       lines_are = ap (λ ls. laid_on at.read (lines_by_field ls)) (sym parts) ∙ at.lines_are;
       counted = omega (arith, at.counted);
     }
-
-abbrev no_fault : Option TableError
-no_fault = None
-
--- all lines were read
-pub ends_closed : (text rest : List ℕ) (seen : Above) (number : ℕ) → StandsAt text rest seen number → rest ≡ [] → seen.closed ≡ true → (table_fault (lines text) ≡ None) × (seen.tables ≡ tables_in (lines text))
-ends_closed text rest seen number at empty closed = (
-  sym at.fault_is ∙ (ap (λ r. first_fault at.read number (lines_by_field (lines r))) empty
-      ∙ ap (λ b. cond b no_fault (Some (at_line number NoEnd))) (ap (λ a. a.closed) (sym at.seen_is) ∙ closed)),
-  ap (λ a. a.tables) at.seen_is ∙ ap tables_of_lines (sym (ap (λ r. laid_on at.read (lines_by_field (lines r))) empty) ∙ at.lines_are),
-)
-
-pub ends_open : (text rest : List ℕ) (seen : Above) (number : ℕ) (fault : TableError) → StandsAt text rest seen number → rest ≡ [] → seen.closed ≡ false → fault ≡ at_line number NoEnd → table_fault (lines text) ≡ Some fault
-ends_open text rest seen number fault at empty open_still is =
-    sym at.fault_is ∙ (ap (λ r. first_fault at.read number (lines_by_field (lines r))) empty
-    ∙ (ap (λ b. cond b no_fault (Some (at_line number NoEnd))) (ap (λ a. a.closed) (sym at.seen_is) ∙ open_still) ∙ ap Some (sym is)))
 
 -- a line was not taken
 pub faulty_exit : (text rest line behind : List ℕ) (seen new : Above) (number : ℕ) (error : LoadError) → StandsAt text rest seen number → lines rest ≡ line ∷ lines behind →

@@ -1,5 +1,5 @@
 -- Strings as they are spelled in braces.
-use Rattle.std.proofs.Common.{◌≡◌, ℕ, ◌+◌, ◌<◌, Bool, true, false, cond, not, ◌&&◌, ◌==◌, nat_lt, List, [], ◌∷◌, ◌++◌, take, length, Option, Some, None, option_map, option_and_then, refl, sym, ap, ap₂, ◌∙◌, arith, append_assoc, append-nil, IfSome, get_or, zero, suc}
+use Rattle.std.proofs.Common.{◌≡◌, ℕ, ◌+◌, ◌<◌, Bool, true, false, cond, not, ◌&&◌, ◌==◌, nat_lt, List, [], ◌∷◌, ◌++◌, take, length, Option, Some, None, option_map, option_and_then, refl, sym, ap, ap₂, ◌∙◌, arith, append_assoc, append-nil, get_or, zero, suc}
 use Rattle.std.proofs.lemmas.Bool.Decides.{nat_tests}
 use Rattle.std.proofs.lemmas.Bool.{and_parts}
 use Rattle.std.proofs.lemmas.List.{take_more}
@@ -82,11 +82,6 @@ next_part read new rest text part behind all n is parts good more same =
     ap (λ (xs : List ℕ). option_map (λ (ns : List ℕ). xs ++ ns) (numbers_of (parts_behind behind))) more
     ∙ (numbers_of-next read n part (parts_behind behind) good
     ∙ (ap (λ (ps : List (List ℕ)). option_map (λ (ns : List ℕ). read ++ ns) (numbers_of ps)) (ap (λ (p : List ℕ × Option (List ℕ)). p.0 ∷ parts_behind p.1) parts ∙ (sym (parts-first text) ∙ ap parts_behind (sym is))) ∙ same))
-
--- how much is left
-pub less_left : (rest behind : Option (List ℕ)) (text : List ℕ) → rest ≡ Some text → IfSome behind (λ b. length b < length text) → left_behind behind < left_behind rest
-less_left rest None text is h = let e = ap left_behind is in omega (arith, e)
-less_left rest (Some b) text is h = let e = ap left_behind is in omega (arith, e, h)
 
 -- a number that is no character's
 pub not_all : (ns : List ℕ) (i : ℕ) → i < length ns → (scalar (get_or ns i 0) ≡ true → ⊥) → all_scalars ns ≡ false

@@ -1,6 +1,6 @@
 -- The sets of a table text without a fault.
 use mathlib.Core.Logic.{◌⊎◌}
-use Rattle.std.proofs.Common.{◌≡◌, ℕ, ◌+◌, ◌≤◌, Bool, true, false, ◌&&◌, nat_eq, nat_le, List, [], ◌∷◌, Option, Some, None, option_map, cond, refl, sym, ap, ◌∙◌, inl, inr, subst, arith}
+use Rattle.std.proofs.Common.{◌≡◌, ℕ, ◌+◌, ◌≤◌, Bool, true, false, ◌&&◌, nat_eq, nat_le, List, [], ◌∷◌, Option, Some, None, option_map, cond, refl, ap, ◌∙◌, inl, inr, subst, arith}
 use Rattle.std.proofs.lemmas.Bool.{both_ways, or_from, cases_Bool}
 use Rattle.std.proofs.lemmas.Bool.Decides.{nat_tests}
 use Rattle.std.specs.List.{list_any}
@@ -93,10 +93,6 @@ eq_itself t = grind (arith, nat_tests)
 -- the rows of the nearest section are allowed, where it is a set
 nearest_allowed : (t : ℕ) (rows : List Row) (ss : List Section) → AreAllowed (tables_of_sections ((set_table t, rows) ∷ ss)) → IsAllowed t (members rows)
 nearest_allowed t rows ss before = before t (members rows) (ap (λ b. or_else (cond b (Some (members rows)) None) (found (set_at t) ss)) (eq_itself t))
-
--- a section that says of sets what it said before
-same_says : (t : Table) (old new : List Row) (ss : List Section) → ((k : ℕ) → set_at k t new ≡ set_at k t old) → AreAllowed (tables_of_sections ((t, old) ∷ ss)) → AreAllowed (tables_of_sections ((t, new) ∷ ss))
-same_says t old new ss same before = λ k m h. before k m (ap (λ o. or_else o (found (set_at k) ss)) (sym (same k)) ∙ h)
 
 -- a set with a row more
 set_grows : (t : ℕ) (r : Row) (rows : List Row) (ss : List Section) → AreAllowed (tables_of_sections ((set_table t, rows) ∷ ss)) → ((c : ℕ) → is_forbidden t c ≡ true → holds (range r.0) c ≡ false) →

@@ -14,7 +14,6 @@ mod map_builder;
 mod names;
 mod scripts;
 mod set;
-mod strings;
 mod texts;
 
 use crate::database::PropertyDatabase;

@@ -1,5 +1,4 @@
 mod AnswersLemmas
-mod CoveredLemmas
 mod PassingLemmas
 mod ScriptLemmas
 mod UnpackedLemmas

@@ -1,9 +1,9 @@
 -- The ranges of the runs whose values pass a test are the maximal ranges of the code points whose values do.
-use Rattle.std.proofs.Common.{◌≡◌, ℕ, ◌+◌, ◌<◌, ◌≤◌, Bool, true, false, cond, ◌&&◌, ◌||◌, List, [], ◌∷◌, Option, Some, None, refl, sym, ap, ap₂, ◌∙◌, inl, inr, arith}
+use Rattle.std.proofs.Common.{◌≡◌, ℕ, ◌+◌, ◌<◌, ◌≤◌, Bool, true, false, cond, ◌&&◌, List, [], ◌∷◌, Option, Some, None, refl, sym, ap, ap₂, ◌∙◌, inl, inr, arith}
 use Rattle.std.proofs.lemmas.Bool.{cases_lt}
 use Rattle.std.proofs.lemmas.Bool.Decides.{nat_tests}
 use Rattle.cp_invlist.specs.InversionList.{is_code_point}
-use Rattle.cp_invlist.specs.Ranges.{in_range, in_code_points, AreRangesFrom}
+use Rattle.cp_invlist.specs.Ranges.{AreRangesFrom}
 use Rattle.cp_trie.specs.Runs.{AreRunsFrom}
 use Rattle.cp_invlist.specs.declared.ranges.CodePointRange.{CodePointRange}
 use Rattle.cp_trie.specs.declared.ranges.CodePointMapRange.{CodePointMapRange}
@@ -84,36 +84,3 @@ ranges-passing_from eq exact passes at from n begun (r ∷ rs) runs is_begun =
 pub ranges-passing : {V : Type 0} (eq : V → V → Bool) → ((x y : V) → eq x y ≡ true → x ≡ y) → (passes : V → Bool) (at : ℕ → V) (rs : List (CodePointMapRange V)) → AreRunsFrom eq at 0 rs → AreRangesFrom (members passes at) 0 (passing passes rs)
 ranges-passing eq exact passes at rs runs =
     ranges-passing_from eq exact passes at 0 0 None rs runs (omega arith, λ c low high. absurd (omega arith))
-
--- the number is a code point of one of the ranges
-abbrev pub lies_in : List CodePointRange → ℕ → Bool
-lies_in [] c = false
-lies_in (r ∷ rs) c = in_code_points r c || lies_in rs c
-
--- No range lies below the number that the maximal ranges begin at.
-lies_in-before : (m : ℕ → Bool) (n : ℕ) (rs : List CodePointRange) (c : ℕ) → AreRangesFrom m n rs → c < n → lies_in rs c ≡ false
-lies_in-before m n [] c ranges before = refl
-lies_in-before m n (r ∷ rs) c ranges before =
-    let outside : in_range r c ≡ false = grind (arith, nat_tests) in
-    ap₂ (λ a b. (a && is_code_point c) || b) outside (lies_in-before m (r.end + 1) rs c ranges.5 (omega arith))
-
--- a code point lies in one of the maximal ranges exactly where it is a member
-pub lies_in-ranges : (m : ℕ → Bool) (n : ℕ) (rs : List CodePointRange) (c : ℕ) → AreRangesFrom m n rs → n ≤ c → (0x10_FFFF < c → m c ≡ false) → lies_in rs c ≡ m c
-lies_in-ranges m n [] c ranges low past = sym (ranges c low)
-lies_in-ranges m n (r ∷ rs) c ranges low past =
-    elim (cases_lt r.end c) as (λ _. lies_in (r ∷ rs) c ≡ m c) [
-      | inl behind ↦
-          let outside : in_range r c ≡ false = grind (arith, nat_tests) in
-          ap (λ a. (a && is_code_point c) || lies_in rs c) outside ∙ lies_in-ranges m (r.end + 1) rs c ranges.5 (omega arith) past
-      | inr within ↦ elim (cases_lt c r.start) as (λ _. lies_in (r ∷ rs) c ≡ m c) [
-        | inl before ↦
-            let outside : in_range r c ≡ false = grind (arith, nat_tests) in
-            ap₂ (λ a b. (a && is_code_point c) || b) outside (lies_in-before m (r.end + 1) rs c ranges.5 (omega arith)) ∙ sym (ranges.2 c low before)
-        | inr inside ↦ elim (cases_lt 0x10_FFFF c) as (λ _. lies_in (r ∷ rs) c ≡ m c) [
-          | inl above ↦ let both : true ≡ false = sym (ranges.3 c inside within) ∙ past above in cc
-          | inr point ↦
-              let held : in_code_points r c ≡ true = grind (arith, nat_tests) in
-              ap (λ a. a || lies_in rs c) held ∙ sym (ranges.3 c inside within)
-        ]
-      ]
-    ]

@@ -4,8 +4,6 @@
 use Rattle.std.specs.Prelude.{◌≡◌, ℕ, Bool, nat_eq, ◌==◌, ◌||◌, ◌%◌, if◌then◌else◌, List, [], ◌∷◌, Option, None, Some}
 use Rattle.std.specs.List.{list_any}
 use Rattle.cp_invlist.specs.InversionList.{is_code_point}
-use Rattle.cp_invlist.specs.Ranges.{in_range}
-use Rattle.cp_invlist.specs.declared.ranges.CodePointRange.{CodePointRange}
 use Rattle.cp_trie.specs.Map.{value_at}
 use Rattle.prop_values.specs.ScriptWithExt.{kind_of}
 use Rattle.prop_data.specs.Extensions.{list_of, scripts_map}
@@ -61,10 +59,6 @@ has_script table script c = is_among (extensions_of table c) script
 -- the script is among the script extensions that the number stands for
 abbrev pub number_has : ScriptWithExtensionsProperty → ℕ → ℕ → Bool
 number_has table script v = is_among (extensions_of_number (list_of table) v) script
-
--- the number lies in one of the ranges
-abbrev pub is_covered : List CodePointRange → ℕ → Bool
-is_covered rs c = list_any (λ r. in_range r c) rs
 
 -- two tables have the same numbers and lists, and so answer alike
 pub record AnswersAs (copy table : ScriptWithExtensionsProperty) : Type 0 where

@@ -18,7 +18,7 @@ ghost use Rattle.prop_query.specs.Maps.{lacks_value, is_in_group, unpacked_at};
 use crate::ranges::{RangesForGroup, RangesForOthers, RangesForValue};
 use crate::set::CodePointSetData;
 use crate::value::values_of;
-use cp_invlist::laws::one_list_of_ranges;
+use cp_invlist::laws::{one_list_of_ranges, ranges_hold_members};
 use cp_invlist::{CodePointInversionListBuilder, NoMemory, Steps};
 use cp_trie::{CodePointTrie, ConvertError, TrieRanges, TrieRangesMapped, TrieValue};
 use prop_data::{DataError, PropertyDatabase, TableName};
@@ -238,6 +238,7 @@ impl<'a> CodePointMapDataBorrowed<'a, GeneralCategory> {
         ensures { IfOk result (λ set. (c : ℕ) →
             contains set c ≡ is_in_group (map_in self.entry) value c) }
     {
+        ranges_hold_members();
         let mut builder = CodePointInversionListBuilder::new(alloc);
         for range in self.iter_ranges_for_group(value) {
             builder.add_range32(range)?;

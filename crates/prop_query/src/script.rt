@@ -1,16 +1,16 @@
 //! The script and the script extensions of a code point.
 ghost use Rattle.std.specs.Prelude.{◌≡◌, ◌↔◌, ℕ, ◌%◌, List, Some, None, IsErr, IsErrOf, IfOk, IfErr, IsSomeAnd, IsTrue, Contains};
 ghost use Rattle.cp_invlist.specs.InversionList.{contains};
-ghost use Rattle.cp_invlist.specs.Ranges.{AreMaximalRanges};
+ghost use Rattle.cp_invlist.specs.Ranges.{in_ranges, AreMaximalRanges};
 ghost use Rattle.cp_invlist.specs.declared.ranges.CodePointRange.{CodePointRange};
 ghost use Rattle.prop_data.specs.Database.{scripts_of};
 ghost use Rattle.prop_data.specs.Extensions.{list_of};
-ghost use Rattle.prop_query.specs.Scripts.{script_of, extensions_of, has_script, number_has, extensions_of_number, scripts_listed, others, is_covered, AnswersAs};
+ghost use Rattle.prop_query.specs.Scripts.{script_of, extensions_of, has_script, number_has, extensions_of_number, scripts_listed, others, AnswersAs};
 
 mod extensions;
 mod ranges;
 
-use cp_invlist::laws::one_list_of_ranges;
+use cp_invlist::laws::{one_list_of_ranges, ranges_hold_members};
 use cp_invlist::{
     CodePointInversionList, CodePointInversionListBuilder, LAST_CODE_POINT, NoMemory,
 };
@@ -161,9 +161,10 @@ impl<'a> ScriptWithExtensionsBorrowed<'a> {
         ensures maximal { AreMaximalRanges (has_script (table_of self.entry) script) result }
         ensures only { (rs : List CodePointRange) →
             AreMaximalRanges (has_script (table_of self.entry) script) rs → rs ≡ result }
-        ensures covered { (c : ℕ) → is_covered result c ≡ has_script (table_of self.entry) script c }
+        ensures covered { (c : ℕ) → in_ranges result c ≡ has_script (table_of self.entry) script c }
     {
         one_list_of_ranges();
+        ranges_hold_members();
         ScriptExtensionsRanges::new(self, script)
     }
 

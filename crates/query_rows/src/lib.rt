@@ -18,3 +18,5 @@ mod names;
 mod scripts;
 #[cfg(test)]
 mod sets;
+#[cfg(test)]
+mod steps;

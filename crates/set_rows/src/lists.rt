@@ -1,7 +1,8 @@
 //! Sets of code points by their inversion lists.
 use crate::fixtures::assert_equal;
 use cp_invlist::laws::{
-    faultless, first_fault, members_are_code_points, one_list_of_ranges, same_members,
+    faultless, first_fault, members_are_code_points, one_list_of_ranges, ranges_hold_members,
+    same_members,
 };
 use cp_invlist::{CodePointInversionList, CodePointRange, InversionListError};
 use std::alloc::{AllocError, Global};
@@ -173,4 +174,5 @@ fn the_laws_hold() {
     faultless();
     members_are_code_points();
     one_list_of_ranges();
+    ranges_hold_members();
 }

@@ -2,7 +2,7 @@
 use crate::fixtures::assert_equal;
 use cp_invlist::CodePointInversionList;
 use cp_strset::laws::{faultless, one_list};
-use cp_strset::{CodePointInversionListAndStringList, StringListError};
+use cp_strset::{CodePointInversionListAndStringList, StringListError, Strings};
 use std::alloc::{AllocError, Global};
 
 /// The hyphen and the letters `a` to `c`, as an inversion list.
@@ -138,6 +138,66 @@ fn refusal(alloc: Global, texts: &[&str]) -> Option<StringListError> {
 fn the_first_faulty_string_is_named(rt: HostRuntime) {
     for (texts, expected) in FAULTY {
         assert_equal(&rt, refusal(rt.alloc(), texts), Some(*expected));
+    }
+}
+
+/// What is done to strings with those that are given.
+#[derive(Clone, Copy)]
+enum Change {
+    Append,
+    RemoveAll,
+    KeepOnly,
+    InsertCopies,
+    RemoveListed,
+    KeepListed,
+}
+
+/// What each makes of the empty string, `ab` and `cd`, where `ab` and `ef` are given.
+const CHANGES: &[(Change, &[&str])] = &[
+    (Change::Append, &["", "ab", "cd", "ef"]),
+    (Change::RemoveAll, &["", "cd"]),
+    (Change::KeepOnly, &["ab"]),
+    (Change::InsertCopies, &["", "ab", "cd", "ef"]),
+    (Change::RemoveListed, &["", "cd"]),
+    (Change::KeepListed, &["ab"]),
+];
+
+/// The strings of a list in the making.
+fn gathered(alloc: Global, texts: &[&str]) -> Option<Strings> {
+    let set = set_of(alloc, texts)?.ok()?;
+    let mut gathered = Strings::new(alloc);
+    gathered.insert_copies(alloc, &set).ok()?;
+    Some(gathered)
+}
+
+/// What the change makes of the empty string, `ab` and `cd`.
+fn changed(alloc: Global, change: Change) -> Option<Strings> {
+    let set = set_of(alloc, &["ab", "ef"])?.ok()?;
+    let given = gathered(alloc, &["ab", "ef"])?;
+    let mut strings = gathered(alloc, &["", "ab", "cd"])?;
+    match change {
+        Change::Append => strings.append(given).ok()?,
+        Change::RemoveAll => strings.remove_all(given),
+        Change::KeepOnly => strings.keep_only(given),
+        Change::InsertCopies => strings.insert_copies(alloc, &set).ok()?,
+        Change::RemoveListed => strings.remove_listed(&set),
+        Change::KeepListed => strings.keep_listed(&set),
+    }
+    Some(strings)
+}
+
+/// Whether the set of the letters and of the changed strings is that of the letters and these strings.
+fn is_changed(alloc: Global, change: Change, expected: &[&str]) -> Option<bool> {
+    let letters = CodePointInversionList::try_from_inversion_list(alloc, LETTERS).ok()?;
+    let set = changed(alloc, change)?.into_set(alloc, letters).ok()?;
+    let expected = set_of(alloc, expected)?.ok()?;
+    Some(set == expected)
+}
+
+#[test]
+fn strings_are_gathered(rt: HostRuntime) {
+    for (change, expected) in CHANGES {
+        assert_equal(&rt, is_changed(rt.alloc(), *change, expected), Some(true));
     }
 }
 

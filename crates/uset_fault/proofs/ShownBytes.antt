@@ -16,9 +16,6 @@ scalars-behind : (xs ys : Text) → scalars (xs ++ ys) ≡ true → scalars ys �
 scalars-behind [] ys h = h
 scalars-behind (x ∷ xs) ys h = scalars-behind xs ys (and_parts _ _ h).1
 
-size-append : (xs ys : Text) → size (xs ++ ys) ≡ size xs + size ys
-size-append xs ys = ap length (flat_map-append encode_utf8 xs ys) ∙ length-append (encode_utf8_all xs) (encode_utf8_all ys)
-
 size-cons : (c : ℕ) (t : Text) → size (c ∷ t) ≡ length (encode_utf8 c) + size t
 size-cons c t = length-append (encode_utf8 c) (encode_utf8_all t)
 

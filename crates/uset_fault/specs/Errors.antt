@@ -1,6 +1,6 @@
 -- What an error says of a source: its kind as the grammar has it, and its place.
 use Rattle.std.specs.Fmt.{digits}
-use Rattle.std.specs.Prelude.{ℕ, false, nat_lt, ◌==◌, List, [], ◌++◌, codes, Option, Some, None, if◌then◌else◌}
+use Rattle.std.specs.Prelude.{◌≡◌, ℕ, false, nat_lt, ◌==◌, List, [], ◌++◌, codes, Option, Some, None, if◌then◌else◌}
 use Rattle.uset_grammar.specs.Text.{Text}
 use Rattle.uset_grammar.specs.Place.{size}
 use Rattle.uset_grammar.specs.Shown.{front_past, words, shown, message}
@@ -28,10 +28,10 @@ abbrev pub offset_in : ParseError → Option ℕ
 offset_in error = error.offset
 
 abbrev pub ToldAs : Option Kind → Option ℕ → (Kind → Option ℕ → Type 0) → Type 0
-ToldAs None offset IsSo = Unit {0}
+ToldAs None offset IsSo = offset ≡ None
 ToldAs (Some kind) offset IsSo = IsSo kind offset
 
--- the error says what is so of its kind and its place, or that memory was refused
+-- the error says what is so of its kind and its place, or that memory was refused, which has no place
 abbrev pub Tells : ParseError → (Kind → Option ℕ → Type 0) → Type 0
 Tells error IsSo = ToldAs (kind_told (kind_of error)) (offset_in error) IsSo
 

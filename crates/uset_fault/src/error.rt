@@ -129,11 +129,11 @@ impl From<ParseErrorKind> for ParseError {
 }
 
 impl From<NoMemory> for ParseError {
-    ghost use Rattle.std.specs.Prelude.{◌≡◌};
+    ghost use Rattle.std.specs.Prelude.{◌≡◌, None};
     ghost use Rattle.uset_fault.specs.declared.error.ParseErrorKind.TheVariants.{NoMemory as OutOfMemory};
-    ghost use Rattle.uset_fault.specs.Errors.{kind_of};
+    ghost use Rattle.uset_fault.specs.Errors.{kind_of, offset_in};
 
-    ghost from_gives = { λ _ error. kind_of error ≡ OutOfMemory };
+    ghost from_gives = { λ _ error. (kind_of error ≡ OutOfMemory) × (offset_in error ≡ None) };
 
     fn from(_error: NoMemory) -> ParseError {
         ParseErrorKind::NoMemory.into()
@@ -141,11 +141,11 @@ impl From<NoMemory> for ParseError {
 }
 
 impl<T: Drop> From<AllocFailed<T>> for ParseError {
-    ghost use Rattle.std.specs.Prelude.{◌≡◌};
+    ghost use Rattle.std.specs.Prelude.{◌≡◌, None};
     ghost use Rattle.uset_fault.specs.declared.error.ParseErrorKind.TheVariants.{NoMemory as OutOfMemory};
-    ghost use Rattle.uset_fault.specs.Errors.{kind_of};
+    ghost use Rattle.uset_fault.specs.Errors.{kind_of, offset_in};
 
-    ghost from_gives = { λ _ error. kind_of error ≡ OutOfMemory };
+    ghost from_gives = { λ _ error. (kind_of error ≡ OutOfMemory) × (offset_in error ≡ None) };
 
     fn from(_error: AllocFailed<T>) -> ParseError {
         ParseErrorKind::NoMemory.into()

@@ -2,4 +2,3 @@ pub mod RangesLemmas
 pub mod PaintingLemmas
 pub mod LayersLemmas
 pub mod GatheredLemmas
-pub mod StringsLemmas

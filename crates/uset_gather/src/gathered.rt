@@ -1,10 +1,8 @@
 //! What a bracket gathers.
 use crate::operand::Operand;
 use crate::painting::Painting;
-use crate::strings::Strings;
 use cp_invlist::{CodePointRange, NoMemory};
-use cp_strset::CodePointInversionListAndStringList;
-use cp_strset::laws::faultless;
+use cp_strset::{CodePointInversionListAndStringList, Strings};
 use std::alloc::Global;
 
 /// A set in the making. A bracket that closes gives it to the one around it, and only that of the outermost
@@ -71,7 +69,7 @@ impl Gathered {
     }
 
     /// Adds the members of the operand.
-    pub fn join(&mut self, operand: Operand<'_>, alloc: Global) -> Result<(), NoMemory>
+    pub fn join(&mut self, alloc: Global, operand: Operand<'_>) -> Result<(), NoMemory>
         ensures { OnOk result (HasMembers self.new (λ m. gathered_in self.old m || operand_in operand.entry m)) }
     {
         match operand {
@@ -109,7 +107,7 @@ impl Gathered {
     }
 
     /// Keeps only the members of the operand.
-    pub fn retain(&mut self, operand: Operand<'_>, alloc: Global) -> Result<(), NoMemory>
+    pub fn retain(&mut self, alloc: Global, operand: Operand<'_>) -> Result<(), NoMemory>
         ensures { OnOk result (HasMembers self.new (λ m. gathered_in self.old m && operand_in operand.entry m)) }
     {
         match operand {
@@ -149,12 +147,6 @@ impl Gathered {
             code_points,
             strings,
         } = self;
-        let code_points = code_points.into_set()?;
-        let strings = strings.into_list(alloc)?;
-        faultless();
-        let Ok(set) = CodePointInversionListAndStringList::try_from(code_points, strings) else {
-            unreachable!()
-        };
-        Ok(set)
+        strings.into_set(alloc, code_points.into_set()?)
     }
 }

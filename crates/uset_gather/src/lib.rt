@@ -6,7 +6,6 @@ mod layers;
 mod operand;
 mod painting;
 mod run;
-mod strings;
 
 pub use gathered::Gathered;
 pub use operand::{Operand, Source};

@@ -1,6 +1,6 @@
 //! The code points of a set in the making.
 use crate::layers::{flattened, members_in_front};
-use cp_invlist::laws::members_are_code_points;
+use cp_invlist::laws::{members_are_code_points, ranges_hold_members};
 use cp_invlist::{CodePointInversionList, CodePointRange, NoMemory};
 use std::alloc::Global;
 use std::mem::{replace, swap};
@@ -101,6 +101,7 @@ impl Painting {
         ensures { OnOk result ((c : ℕ) → in_painting self.new c ≡ (in_painting self.old c || contains set.now c)) }
     {
         members_are_code_points();
+        ranges_hold_members();
         self.ranges.reserve(set.get_inversion_list().len() / 2)?;
         for range in set.iter_ranges() {
             self.add_range(range)?;
@@ -120,6 +121,7 @@ impl Painting {
     fn paint_outside(&mut self, set: &CodePointInversionList) -> Result<(), NoMemory>
         ensures { OnOk result ((c : ℕ) → in_painting self.new c ≡ (in_painting self.old c || is_outside set.now c)) }
     {
+        ranges_hold_members();
         for range in set.iter_ranges_complemented() {
             self.add_range(range)?;
         }

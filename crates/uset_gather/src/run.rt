@@ -3,7 +3,7 @@ ghost use Rattle.std.specs.Prelude.{◌≡◌, ◌||◌, ℕ, IfOk, OnOk};
 ghost use Rattle.cp_invlist.specs.InversionList.{contains};
 ghost use Rattle.uset_gather.specs.Painting.{in_some};
 
-use cp_invlist::laws::members_are_code_points;
+use cp_invlist::laws::{members_are_code_points, ranges_hold_members};
 use cp_invlist::{CodePointInversionList, CodePointInversionListBuilder, CodePointRange, NoMemory};
 use std::alloc::Global;
 
@@ -54,6 +54,7 @@ fn put_aside(aside: &mut Vec<CodePointRange>, set: &CodePointInversionList) -> R
     ensures { OnOk result ((c : ℕ) → in_some aside.new.items c ≡ (in_some aside.old.items c || contains set.now c)) }
 {
     members_are_code_points();
+    ranges_hold_members();
     aside.reserve(set.get_inversion_list().len() / 2)?;
     for range in set.iter_ranges() {
         aside.push(range)?;

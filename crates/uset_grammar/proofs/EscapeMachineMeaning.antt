@@ -23,10 +23,6 @@ pub not_above : (n : ℕ) → is_surrogate n ≡ true → is_above n ≡ false
 unfolding is_surrogate is_above
 not_above n h = grind (arith, nat_tests)
 
-ended_empty : (ns ms : List ℕ) (n m k : ℕ) → n ∷ (ns ++ m ∷ ms) ≡ k ∷ [] → ⊥
-ended_empty [] ms n m k h = cc
-ended_empty (x ∷ ns) ms n m k h = cc
-
 abbrev pub got_or : {V : Type 0} → Outcome V → Option (V × Text) → Outcome V
 got_or o None = o
 got_or o (Some p) = got p.0 p.1

@@ -42,9 +42,6 @@ either true b c d f g h = ap (λ x. x || d) (f refl)
 either false b true d f g h = refl
 either false b false d f g h = g h
 
-some_of : (bytes : List ℕ) → List Text → Bool
-some_of bytes ts = list_any (λ t. bytes_eq (encode_utf8_all t) bytes) ts
-
 pub no_members : IsFinite (λ m. false)
 no_members = record { code_points = record { bound = 0; beyond = λ c h. refl }; texts = []; are_strings = All-nil IsString; only = λ bytes h. h }
 

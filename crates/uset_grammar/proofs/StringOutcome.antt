@@ -37,9 +37,6 @@ module _ (white_space : ℕ → Bool) where
   abbrev Completes : Text → State → Type 0
   Completes p s = (u : Text) × (v : List Spelled) × (run (next white_space) free p s u ≡ got v [])
 
-  pieces_complete : (p : Text) (ps : List Spelled) → run (next white_space) free p (pieces ps) (0x7D ∷ []) ≡ got ps []
-  pieces_complete p ps = refl
-
   inside_by : (p t b q : Text) (c : ℕ) (ps : List Spelled) (s : Spelled) (m : Next E.State Spelled) →
       ((e : E.State) → run (E.next white_space) free (q ++ c ∷ []) e t ≡ got s [] → run (next white_space) free (p ++ c ∷ []) (inside ps b (q ++ c ∷ []) e) (t ++ 0x7D ∷ []) ≡ got (ps ++ s ∷ []) []) →
       turn None m (λ s'. run (E.next white_space) free (q ++ c ∷ []) s' t) q c t ≡ got s [] →

@@ -140,12 +140,6 @@ module _ (white_space : ℕ → Bool) (apart : Apart white_space) (a_letter : wh
   string_front : (t : Text) → StringShape white_space t → (u : Text) × (t ≡ 0x7B ∷ u)
   string_front t s = behind_front 0x7B t (λ u. pieces_shape white_space (length u) u) (s.0, []) s.1
 
-  escape_front : (t : Text) → EscapeShape white_space t → (u : Text) × (t ≡ 0x5C ∷ u)
-  escape_front t s = behind_front 0x5C t (escape_at white_space) (s.0, []) s.1
-
-  not_same : {c d : ℕ} {t u : Text} → (c ≡ d → ⊥) → c ∷ t ≡ d ∷ u → ⊥
-  not_same n h = n (heads h)
-
   string_slip_front : (p : Text) (c : ℕ) (k : Kind) (b : Text) → StringSlips white_space p c k b → (u : Text) × (p ≡ 0x7B ∷ u)
   string_slip_front _ c k _ (in_escape {e} before shape s) = by before (string_front (before ++ 0x7D ∷ []) shape)
     where

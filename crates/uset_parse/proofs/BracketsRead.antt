@@ -2,12 +2,12 @@
 use Rattle.std.proofs.Common.{◌≡◌, ℕ, Bool, false, ◌||◌, List, [], ◌∷◌, ◌++◌, refl, sym, ap, ◌∙◌, subst, arith, append_assoc, codes}
 use Rattle.std.specs.Prelude.{All}
 use Rattle.std.specs.Fmt.{digits}
-use Rattle.std.specs.List.{flat_map, list_any}
+use Rattle.std.specs.List.{flat_map}
 use Rattle.std.specs.Str.{IsAscii}
 use Rattle.std.proofs.Math.Bool.{or_assoc, or-false}
 use Rattle.std.proofs.lemmas.List.Elements.{All-head, All-tail}
 use Rattle.std.proofs.lemmas.Str.{chars-IsAscii, IsAscii-append}
-use Rattle.cp_invlist.specs.Ranges.{in_range}
+use Rattle.cp_invlist.specs.Ranges.{in_range, in_ranges}
 use Rattle.cp_invlist.specs.declared.ranges.CodePointRange.{CodePointRange}
 use Rattle.cp_strset.specs.PatternText.{escaped}
 use Rattle.uset_grammar.specs.Text.{Text}
@@ -47,9 +47,9 @@ join_each (r ∷ rs) steps = join (bracket_tree r) (join_each rs steps)
 
 -- members
 
-point_by_brackets : (c : ℕ) (rs : List CodePointRange) (b : Bool) → gathers (join_each rs done) (point c) b ≡ (b || list_any (λ r. in_range r c) rs)
+point_by_brackets : (c : ℕ) (rs : List CodePointRange) (b : Bool) → gathers (join_each rs done) (point c) b ≡ (b || in_ranges rs c)
 point_by_brackets c [] b = sym (or-false b)
-point_by_brackets c (r ∷ rs) b = point_by_brackets c rs (b || in_range r c) ∙ or_assoc b (in_range r c) (list_any (λ r. in_range r c) rs)
+point_by_brackets c (r ∷ rs) b = point_by_brackets c rs (b || in_range r c) ∙ or_assoc b (in_range r c) (in_ranges rs c)
 
 string_by_brackets : (bytes : List ℕ) (rs : List CodePointRange) (b : Bool) → gathers (join_each rs done) (string bytes) b ≡ b
 string_by_brackets bytes [] b = refl

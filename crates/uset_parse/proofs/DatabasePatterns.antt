@@ -1,13 +1,11 @@
 -- Sets are read back under the tables of a database.
-use Rattle.std.proofs.Common.{◌≡◌, ℕ, ◌+◌, ◌≤◌, ◌<◌, Bool, true, false, ◌&&◌, ◌||◌, nat_le, List, [], ◌∷◌, Option, Some, None, refl, sym, ap₂, ◌∙◌, subst, arith, inl, inr, le_refl}
+use Rattle.std.proofs.Common.{◌≡◌, ℕ, ◌+◌, ◌≤◌, Bool, true, false, ◌&&◌, List, [], ◌∷◌, Option, Some, None, refl, ◌∙◌, subst, arith, le_refl}
 use Rattle.std.specs.Prelude.{All}
-use Rattle.std.specs.List.{list_any}
 use Rattle.std.specs.Str.{IsUtf8}
-use Rattle.std.proofs.lemmas.Bool.{cases_lt, le-leb, lt-leb}
 use Rattle.std.proofs.lemmas.Bool.Decides.{nat_tests}
 use Rattle.std.proofs.lemmas.List.Elements.{All-nil, All-cons}
 use Rattle.cp_invlist.specs.InversionList.{contains, is_code_point, IsInversionList}
-use Rattle.cp_invlist.specs.Ranges.{in_range, AreRangesFrom, AreMaximalRanges}
+use Rattle.cp_invlist.specs.Ranges.{in_ranges, AreRangesFrom, AreMaximalRanges}
 use Rattle.cp_invlist.specs.declared.ranges.CodePointRange.{CodePointRange}
 use Rattle.cp_strset.specs.StringList.{AreCanonical}
 use Rattle.cp_strset.specs.StringSet.{StringSet}
@@ -54,23 +52,6 @@ module _ (m : ℕ → Bool) where
   all_ranges n (r ∷ rs) within h =
       All-cons IsRange r rs (record { order = h.1; code_points = is_below r.end (within r.end (h.3 r.end h.1 (le_refl r.end))) }) (all_ranges (r.end + 1) rs within h.5)
 
-  -- ranges from a number on hold nothing below it
-  none_below : (n : ℕ) (rs : List CodePointRange) → AreRangesFrom m n rs → (c : ℕ) → c < n → list_any (λ r. in_range r c) rs ≡ false
-  none_below n [] h c lt = refl
-  none_below n (r ∷ rs) h c lt =
-      ap₂ (λ a b. (a && nat_le c r.end) || b) (lt-leb r.start c (omega (arith, h.0, lt))) (none_below (r.end + 1) rs h.5 c (omega (arith, h.0, h.1, lt)))
-
-  -- and from there on the members
-  held_from : (n : ℕ) (rs : List CodePointRange) → AreRangesFrom m n rs → (c : ℕ) → n ≤ c → list_any (λ r. in_range r c) rs ≡ m c
-  held_from n [] h c from = sym (h c from)
-  held_from n (r ∷ rs) h c from = elim (cases_lt c r.start) [
-    | inl before ↦ ap₂ (λ a b. (a && nat_le c r.end) || b) (lt-leb r.start c before) (none_below (r.end + 1) rs h.5 c (omega (arith, h.1, before))) ∙ sym (h.2 c from before)
-    | inr above ↦ elim (cases_lt r.end c) [
-      | inl behind ↦ ap₂ (λ a b. (a && b) || list_any (λ r. in_range r c) rs) (le-leb r.start c above) (lt-leb c r.end behind) ∙ held_from (r.end + 1) rs h.5 c (omega (arith, behind))
-      | inr within ↦ ap₂ (λ a b. (a && b) || list_any (λ r. in_range r c) rs) (le-leb r.start c above) (le-leb c r.end within) ∙ sym (h.3 c above within)
-    ]
-  ]
-
 -- the strings of a set
 long_texts : (ss : List (List ℕ)) → AreCanonical ss → All IsUtf8 ss → All IsLongText ss
 long_texts ss canonical texts = λ k d below. record { text = texts k d below; not_one = canonical.none_of_one k d below }
@@ -80,14 +61,15 @@ left_holds true b h k = h
 left_holds false b h k = absurd (let g = k in cc)
 
 -- what ranges and strings hold is what the set has
-same_members : (set : StringSet) (rs : List CodePointRange) → AreMaximalRanges (contains set.code_points) rs → (m : Member) → is_written rs set.strings m ≡ in_set set m
-same_members set rs maximal (point c) = held_from (contains set.code_points) 0 rs maximal c (omega arith)
-same_members set rs maximal (string bytes) = refl
+same_members : (set : StringSet) (rs : List CodePointRange) → ((c : ℕ) → in_ranges rs c ≡ contains set.code_points c) → (m : Member) → is_written rs set.strings m ≡ in_set set m
+same_members set rs held (point c) = held c
+same_members set rs held (string bytes) = refl
 
-pub inverse_law : ((xs : List ℕ) (c : ℕ) → IsInversionList xs → (contains xs c && is_code_point c) ≡ contains xs c) → Inverse
-inverse_law code_points = λ tables allows variable l there set is_set rs maximal rest.
+pub inverse_law : ((xs : List ℕ) (c : ℕ) → IsInversionList xs → (contains xs c && is_code_point c) ≡ contains xs c) →
+    ((m : ℕ → Bool) (rs : List CodePointRange) → AreMaximalRanges m rs → (c : ℕ) → in_ranges rs c ≡ m c) → Inverse
+inverse_law code_points hold = λ tables allows variable l there set is_set rs maximal rest.
     let leaves = leaves_by tables allows variable (tables.sets 51) (tables.sets 68) (tables.sets 67) refl l there in
     let m = contains set.code_points in
     let within : (c : ℕ) → m c ≡ true → is_code_point c ≡ true = λ c h. left_holds (m c) (is_code_point c) (code_points set.code_points c is_set.code_points) h in
     let back = escapes_are_read l leaves rs set.strings (all_ranges m 0 rs within maximal) (long_texts set.strings is_set.strings is_set.texts) rest in
-    record { tree = back.tree; reads = back.reads; same = λ x. back.same x ∙ same_members set rs maximal x }
+    record { tree = back.tree; reads = back.reads; same = λ x. back.same x ∙ same_members set rs (hold m rs maximal) x }

@@ -3,7 +3,7 @@ use Rattle.std.proofs.Common.{◌≡◌, ℕ, zero, suc, ◌^◌, ◌≤◌, ◌
 use Rattle.std.specs.Prelude.{◌==◌, All, slice_index}
 use Rattle.std.specs.Char.{digit_value}
 use Rattle.std.specs.Fmt.{digits}
-use Rattle.std.specs.List.{flat_map, list_any}
+use Rattle.std.specs.List.{flat_map}
 use Rattle.std.specs.Str.{IsAscii, all_scalars, bytes_eq, chars}
 use Rattle.std.specs.Str.Parse.{AllDigits}
 use Rattle.std.proofs.Math.Bool.{or_assoc, or-false}
@@ -13,7 +13,7 @@ use Rattle.std.proofs.lemmas.List.Elements.{All-head, All-tail}
 use Rattle.std.proofs.lemmas.Str.{encodes-chars, scalars-chars, chars-IsAscii, IsAscii-append}
 use Rattle.std.proofs.lemmas.Str.Ascii.{IsAscii-nil}
 use lib.Utf8.{scalar}
-use Rattle.cp_invlist.specs.Ranges.{in_range}
+use Rattle.cp_invlist.specs.Ranges.{in_range, in_ranges}
 use Rattle.cp_invlist.specs.declared.ranges.CodePointRange.{CodePointRange}
 use Rattle.cp_strset.specs.PatternText.{escaped, range_text, string_text, pattern_text}
 use Rattle.cp_strset.specs.StringList.{holds}
@@ -92,9 +92,9 @@ IsAscii-pattern_text rs hr ss hs =
 -- members
 
 module _ (c : ℕ) where
-  point_by_ranges : (rs : List CodePointRange) (steps : Steps) (b : Bool) → gathers (add_ranges rs steps) (point c) b ≡ gathers steps (point c) (b || list_any (λ r. in_range r c) rs)
+  point_by_ranges : (rs : List CodePointRange) (steps : Steps) (b : Bool) → gathers (add_ranges rs steps) (point c) b ≡ gathers steps (point c) (b || in_ranges rs c)
   point_by_ranges [] steps b = ap (gathers steps (point c)) (sym (or-false b))
-  point_by_ranges (r ∷ rs) steps b = point_by_ranges rs steps (b || in_range r c) ∙ ap (gathers steps (point c)) (or_assoc b (in_range r c) (list_any (λ r. in_range r c) rs))
+  point_by_ranges (r ∷ rs) steps b = point_by_ranges rs steps (b || in_range r c) ∙ ap (gathers steps (point c)) (or_assoc b (in_range r c) (in_ranges rs c))
 
   point_by_strings : (ss : List (List ℕ)) (b : Bool) → gathers (add_strings ss done) (point c) b ≡ b
   point_by_strings [] b = refl
@@ -201,7 +201,7 @@ module _ (l : Language) (leaves : LeavesEscapes l.white_space) where
 
 -- the members of the bracket
 members_are : (rs : List CodePointRange) (ss : List (List ℕ)) → All IsLongText ss → (m : Member) → has (bracket false false (add_ranges rs (add_strings ss done))) m ≡ is_written rs ss m
-members_are rs ss h (point c) = point_by_ranges c rs (add_strings ss done) false ∙ point_by_strings c ss (list_any (λ r. in_range r c) rs)
+members_are rs ss h (point c) = point_by_ranges c rs (add_strings ss done) false ∙ point_by_strings c ss (in_ranges rs c)
 members_are rs ss h (string bytes) = string_by_ranges bytes rs (add_strings ss done) false ∙ string_by_strings bytes ss false h
 
 pub escapes_are_read : EscapesAreRead

@@ -12,7 +12,7 @@ use Rattle.uset_gather.specs.Gathered.{gathered_in, in_set}
 use Rattle.uset_read.specs.declared.cursor.Cursor.{Cursor}
 use Rattle.uset_read.specs.Cursors.{source_of, left_of}
 use Rattle.uset_fault.specs.declared.error.ParseError.{ParseError}
-use Rattle.uset_fault.specs.declared.error.ParseErrorKind.TheVariants.{Internal, NoMemory}
+use Rattle.uset_fault.specs.declared.error.ParseErrorKind.TheVariants.{Internal}
 use Rattle.uset_fault.specs.Errors.{kind_of, offset_in, kind_told, ToldAs}
 use Rattle.uset_reader.specs.Readings.{IsReading, IsRefusal}
 use Rattle.uset_parse.specs.Reading.{IsRead, IsRefused}
@@ -30,7 +30,7 @@ reading l syntax source gathered end set n there h made place = record {
 
 -- what an error tells, weakened
 pub told_more : (told : Option Kind) (offset : Option ℕ) (P Q : Kind → Option ℕ → Type 0) → ((k : Kind) (o : Option ℕ) → P k o → Q k o) → ToldAs told offset P → ToldAs told offset Q
-told_more None offset P Q more h = tt
+told_more None offset P Q more h = h
 told_more (Some k) offset P Q more h = more k offset h
 
 -- a refusal of the reader, under the syntax that is there
@@ -47,10 +47,3 @@ absent_syntax syntax source error none kind offset =
     let told : kind_told (kind_of error) ≡ Some internal = ap kind_told kind in
     let P : Option Kind → Type 0 = λ t. ToldAs t (offset_in error) (λ k o. IsFault syntax (chars source) k o) in
     subst P (sym told) (record { place = None; fault = subst (λ s. FaultUnder (chars source) s internal None) (sym none) absent; is = offset })
-
--- want of memory is no fault
-pub want_of_memory : (syntax : Option Language) (source : List ℕ) (error : ParseError) → kind_of error ≡ NoMemory → IsRefused syntax source error
-want_of_memory syntax source error kind =
-    let told : kind_told (kind_of error) ≡ None = ap kind_told kind in
-    let P : Option Kind → Type 0 = λ t. ToldAs t (offset_in error) (λ k o. IsFault syntax (chars source) k o) in
-    subst P (sym told) tt

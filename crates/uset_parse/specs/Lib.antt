@@ -1,3 +1,4 @@
 pub mod Reading
 pub mod ReadBack
 pub mod Brackets
+pub mod Denotation

@@ -1,9 +1,8 @@
 -- A set with strings that is written as a pattern and read back.
 use Rattle.std.specs.Prelude.{◌≡◌, ◌≢◌, ℕ, ◌≤◌, Bool, true, false, All, List, length, ◌++◌, Option, Some, None}
-use Rattle.std.specs.List.{list_any}
 use Rattle.std.specs.Str.{IsUtf8, chars}
 use Rattle.cp_invlist.specs.InversionList.{contains, IsInversionList}
-use Rattle.cp_invlist.specs.Ranges.{in_range, AreMaximalRanges}
+use Rattle.cp_invlist.specs.Ranges.{in_ranges, AreMaximalRanges}
 use Rattle.cp_invlist.specs.declared.ranges.CodePointRange.{CodePointRange}
 use Rattle.cp_strset.specs.PatternText.{pattern_text, IsPatternOf}
 use Rattle.cp_strset.specs.StringList.{holds, AreCanonical}
@@ -44,7 +43,7 @@ pub record IsReadBack (l : Language) (pattern : Text) (members : Member → Bool
 
 -- a code point that one of the ranges has, or a string of the list
 abbrev pub is_written : List CodePointRange → List (List ℕ) → Member → Bool
-is_written rs ss (point c) = list_any (λ r. in_range r c) rs
+is_written rs ss (point c) = in_ranges rs c
 is_written rs ss (string bytes) = holds ss bytes
 
 -- What a set with strings is, as its type keeps it; its strings are texts, since those of the type are.

@@ -179,10 +179,6 @@ end_goes : (a : Around) (s : State) → end_slip a (goes s) ≡ None
 end_goes in_string s = refl
 end_goes (in_bracket both) s = refl
 
-end_named : (a : Around) → end_slip a (whole named) ≡ None
-end_named in_string = refl
-end_named (in_bracket both) = refl
-
 end_itself : (a : Around) (c : ℕ) → end_slip a (whole (itself c)) ≡ None
 end_itself in_string c = refl
 end_itself (in_bracket both) c = refl

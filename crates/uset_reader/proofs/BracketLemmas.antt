@@ -8,7 +8,7 @@ use Rattle.uset_grammar.specs.Tree.{Tree, Member, has, Steps, add, gathers, lead
 use Rattle.uset_grammar.specs.Item.{Item, chars, tree_of}
 use Rattle.uset_grammar.specs.Body.{add_each}
 use Rattle.uset_grammar.specs.Text.{Text}
-use Rattle.uset_grammar.specs.Arranging.{same, Next, stuck, on, next, after, went, finish, ending, arranged, arrange}
+use Rattle.uset_grammar.specs.Arranging.{same, Next, stuck, on, next, after, went, finish, ending, arranged}
 use Rattle.uset_grammar.specs.Reached.{OpenBracket}
 use Rattle.uset_grammar.specs.Place.{size}
 use Rattle.uset_grammar.specs.Turn.{greatest, reversed_code}
@@ -134,13 +134,6 @@ closes l b o all set ends s is h g = by (ending (awaits_seen b.awaits)) refl h
           ∙ (ap (finished b.opening.negated m) (sym (some.1 m) ∙ (sym (s.gathered last m) ∙ ap (λ h. gathers (s.steps last) m (leading_hyphen h.leading m)) s.header))
           ∙ sym (ap (λ h. has (tree_of h (s.steps last)) m) s.header));
     }
-
-pub stays_open : (l : Language) (b : CodeBracket) (o : OpenBracket) (all : Gathering) (ends : Bool) → Stands l b o → ends ≡ false → EndedAs (ending (awaits_seen b.awaits)) b.gathered all ends → arrange o.items ≡ None
-stays_open l b o all ends s is h = by (ending (awaits_seen b.awaits)) refl h
-  where
-    by : (e : Option Steps) → ending (awaits_seen b.awaits) ≡ e → EndedAs e b.gathered all ends → arrange o.items ≡ None
-    by None e none = ap arranged s.awaited ∙ ap (finish s.steps) e
-    by (Some last) e some = absurd (let k : true ≡ false = sym some.0 ∙ is in cc)
 
 -- SETS AND STEPS
 -- a set was gathered whose members the tree has

@@ -83,12 +83,6 @@ differ-alike false false h = refl
 differ-alike true false h = absurd (let g = h in cc)
 differ-alike false true h = absurd (let g = h in cc)
 
-pub differ-unlike : (a b : Bool) → beq a b ≡ false → differ b a ≡ true
-differ-unlike true true h = absurd (let g = h in cc)
-differ-unlike false false h = absurd (let g = h in cc)
-differ-unlike true false h = refl
-differ-unlike false true h = refl
-
 pub is-found : {list : List ℕ} {falsy : Bool} {o : Option Resolved} → Resolves list falsy o → is_some o ≡ true
 is-found h = ap is_some h.is
 

@@ -177,4 +177,4 @@ module _ (s : Syntax) (source : List ℕ) where
         refused_first spoken source e (kind_seen kind) (Some found.0) is.0 (property_fails [] begins_so ((found.2.faults (kind_seen kind) found.0).0 refl) refl) (is.1 found.0 (ap chars same ∙ found.1))
     refused_property cursor Ended e stopped same is =
         refused_first spoken source e eof None is.0 (property_ends begins_so ((stopped (units.property_begins (chars source) begins_so)).ends.0 refl)) is.1
-    refused_property cursor StopNoMemory e stopped same is = tells_nothing e _ is
+    refused_property cursor StopNoMemory e stopped same is = tells_nothing e _ is.0 is.1

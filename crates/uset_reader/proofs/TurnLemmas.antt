@@ -6,7 +6,7 @@ use Rattle.std.specs.Str.{chars}
 use Rattle.uset_grammar.specs.Text.{Text, skip, IsBehind}
 use Rattle.uset_grammar.specs.Outcome.{Kind, unexpected, unknown_variable, unexpected_variable, eof, Outcome, got, faulty, ended}
 use Rattle.uset_grammar.specs.Item.{Item, nested, tree_of}
-use Rattle.uset_grammar.specs.Language.{Language, Value, item_of, stands_for, resolves, lacks}
+use Rattle.uset_grammar.specs.Language.{Language, item_of, stands_for, resolves, lacks}
 use Rattle.uset_grammar.specs.Unit.{Meaning, UnitOutcome}
 use Rattle.uset_grammar.specs.Front.{Front, single, caret, front, begins_unit}
 use Rattle.uset_grammar.specs.Grammar.{Sort, of_one_character, of_variable_name, of_unit}
@@ -14,7 +14,7 @@ use Rattle.uset_grammar.specs.Fault.{as_character}
 use Rattle.uset_grammar.specs.Reached.{OpenBracket, with_item, is_short, is_last_property}
 use Rattle.uset_grammar.specs.Place.{size, bytes_before, offset_of}
 use Rattle.uset_grammar.specs.Arranging.{next, went, fit, arrange}
-use Rattle.uset_grammar.specs.Turn.{Verdict, rejected, Turn, goes, stops, UnitReader, at, last_at, two, greatest, reversed_code, head, refusal, judged, named_turn, unit_turn, closed, nested_turn, front_turn, turn}
+use Rattle.uset_grammar.specs.Turn.{Verdict, rejected, Turn, goes, stops, UnitReader, at, last_at, two, greatest, reversed_code, refusal, judged, named_turn, unit_turn, closed, nested_turn, front_turn, turn}
 use Rattle.uset_grammar.specs.Laws.{PlacesAre, AwaitedTells, RestsAreBehind}
 use Rattle.uset_read.specs.declared.cursor.Cursor.{Cursor}
 use Rattle.uset_read.specs.Cursors.{source_of, left_of}
@@ -55,25 +55,19 @@ use Rattle.uset_reader.specs.Syntaxes.{language_seen}
 pub tells : (e : ParseError) (k : Kind) (P : Kind → Option ℕ → Type 0) → kind_told (kind_of e) ≡ Some k → P k (offset_in e) → Tells e P
 tells e k P is h = subst (λ o. ToldAs o (offset_in e) P) (sym is) h
 
-pub tells_nothing : (e : ParseError) (P : Kind → Option ℕ → Type 0) → kind_told (kind_of e) ≡ None → Tells e P
-tells_nothing e P is = subst (λ o. ToldAs o (offset_in e) P) (sym is) tt
+pub tells_nothing : (e : ParseError) (P : Kind → Option ℕ → Type 0) → kind_told (kind_of e) ≡ None → offset_in e ≡ None → Tells e P
+tells_nothing e P is nowhere = subst (λ o. ToldAs o (offset_in e) P) (sym is) nowhere
 
 pub tells_too : (e : ParseError) (P Q : Kind → Option ℕ → Type 0) → ((k : Kind) (o : Option ℕ) → P k o → Q k o) → Tells e P → Tells e Q
 tells_too e P Q f h = by (kind_told (kind_of e)) h
   where
     by : (o : Option Kind) → ToldAs o (offset_in e) P → ToldAs o (offset_in e) Q
-    by None h = tt
+    by None h = h
     by (Some k) h = f k (offset_in e) h
 
 -- a fault is where the turn stops
 pub stops_so : (l : Language) (t : Turn) (v : Verdict) (e : ParseError) (outer : List CodeBracket) (b : CodeBracket) → t ≡ stops v → Rejects v e → TurnedTo l t outer b (Err e)
 stops_so l t v e outer b is h = tells_too e _ _ (λ k o r. (r.0, is ∙ ap stops r.1, r.2)) h
-
-pub stops_nowhere : (l : Language) (t : Turn) (e : ParseError) (outer : List CodeBracket) (b : CodeBracket) → kind_told (kind_of e) ≡ None → TurnedTo l t outer b (Err e)
-stops_nowhere l t e outer b is = tells_nothing e _ is
-
-pub ends_early : (e : ParseError) → kind_told (kind_of e) ≡ Some eof → offset_in e ≡ None → Rejects (rejected eof None) e
-ends_early e is o = tells e eof _ is (None, refl, o)
 
 module _ (places : PlacesAre) (l : Language) (units : UnitReader l) (cursor : Cursor) where
   abbrev source : Text
@@ -101,30 +95,11 @@ refusal_of_variable l units source q r of_variable_name e = refl
 refusal_of_variable l units source q r of_one_character e = absurd (let g = e in cc)
 refusal_of_variable l units source q r of_unit e = absurd (let g = e in cc)
 
-refusal_as_written : (l : Language) (units : UnitReader l) (source q r : Text) (s : Sort) → (s ≡ of_variable_name → ⊥) →
-    refusal l units source s q r None ≡ rejected (unexpected (head q)) (Some (at l units source q))
-refusal_as_written l units _ q r of_variable_name e = absurd (e refl)
-refusal_as_written _ _ _ _ _ of_one_character e = refl
-refusal_as_written _ _ _ _ _ of_unit e = refl
-
 pub unfit_variable : (places : PlacesAre) (cursor : Cursor) (text rest : List ℕ) (e : ParseError) → kind_told (kind_of e) ≡ Some unexpected_variable → IsBefore cursor rest (offset_in e) →
     IsUnfit cursor Variable text rest e
 unfit_variable places cursor text rest e is offset l units s sort here behind =
     subst (λ v. Rejects v e) (sym (refusal_of_variable l units (chars (source_of cursor)) (chars text) (chars rest) s sort))
     (rejects_before places l units cursor text rest e unexpected_variable here behind is (λ t. refl) offset)
-
-pub unfit_written : (places : PlacesAre) (cursor : Cursor) (text rest : List ℕ) (e : ParseError) (c : ℕ) (t : Text) → chars text ≡ c ∷ t → kind_told (kind_of e) ≡ Some (unexpected c) →
-    IsAt cursor text (offset_in e) → IsUnfit cursor Written text rest e
-unfit_written places cursor text rest e c t parts is offset l units s sort here behind =
-    subst (λ v. Rejects v e) (sym (refusal_as_written l units (chars (source_of cursor)) (chars text) (chars rest) s sort ∙ ap (λ z. rejected (unexpected (head z)) (Some (at l units (chars (source_of cursor)) (chars text)))) parts))
-    (rejects_at places l units cursor text e (unexpected c) here is (λ t. refl) offset)
-
-pub unfit_nothing : (cursor : Cursor) (text rest : List ℕ) (e : ParseError) → chars text ≡ [] → IsUnfit cursor Written text rest e
-unfit_nothing cursor text rest e none l units s sort here (front, ends) = absurd (by front (sym none ∙ ends.parts))
-  where
-    by : (f : Text) → [] ≡ f ++ ends.last ∷ chars rest → ⊥
-    by [] e = let g = e in cc
-    by (x ∷ f) e = let g = e in cc
 
 judged_fit : (l : Language) (units : UnitReader l) (source q : Text) (o : OpenBracket) (os : List OpenBracket) (s : Sort) (i : Item) (r : Text) (x : Bool) → x ≡ true →
     judged l units source o os q s i r x ≡ goes (with_item o i ∷ os) r
@@ -176,10 +151,6 @@ module _ (s : Syntax) where
       (ap (λ v. named_turn l units source o os (chars text) (chars rest) v) (bound_by name utf8 ∙ ap (option_map value_seen) none))
       (rejects_before places l units cursor text rest e unknown_variable here behind is (λ t. refl) offset)
 
-  -- a variable is not a property at the end
-  not_last : (v : Value) (r : Text) → is_last_property of_variable_name (item_of v) r ≡ false
-  not_last v r = refl
-
   pub takes_bound : (source : List ℕ) (b new : CodeBracket) (name text rest : List ℕ) (v : VariableValue) (item : CodeItem) (result : Result Progress ParseError) → encode_utf8_all (chars name) ≡ name →
       bound s.variables.now name ≡ Some v → ((l : Language) (g : Gathering) → l.variable (chars name) ≡ Some (value_seen v) → IsItem l g item (item_of (value_seen v))) → TakesAs source b item Variable text rest new result → TakesVariable l source b name text rest new result
   takes_bound source b new name text rest v item result utf8 some is h units outer here behind o os stands around =
@@ -211,7 +182,7 @@ module _ (places : PlacesAre) (awaited : AwaitedTells) (l : Language) (cursor : 
   takes_stopped Ended e stopped is units outer here f long o os stands around =
       let t = asked units f long o stands ended (stopped stands.fits (units.unit_begins (chars text) f long)) in
       tells e eof _ is.0 (None, ap (λ z. unit_turn l units whole o os (chars text) z) t, is.1)
-  takes_stopped StopNoMemory e stopped is units outer here f long o os stands around = tells_nothing e _ is
+  takes_stopped StopNoMemory e stopped is units outer here f long o os stands around = tells_nothing e _ is.0 is.1
 
   module _ (item : CodeItem) (rest : List ℕ) (read : NamesFit (sets_of l) b.gathered → UnitIs l b.gathered several text item rest) where
     taken_turn : (units : UnitReader l) → front l (chars text) ≡ begins_unit → is_short (chars text) ≡ false → (o : OpenBracket) (os : List OpenBracket) → Stands l b o → (x : Bool) →

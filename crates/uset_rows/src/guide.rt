@@ -1,4 +1,4 @@
-//! The examples of docs/PATTERNS.md, as one script.
+//! The examples of docs/PATTERNS.md, and the script of examples/script.txt.
 use crate::fixtures::{assert_equal, is_evaluated};
 use std::alloc::{AllocError, Global};
 
@@ -114,11 +114,70 @@ const EXAMPLES: &[(&str, &str)] = &[
     ("pat $vowels;", "ok 7 0061 0065 0069 006F 0075"),
 ];
 
+/// Each line of examples/script.txt but its comments, and its answer, as in examples/answers.txt.
+const SCRIPT: &[(&str, &str)] = &[
+    ("pat [a-z0]", "ok 6 0030 0061-007A"),
+    ("pat [a-c] what follows is free", "ok 5 0061-0063"),
+    ("pat [[a-c][x-z]]", "ok 12 0061-0063 0078-007A"),
+    (
+        "pat [[a-z]-[aeiou]]",
+        "ok 15 0062-0064 0066-0068 006A-006E 0070-0074 0076-007A",
+    ),
+    ("pat [[a-m]&[^a-f]]", "ok 14 0067-006D"),
+    ("pat [[[a-z]-[m-p]]&[k-s]]", "ok 21 006B-006C 0071-0073"),
+    (
+        "pat [\\u{1F600} \\x41 \\t \\-]",
+        "ok 22 0009 002D 0041 1F600",
+    ),
+    ("pat [a{ch}{}{b}]", "ok 12 0061-0062 {} {0063_0068}"),
+    ("pat [[a{ch}{ll}]-[{ch}]]", "ok 20 0061 {006C_006C}"),
+    ("pat [:AHex:]", "ok 8 0030-0039 0041-0046 0061-0066"),
+    ("pat [[a-z]&\\P{AHex}]", "ok 16 0067-007A"),
+    ("let dash char 2D", "bound dash"),
+    ("let ch str 63 68", "bound ch"),
+    ("let vowels set [aeiou]", "bound vowels"),
+    ("pat [[a-f]-$vowels]", "ok 15 0062-0064 0066"),
+    ("pat [$dash $ch]", "ok 11 002D {0063_0068}"),
+    ("let vowels set [aeiouy]", "err vowels is bound"),
+    ("pat [a-z", "err [a-z← error: unexpected end of input"),
+    ("pat [z-a]", "err [z-a← error: unexpected character 'a'"),
+    (
+        "pat [[a-z]-$consonants]",
+        "err [[a-z]-$consonants← error: unknown variable",
+    ),
+    (
+        "pat [[a-z]&[:Vowel:]]",
+        "err [[a-z]&[:Vowel← error: unknown property",
+    ),
+    ("set [a-z]", "err bad line"),
+    ("let start set [[:Latn:]&[:L:][_]]", "bound start"),
+    ("let more set [$start[:Nd:][:ccc=Above:]]", "bound more"),
+    ("let medial set [\\-.]", "bound medial"),
+    ("pat $start", "ok 6 0041-005A 005F 0061-007A"),
+    (
+        "pat [$more$medial]",
+        "ok 14 002D-002E 0030-0039 0041-005A 005F 0061-007A 0300-0314",
+    ),
+    ("pat [$start-[:Lu:]]", "ok 15 005F 0061-007A"),
+    (
+        "pat [[:scx=Hira:][:scx=Kana:]]",
+        "ok 26 3041-3096 30A1-30FA 30FC",
+    ),
+    ("pat [[:sc=Hira:]&[\\u30FC]]", "ok 22"),
+    (
+        "pat [$more-[:Nt:]]",
+        "err [$more-[:Nt← error: unknown property",
+    ),
+];
+
 /// The tables and the lines of the rows, and their answers.
-fn script_and_answers(alloc: Global) -> Result<(String, String), AllocError> {
+fn script_and_answers(
+    alloc: Global,
+    rows: &[(&str, &str)],
+) -> Result<(String, String), AllocError> {
     let mut script = String::from_str(alloc, TABLES)?;
     let mut answers = String::new(alloc);
-    for (line, answer) in EXAMPLES {
+    for (line, answer) in rows {
         push_line(&mut script, line)?;
         push_line(&mut answers, answer)?;
     }
@@ -130,13 +189,18 @@ fn push_line(text: &mut String, line: &str) -> Result<(), AllocError> {
     text.push('\n')
 }
 
-/// Whether the script has these answers.
-fn have_their_answers(alloc: Global) -> Result<bool, AllocError> {
-    let (script, answers) = script_and_answers(alloc)?;
+/// Whether the lines, as one script, have these answers.
+fn have_their_answers(alloc: Global, rows: &[(&str, &str)]) -> Result<bool, AllocError> {
+    let (script, answers) = script_and_answers(alloc, rows)?;
     is_evaluated(alloc, script.into_bytes(), &answers, 1)
 }
 
 #[test]
 fn examples_of_the_guide_have_their_answers(rt: HostRuntime) {
-    assert_equal(&rt, have_their_answers(rt.alloc()), Ok(true));
+    assert_equal(&rt, have_their_answers(rt.alloc(), EXAMPLES), Ok(true));
+}
+
+#[test]
+fn the_script_to_start_from_has_its_answers(rt: HostRuntime) {
+    assert_equal(&rt, have_their_answers(rt.alloc(), SCRIPT), Ok(true));
 }

@@ -127,6 +127,7 @@ const BAD: &[&str] = &[
     " ",
     " # no comment",
     "letters",
+    "hello",
 ];
 
 /// The answers to such a line, which binds nothing, and to a pattern that names a variable.

@@ -1,5 +1,5 @@
 -- Steps, one behind another, and those that have no effect.
-use Rattle.std.proofs.Common.{◌≡◌, ℕ, Bool, true, false, not, ◌&&◌, ◌||◌, ◌==◌, ◌⊎◌, inl, inr, if◌then◌else◌, List, [], ◌∷◌, ◌++◌, reverse, Option, Some, None, refl, sym, ap, ◌∙◌, subst, append_assoc}
+use Rattle.std.proofs.Common.{◌≡◌, ℕ, Bool, true, false, not, ◌&&◌, ◌||◌, ◌==◌, ◌⊎◌, inl, inr, if◌then◌else◌, List, [], ◌∷◌, ◌++◌, reverse, Option, Some, None, refl, sym, ap, ◌∙◌, subst}
 use Rattle.std.specs.Prelude.{slice_get}
 use Rattle.std.proofs.lemmas.Bool.{cases_Bool, eqb-true}
 use Rattle.std.proofs.lemmas.List.{reverse-append}
@@ -150,12 +150,6 @@ no_effect sets s ss outside place m b about there = by (slice_get sets place) re
         let a = acts sets s outside place about in
         ap (steps_done sets ss m) (a.does m b ∙ ap (λ e. with_kept a.operation e m b) is)
 
--- the last step of those that are left goes to the front of those that are kept
-pub kept_more : (sets : List NamedSet) (left kept next : List Step) (s : Step) (m : Member) (b : Bool) → next ≡ kept ++ s ∷ [] → steps_done sets (left ++ reverse next) m b ≡ steps_done sets ((left ++ s ∷ []) ++ reverse kept) m b
-kept_more sets left kept next s m b is =
-    ap (λ ss. steps_done sets (left ++ ss) m b) (ap reverse is ∙ reverse-append kept (s ∷ []))
-    ∙ ap (λ ss. steps_done sets ss m b) (sym (append_assoc left (s ∷ []) (reverse kept)))
-
 -- or it is passed over
 pub passed_over : (sets : List NamedSet) (left kept : List Step) (s : Step) (outside : Bool) (place : ℕ) (m : Member) (b : Bool) → is_about outside place s ≡ true → occurs outside place (reverse kept) ≡ true →
     steps_done sets (left ++ reverse kept) m b ≡ steps_done sets ((left ++ s ∷ []) ++ reverse kept) m b
@@ -163,17 +157,6 @@ passed_over sets left kept s outside place m b about there =
     done_append sets left (reverse kept) m b
     ∙ (sym (no_effect sets s (reverse kept) outside place m (steps_done sets left m b) about there)
     ∙ (ap (steps_done sets (reverse kept) m) (sym (done_more sets left s m b)) ∙ sym (done_append sets (left ++ s ∷ []) (reverse kept) m b)))
-
--- a step about a set is among those that are kept with it
-pub occurs_more : (outside : Bool) (place : ℕ) (kept next : List Step) (s : Step) → next ≡ kept ++ s ∷ [] → (occurs outside place (reverse kept) ≡ true) ⊎ (is_about outside place s ≡ true) →
-    occurs outside place (reverse next) ≡ true
-occurs_more outside place kept next s is h =
-    ap (occurs outside place) (ap reverse is ∙ reverse-append kept (s ∷ [])) ∙ or_true (is_about outside place s) (occurs outside place (reverse kept)) h
-  where
-    or_true : (a b : Bool) → (b ≡ true) ⊎ (a ≡ true) → (a || b) ≡ true
-    or_true true b h = refl
-    or_true false b (inl e) = e
-    or_true false b (inr e) = absurd (let g = e in cc)
 
 -- a set that is marked by a step which is passed over was marked before
 pub about_again : (s : Step) (outside other : Bool) (place elsewhere : ℕ) (P : Bool → ℕ → Type 0) → is_about other elsewhere s ≡ true → P other elsewhere → P outside place ⊎ (is_about outside place s ≡ true) → P outside place

@@ -80,7 +80,7 @@ impl NamedSet<'_> {
         ensures { IfOk result (λ g. (m : Member) → gathered_in g m ≡ named_in self.now m) }
     {
         let mut gathered = Gathered::new(alloc);
-        gathered.join(self.operand(), alloc)?;
+        gathered.join(alloc, self.operand())?;
         Ok(gathered)
     }
 

@@ -45,9 +45,9 @@ pub(crate) fn gather(
         (HasMembers gathered.new (λ m. operated operation (operand_in operand.entry m) (gathered_in gathered.old m))) }
 {
     match operation {
-        Operation::Join => gathered.join(operand, alloc),
+        Operation::Join => gathered.join(alloc, operand),
         Operation::Remove => gathered.remove(operand),
-        Operation::Retain => gathered.retain(operand, alloc),
+        Operation::Retain => gathered.retain(alloc, operand),
     }
 }
 

@@ -1,5 +1,5 @@
 -- The answers to patterns.
-use Rattle.std.proofs.Common.{◌≡◌, ℕ, Bool, true, false, List, encode_utf8_all, ◌++◌, codes, Option, Some, refl, ap, ◌∙◌, subst}
+use Rattle.std.proofs.Common.{◌≡◌, ℕ, Bool, true, false, List, Option, Some, subst}
 use mathlib.Core.Path.{fun_ext}
 use Rattle.std.specs.Str.{chars}
 use Rattle.std.specs.String.{string_bytes}
@@ -9,14 +9,11 @@ use Rattle.uset_grammar.specs.Outcome.{Kind}
 use Rattle.uset_grammar.specs.Tree.{point, string}
 use Rattle.uset_grammar.specs.Language.{Language}
 use Rattle.uset_grammar.specs.Answers.{IsFault}
-use Rattle.uset_grammar.specs.Shown.{shown}
 use Rattle.uset_fault.specs.declared.error.ParseError.{ParseError}
-use Rattle.uset_fault.specs.declared.error.ParseErrorKind.{ParseErrorKind}
-use Rattle.uset_fault.specs.declared.error.ParseErrorKind.TheVariants.{UnexpectedChar, UnknownProperty, UnknownVariable, UnexpectedVariable, Eof, Internal, Unimplemented, InvalidEscape, NoMemory}
-use Rattle.uset_fault.specs.Errors.{kind_of, offset_in, kind_told, ToldAs, shown_as, shown_with}
+use Rattle.uset_fault.specs.Errors.{kind_of, offset_in, kind_told, ToldAs}
 use Rattle.uset_parse.specs.Reading.{IsRead, IsRefused}
 use Rattle.uset_tool.specs.declared.answer.Answer.{Answer}
-use Rattle.uset_tool.specs.Answer.{PatternAnswer, read, fault, read_text, fault_text, line_end, IsReadAnswer, IsFaultAnswer}
+use Rattle.uset_tool.specs.Answer.{PatternAnswer, read, fault, read_text, fault_text, IsReadAnswer, IsFaultAnswer}
 use Rattle.uset_tool.specs.Generated.{SizesAnswer, measured, unread, sizes_text, IsSizesAnswer}
 
 -- the text and the mark of an answer
@@ -47,23 +44,3 @@ measured_answer l source n set answer h (rs, maximal, text_is, err_is) =
 
 pub unmeasured_answer : (l : Option Language) (source : List ℕ) (error : ParseError) (answer : Answer) → IsRefused l source error → IsFaultAnswer error source answer → SizesAnswer l source (string_bytes answer.text) answer.is_err
 unmeasured_answer l source error answer h is = sizes_at l source (fault_text is.kind (offset_in error) source) true answer is.text is.err (unread (fault_told l source error is.kind h is.told))
-
--- a kind that isn't want of memory is one of the grammar's
-pub told_kind : (k : ParseErrorKind) → (k ≡ NoMemory → ⊥) → (kind : Kind) × (kind_told k ≡ Some kind)
-told_kind (UnexpectedChar c) other = (_, refl)
-told_kind UnknownProperty other = (_, refl)
-told_kind UnknownVariable other = (_, refl)
-told_kind UnexpectedVariable other = (_, refl)
-told_kind Eof other = (_, refl)
-told_kind Internal other = (_, refl)
-told_kind Unimplemented other = (_, refl)
-told_kind InvalidEscape other = (_, refl)
-told_kind NoMemory other = absurd (other refl)
-
--- an answer that shows an error
-pub shown_answer : (error : ParseError) (source words : List ℕ) (answer : Answer) → (kind_of error ≡ NoMemory → ⊥) → words ≡ encode_utf8_all (shown_with error (chars source)) →
-    string_bytes answer.text ≡ codes "err " ++ (words ++ line_end) → answer.is_err ≡ true → IsFaultAnswer error source answer
-shown_answer error source words answer other words_are text err =
-    let (kind, told) = told_kind (kind_of error) other in
-    let shown_is : words ≡ encode_utf8_all (shown kind (offset_in error) (chars source)) = words_are ∙ ap (λ t. encode_utf8_all (shown_as t (offset_in error) (chars source))) told in
-    record { kind = kind; told = told; text = text ∙ ap (λ w. codes "err " ++ (w ++ line_end)) shown_is; err = err }

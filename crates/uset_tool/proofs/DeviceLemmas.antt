@@ -1,5 +1,5 @@
 -- What was taken and what was written so far.
-use Rattle.std.proofs.Common.{◌≡◌, ℕ, ◌+◌, ◌<◌, ◌≤◌, List, ◌++◌, take, drop, length, Option, None, Some, IfSome, IfErr, Result, Ok, Err, sym, ap, ◌∙◌, inl, inr, append_assoc, length-append, arith}
+use Rattle.std.proofs.Common.{◌≡◌, ℕ, ◌+◌, ◌<◌, ◌≤◌, List, ◌++◌, take, drop, length, Option, None, Some, IfSome, IfErr, Result, Ok, Err, sym, ap, ◌∙◌, append_assoc, length-append, arith}
 use Rattle.std.proofs.lemmas.List.{take-append-drop}
 use Rattle.std.proofs.Math.Seq.{drop-append_seam, drop-append-add}
 use Rattle.uset_tool.specs.declared.sink.WriteError.{WriteError}
@@ -7,12 +7,7 @@ use Rattle.uset_tool.specs.declared.source.Failed.{Failed}
 use Rattle.uset_tool.specs.declared.input.InputError.{InputError}
 use Rattle.uset_tool.specs.declared.input.InputError.TheVariants.{NoMemory}
 use Rattle.std.specs.Result.{IsErrAnd}
-use Rattle.uset_tool.specs.Device.{limit, Rose, ReadsFront, WritesFront, Appends, TookFront, Stops}
-
--- the count rose within a longer time
-pub Rose-within : (a b c d : ℕ) → a ≤ b → Rose b c → c ≤ d → Rose a d
-Rose-within a b c d before (inl h) after = inl (omega arith)
-Rose-within a b c d before (inr h) after = inr (omega arith)
+use Rattle.uset_tool.specs.Device.{limit, ReadsFront, WritesFront, Appends, TookFront, Stops}
 
 -- a front of the text is written, and the rest is to come
 pub record Written (old now : Option (List ℕ)) (text rest : List ℕ) : Type 0 where

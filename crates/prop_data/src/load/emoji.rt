@@ -11,13 +11,11 @@ use crate::database::PropertyDatabase;
 use crate::error::{LoadError, TableErrorKind, fault};
 use crate::line::Row;
 use crate::load::OpenTable;
-use crate::load::strings::Strings;
 use crate::numbers::range;
 use crate::row::range_fault;
 use crate::string::{braced, has_surrogate, spelled_numbers, text_of};
 use cp_invlist::{CodePointInversionListBuilder, NoMemory};
-use cp_strset::CodePointInversionListAndStringList;
-use cp_strset::laws::faultless;
+use cp_strset::Strings;
 use prop_binary::EmojiTable;
 use std::alloc::Global;
 
@@ -120,12 +118,7 @@ impl OpenEmoji {
     ) -> Result<(), NoMemory>
         ensures { OnOk result (TakesFinished (OpenTable.Emoji self) database.old database.new) }
     {
-        let strings = self.strings.into_list(alloc)?;
-        faultless();
-        let Ok(set) = CodePointInversionListAndStringList::try_from(self.builder.build(), strings)
-        else {
-            unreachable!()
-        };
+        let set = self.strings.into_set(alloc, self.builder.build())?;
         database.insert_emoji(self.table, set)
     }
 }

@@ -3,13 +3,14 @@ use Rattle.std.proofs.lemmas.List.{append-nil}
 use Rattle.cp_invlist.specs.InversionList.{contains}
 use Rattle.cp_invlist.specs.Ranges.{AreMaximalRanges}
 use Rattle.uset_gather.specs.Painting.{in_some}
-use Rattle.uset_gather.proofs.RangesLemmas.{or_none, set_spelled, spelled_more, joined_more}
+use Rattle.uset_gather.proofs.RangesLemmas.{set_spelled, spelled_more, joined_more}
 use Rattle.uset_gather.proofs.run.put_aside.Goals as goal
+use Rattle.std.proofs.Math.Bool.{or-false}
 
 pub loop-range-init : goal.loop-range-init
 loop-range-init c = (
   rw c.into_iter-range-iterator.ensures.into_iter_gives c.iter_ranges-range-items.ensures.maximal,
-  λ d. ap (λ rs. in_some rs d) c.in_ok-reserve.ensures.items ∙ sym (or_none (in_some c.args.aside.now.items d)),
+  λ d. ap (λ rs. in_some rs d) c.in_ok-reserve.ensures.items ∙ sym (or-false (in_some c.args.aside.now.items d)),
 )
 
 pub loop-range-preserved : goal.loop-range-preserved
@@ -27,4 +28,4 @@ returns c =
     let all = subst (AreMaximalRanges (contains c.args.set.now)) (ap (λ rs. given ++ rs) c.in-None.ensures.steps.0 ∙ append-nil given) c.loop-range.invariant.0 in
     λ d. c.loop-range.invariant.1 d
     ∙ ap (λ b. in_some c.args.aside.now.items d || b)
-    (set_spelled c.args.set.now given (λ n. c.members_are_code_points.ensures c.args.set.now n c.get_inversion_list.ensures.canonical) all d)
+    (set_spelled c.args.set.now given d (c.ranges_hold_members.ensures _ given all d) (c.members_are_code_points.ensures c.args.set.now d c.get_inversion_list.ensures.canonical))

@@ -1,13 +1,11 @@
-use Rattle.std.proofs.Common.{◌≡◌, ℕ, ◌||◌}
-use Rattle.cp_invlist.specs.InversionList.{contains}
+use Rattle.std.proofs.Common.{◌≡◌, ℕ, ◌&&◌, ◌++◌}
+use Rattle.cp_invlist.specs.InversionList.{contains, is_code_point}
+use Rattle.cp_invlist.specs.Ranges.{in_ranges}
 use Rattle.prop_query.specs.Maps.{is_in_group}
-use Rattle.prop_query.proofs.PassingLemmas.{lies_in}
 use Rattle.prop_query.proofs.map.CodePointMapDataBorrowed+GeneralCategory.get_set_for_value_group.Given as goal
 
--- the set so far and the ranges that are left have the members of the group
+-- the set so far has the code points of the ranges so far, and all ranges together hold those of the group
 abbrev pub invariant-loop-range : goal.invariant-loop-range
-invariant-loop-range l = record {
-  can_next : (goal.iterator-loop-range).can_next l.range-iterator;
-  is_finite : (goal.iterator-loop-range).is_finite l.range-iterator;
-  gathered : (c : ℕ) → (contains l.builder c || lies_in l.range-iterator c) ≡ is_in_group l.self.trie.now l.fn.value c;
-}
+invariant-loop-range l =
+    ((c : ℕ) → contains l.builder c ≡ (in_ranges l.yielded c && is_code_point c))
+    × ((c : ℕ) → in_ranges (l.yielded ++ l.range-iterator) c ≡ is_in_group l.self.trie.now l.fn.value c)

@@ -12,4 +12,4 @@ pub returns : goal.returns
 returns c =
     let same = encodes-chars (string_bytes c.args.text) (IsUtf8-string_bytes c.args.text) in
     on_ok_weaker c.insert.result (λ h. each_member _ (λ d. or_nothing (in_painting c.args.self.now.code_points d))
-    (λ bytes. h bytes ∙ ap (λ text. contains_text c.args.self.now.strings bytes || bytes_eq text bytes) (sym same))) c.insert.ensures
+    (λ bytes. h bytes ∙ ap (λ text. contains_text c.args.self.now.strings bytes || bytes_eq text bytes) (sym same))) c.insert.ensures.ok

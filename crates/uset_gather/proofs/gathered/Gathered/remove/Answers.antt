@@ -4,8 +4,8 @@ use Rattle.std.specs.BTreeSet.{contains_text}
 use Rattle.cp_invlist.specs.InversionList.{contains}
 use Rattle.uset_gather.proofs.GatheredLemmas.{each_member}
 use Rattle.uset_gather.proofs.PaintingLemmas.{not_outside}
-use Rattle.uset_gather.proofs.StringsLemmas.{and_true}
 use Rattle.uset_gather.proofs.gathered.Gathered.remove.Goals as goal
+use Rattle.std.proofs.Math.Bool.{and-true}
 
 pub returns-in-Complement : goal.returns-in-Complement
 returns-in-Complement c =
@@ -13,4 +13,4 @@ returns-in-Complement c =
     let set = c.list-in-Complement.result.now in
     rw (c.in-Complement.is, sym c.list-in-Complement.ensures) (on_ok_weaker c.retain_set.result (λ h.
     each_member _ (λ d. h d ∙ sym (not_outside old.code_points d (contains set d)))
-    (λ bytes. sym (and_true (contains_text old.strings bytes)))) c.retain_set.ensures)
+    (λ bytes. sym (and-true (contains_text old.strings bytes)))) c.retain_set.ensures)

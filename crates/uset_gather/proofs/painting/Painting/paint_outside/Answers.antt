@@ -2,13 +2,14 @@ use Rattle.std.proofs.Common.{◌||◌, [], ◌∷◌, ◌++◌, sym, ap, ◌∙
 use Rattle.std.proofs.lemmas.List.{append-nil}
 use Rattle.cp_invlist.specs.Ranges.{AreMaximalRanges, is_outside}
 use Rattle.uset_gather.specs.Painting.{in_painting}
-use Rattle.uset_gather.proofs.RangesLemmas.{or_none, outside_spelled, joined_more}
+use Rattle.uset_gather.proofs.RangesLemmas.{outside_spelled, joined_more}
 use Rattle.uset_gather.proofs.painting.Painting.paint_outside.Goals as goal
+use Rattle.std.proofs.Math.Bool.{or-false}
 
 pub loop-range-init : goal.loop-range-init
 loop-range-init c = (
   rw c.into_iter-range-iterator.ensures.into_iter_gives c.iter_ranges_complemented-range-items.ensures.maximal,
-  λ d. sym (or_none (in_painting c.args.self.now d)),
+  λ d. sym (or-false (in_painting c.args.self.now d)),
 )
 
 pub loop-range-preserved : goal.loop-range-preserved
@@ -23,4 +24,4 @@ pub returns : goal.returns
 returns c =
     let given = c.loop-range.yielded in
     let all = subst (AreMaximalRanges (is_outside c.args.set.now)) (ap (λ rs. given ++ rs) c.in-None.ensures.steps.0 ∙ append-nil given) c.loop-range.invariant.0 in
-    λ d. c.loop-range.invariant.1 d ∙ ap (λ b. in_painting c.args.self.now d || b) (outside_spelled c.args.set.now given all d)
+    λ d. c.loop-range.invariant.1 d ∙ ap (λ b. in_painting c.args.self.now d || b) (outside_spelled c.args.set.now given d (c.ranges_hold_members.ensures _ given all d))

@@ -61,6 +61,6 @@ returns c =
       refl,
       λ d. or_none (contains c.args.self.now.builder d),
       λ bytes.
-          c.in_ok-insert.ensures bytes
+          c.in_ok-insert.ensures.ok bytes
           ∙ ap (λ (o : Option (List ℕ)). contains_text c.args.self.now.strings bytes || is_text o bytes) (sym text_told),
     )

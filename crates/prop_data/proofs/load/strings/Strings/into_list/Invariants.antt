@@ -1,5 +1,0 @@
-use Rattle.std.proofs.Common.{◌≡◌, ◌++◌}
-use Rattle.prop_data.proofs.load.strings.Strings.into_list.Given as goal
-
-abbrev pub invariant-loop-text : goal.invariant-loop-text
-invariant-loop-text l = l.list.items ++ l.text-iterator ≡ l.fn.self.keys
