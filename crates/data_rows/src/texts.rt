@@ -2,10 +2,12 @@
 use crate::fixtures::{
     EVERY_KIND, Faulty, Map, Row, assert_equal, assert_faults, assert_rows, table_of,
 };
+use cp_invlist::NoMemory;
 use prop_data::{
     MapTable, PropertyDatabase, PropertyEnumToValueNameLinearMap, PropertyEnumToValueNameLookup,
     TableErrorKind,
 };
+use prop_names::NamesByNumber;
 use std::alloc::{AllocError, Global};
 
 /// The table that is asked.
@@ -239,6 +241,37 @@ fn wrong_in_list(alloc: Global) -> Result<Option<u32>, AllocError> {
 #[test]
 fn names_are_listed_by_their_numbers(rt: HostRuntime) {
     assert_equal(&rt, wrong_in_list(rt.alloc()), Ok(None));
+}
+
+/// The names of two numbers, of which one was given anew.
+fn numbered(alloc: Global) -> Result<NamesByNumber, NoMemory> {
+    let mut names = NamesByNumber::new(alloc);
+    for (number, name) in [(7, "g"), (u32::MAX, "x"), (7, "G")] {
+        names.insert(number, String::from_str(alloc, name)?)?;
+    }
+    Ok(names)
+}
+
+/// The first number that has another name among them.
+fn wrong_among(names: &NamesByNumber) -> Option<u32> {
+    for (number, name) in [(7, Some("G")), (8, None), (u32::MAX, Some("x"))] {
+        if names.get(number) != name || names.contains_key(number) != name.is_some() {
+            return Some(number);
+        }
+    }
+    None
+}
+
+/// The first number that has another name among them or in a copy.
+fn wrong_among_copied(alloc: Global) -> Result<Option<u32>, NoMemory> {
+    let names = numbered(alloc)?;
+    let copy = names.copy()?;
+    Ok(wrong_among(&names).or(wrong_among(&copy)))
+}
+
+#[test]
+fn names_are_found_by_their_numbers(rt: HostRuntime) {
+    assert_equal(&rt, wrong_among_copied(rt.alloc()), Ok(None));
 }
 
 /// Names that are none, a second name of a value, and numbers of no value.

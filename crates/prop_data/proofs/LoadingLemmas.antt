@@ -16,8 +16,9 @@ use Rattle.prop_data.specs.declared.load.OpenTable.{OpenTable}
 use Rattle.prop_data.specs.declared.load.OpenTable.TheVariants.{Set, Map, Names, Texts, Emoji, Scripts, List as Listed}
 use Rattle.prop_data.specs.declared.load.texts.Length.{Length}
 use Rattle.prop_data.specs.declared.load.texts.Length.TheVariants.{Long, Short}
-use Rattle.prop_data.specs.Loading.{table_seen, last_seen, values_of, tables_with, tables_begun, tables_grown, with_text, table_of_length, has_subtags, emoji_read, emoji_with, scripts_read, list_read, list_with, IsNew, TakesRow, TakesEmoji}
-use Rattle.prop_names.specs.ValueNames.{text_at}
+use Rattle.prop_data.specs.Lengths.{has_subtags}
+use Rattle.prop_data.specs.Loading.{table_seen, last_seen, values_of, tables_with, tables_begun, tables_grown, with_text, table_of_length, emoji_read, emoji_with, scripts_read, list_read, list_with, IsNew, TakesRow, TakesEmoji}
+use Rattle.prop_names.specs.ValueNameTables.{name_at}
 use Rattle.prop_data.specs.Changes.{with_set, with_map, with_names, with_texts, with_emoji, with_scripts, with_list}
 use Rattle.prop_data.specs.Headers.{set_table, map_table, names_table, emoji_table, scx_table, ext_table}
 use Rattle.prop_data.specs.Line.{Row}
@@ -53,7 +54,7 @@ tables_with-new (Map o) base tables new same =
     ap (λ rs. with_map o.table (λ c. cond (nat_lt 0x10_FFFF c) (default_number o.table) (value_in rs o.builder.default c)) base) new.0
     ∙ ap (with_map o.table (value_outside o.table o.builder.default)) same
 tables_with-new (Names o) base tables new same = ap (λ b. with_names o.table b base) new ∙ ap (with_names o.table []) same
-tables_with-new (Texts o) base tables new same = tables_with-new_texts o.length o.table (text_at o.texts) base tables new same
+tables_with-new (Texts o) base tables new same = tables_with-new_texts o.length o.table (name_at o.texts) base tables new same
 tables_with-new (Scripts o) base tables new same =
     ap₂ (λ (rs : List (CodePointMapRange ℕ)) (xs : List ℕ). with_scripts (record { values = λ c. cond (nat_lt 0x10_FFFF c) (default_number 4) (value_in rs o.builder.default c); named = xs }) base) new.0 new.2
     ∙ ap (with_scripts (record { values = value_outside 4 o.builder.default; named = o.builder.default ∷ [] })) same

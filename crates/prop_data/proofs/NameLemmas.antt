@@ -1,15 +1,17 @@
 -- Rows of tables of names.
-use Rattle.std.proofs.Common.{◌≡◌, ℕ, ◌<◌, Bool, true, false, not, nat_eq, List, [], ◌∷◌, All, is_some, Option, Some, None, unwrap_or, cond, refl, sym, ap, ◌∙◌, arith}
+use Rattle.std.proofs.Common.{◌≡◌, ℕ, ◌<◌, Bool, true, false, not, nat_eq, List, length, [], ◌∷◌, All, is_some, Option, Some, None, unwrap_or, cond, refl, sym, ap, ◌∙◌, arith}
 use Rattle.std.proofs.lemmas.Bool.Decides.{nat_tests}
 use Rattle.std.proofs.lemmas.Bool.{and_parts}
 use Rattle.std.proofs.lemmas.List.Elements.{All-nil, All-cons}
 use Rattle.prop_names.specs.Names.{Names}
+use Rattle.prop_names.specs.ValueNames.{not_empty}
 use Rattle.prop_data.specs.declared.error.TableErrorKind.TheVariants.{BadName, NamesClash}
 use Rattle.prop_values.specs.Subtag.{is_four_letters, in_subtag_case}
 use Rattle.prop_data.specs.Headers.{names_table, long_table, short_table}
 use Rattle.prop_data.specs.declared.load.texts.Length.{Length}
 use Rattle.prop_data.specs.declared.load.texts.Length.TheVariants.{Long, Short}
-use Rattle.prop_data.specs.Loading.{table_of_length, has_subtags, last_after}
+use Rattle.prop_data.specs.Lengths.{has_subtags}
+use Rattle.prop_data.specs.Loading.{table_of_length, last_after}
 use Rattle.prop_data.specs.Rows.{as_kept, is_subtags}
 use Rattle.prop_data.specs.Changes.{with_names, with_texts}
 use Rattle.prop_data.specs.Line.{Row}
@@ -76,10 +78,32 @@ kept_of-as_kept s text kept h = by_test (is_name text) s h
     subtag true h = cc
     subtag false h = cc
 
-    by_test : (b s : Bool) → Some kept ≡ cond (not b) None (cond s (cond (is_four_letters text) (Some (in_subtag_case text)) None) (Some text)) → kept ≡ as_kept s text
+    same : (t : List ℕ) → Some kept ≡ not_empty t → kept ≡ t
+    same [] h = cc
+    same (c ∷ cs) h = cc
+
+    by_test : (b s : Bool) → Some kept ≡ cond (not b) None (cond s (cond (is_four_letters text) (Some (in_subtag_case text)) None) (not_empty text)) → kept ≡ as_kept s text
     by_test false s h = cc
     by_test true true h = subtag (is_four_letters text) h
-    by_test true false h = cc
+    by_test true false h = same text h
+
+-- no name that is kept is empty
+pub kept_of-filled : (s : Bool) (text kept : List ℕ) → Some kept ≡ kept_of s text → 0 < length kept
+kept_of-filled s text kept h = by_test (is_name text) s h
+  where
+    filled : (t : List ℕ) → Some kept ≡ not_empty t → 0 < length kept
+    filled [] h = absurd (let g = h in cc)
+    filled (c ∷ cs) h = let same : kept ≡ c ∷ cs = cc in omega (arith, ap length same)
+
+    subtag : (t : List ℕ) (b : Bool) → is_four_letters t ≡ b → Some kept ≡ cond b (Some (in_subtag_case t)) None → 0 < length kept
+    subtag t false is h = absurd (let g = h in cc)
+    subtag [] true is h = absurd (let g = is in cc)
+    subtag (x ∷ xs) true is h = let same : kept ≡ in_subtag_case (x ∷ xs) = cc in omega (arith, ap length same)
+
+    by_test : (b s : Bool) → Some kept ≡ cond (not b) None (cond s (cond (is_four_letters text) (Some (in_subtag_case text)) None) (not_empty text)) → 0 < length kept
+    by_test false s h = absurd (let g = h in cc)
+    by_test true true h = subtag text (is_four_letters text) refl h
+    by_test true false h = filled text h
 
 pub text_fault-bad_name : (s : Bool) (t n : ℕ) (texts : ℕ → Option (List ℕ)) (text : List ℕ) → accepts_value t n ≡ true → kept_of s text ≡ None → text_fault s t texts n text ≡ Some BadName
 text_fault-bad_name s t n texts text taken bad = rw (taken, bad) refl

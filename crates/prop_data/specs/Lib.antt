@@ -3,6 +3,7 @@ pub mod Strings
 pub mod Line
 pub mod Headers
 pub mod Rows
+pub mod Lengths
 pub mod Tables
 pub mod Extensions
 pub mod LinesAbove

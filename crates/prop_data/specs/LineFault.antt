@@ -4,6 +4,7 @@ use Rattle.std.specs.List.{list_any, list_all}
 use Rattle.std.specs.Char.{is_ascii_alphanumeric}
 use Rattle.prop_names.specs.Folding.{stored_folding}
 use Rattle.prop_names.specs.Names.{Names, value_of_folding}
+use Rattle.prop_names.specs.ValueNames.{not_empty}
 use Rattle.prop_values.specs.ScriptWithExt.{kind_of}
 use Rattle.prop_values.specs.Subtag.{is_four_letters, in_subtag_case}
 use Rattle.prop_values.specs.Tables.{accepts, accepts_name_of}
@@ -118,7 +119,7 @@ abbrev pub kept_of : Bool → List ℕ → Option (List ℕ)
 kept_of is_subtag text =
     if not (is_name text) then None
     else if is_subtag then (if is_four_letters text then Some (in_subtag_case text) else None)
-    else Some text
+    else not_empty text
 
 abbrev pub kept_fault : Bool → Option (List ℕ) → Option TableErrorKind
 kept_fault is_there None = Some BadName

@@ -4,7 +4,7 @@ use Rattle.std.specs.Option.{option_copied}
 use Rattle.cp_invlist.specs.InversionList.{contains}
 use Rattle.cp_trie.specs.Runs.{value_in}
 use Rattle.prop_names.specs.Names.{with_name}
-use Rattle.prop_names.specs.ValueNames.{text_at}
+use Rattle.prop_names.specs.ValueNameTables.{name_at}
 use Rattle.prop_values.specs.Tables.{default_number}
 use Rattle.prop_data.specs.declared.database.PropertyDatabase.{PropertyDatabase}
 use Rattle.prop_data.specs.declared.line.Header.{Header as CodeHeader}
@@ -67,11 +67,6 @@ abbrev pub table_of_length : Length → ℕ → Table
 table_of_length Long t = long_table t
 table_of_length Short t = short_table t
 
--- the names of this length are subtags
-abbrev pub has_subtags : Length → ℕ → Bool
-has_subtags Long t = false
-has_subtags Short t = is_subtags t
-
 -- the table that is open
 abbrev pub table_seen : OpenTable → Table
 table_seen (Set o) = set_table o.table
@@ -113,7 +108,7 @@ tables_with None tables = tables
 tables_with (Some (Set o)) tables = with_set o.table (contains o.builder) tables
 tables_with (Some (Map o)) tables = with_map o.table (values_of o) tables
 tables_with (Some (Names o)) tables = with_names o.table o.builder tables
-tables_with (Some (Texts o)) tables = with_texts o.length o.table (text_at o.texts) tables
+tables_with (Some (Texts o)) tables = with_texts o.length o.table (name_at o.texts) tables
 tables_with (Some (Emoji o)) tables = with_emoji o.table (emoji_read o) tables
 tables_with (Some (Scripts o)) tables = with_scripts (scripts_read o) tables
 tables_with (Some (Listed o)) tables = with_list o.index (list_read o) tables
@@ -211,7 +206,7 @@ abbrev pub IsNew : OpenTable → Type 0
 IsNew (Set o) = (o.builder ≡ []) × (o.last ≡ None)
 IsNew (Map o) = (o.builder.runs.items ≡ []) × (o.builder.last ≡ None)
 IsNew (Names o) = o.builder ≡ []
-IsNew (Texts o) = (n : ℕ) → text_at o.texts n ≡ None
+IsNew (Texts o) = (n : ℕ) → name_at o.texts n ≡ None
 IsNew (Scripts o) = (o.builder.runs.items ≡ []) × (o.builder.last ≡ None) × (o.named.items ≡ o.builder.default ∷ [])
 IsNew (Listed o) = (o.scripts.items ≡ first_scripts o.script) × (o.last ≡ None)
 IsNew (Emoji o) = (o.builder ≡ []) × (o.last ≡ None) × ((bytes : List ℕ) → contains_text o.strings bytes ≡ false)

@@ -20,7 +20,7 @@ use cp_strset::CodePointInversionListAndStringList;
 use cp_trie::CodePointTrie;
 use prop_binary::{EmojiTable, SetTable};
 use prop_names::{
-    PropertyEnumToValueNameLinearMap, PropertyEnumToValueNameSparseMap,
+    NamesByNumber, PropertyEnumToValueNameLinearMap, PropertyEnumToValueNameSparseMap,
     PropertyScriptToIcuScriptMap, PropertyValueNameToEnumMap,
 };
 use prop_values::{MapTable, NamesTable, ScriptWithExt};
@@ -66,15 +66,16 @@ impl Drop for PropertyDatabase {
 }
 
 impl PropertyDatabase {
-    ghost use Rattle.std.specs.Prelude.{◌≡◌, nat_eq, ◌||◌, if◌then◌else◌, None, is_some, option_map, OnOk, IfOk, IfErr, IfSome};
+    ghost use Rattle.std.specs.Prelude.{◌≡◌, nat_eq, ◌||◌, if◌then◌else◌, true, None, is_some, option_map, OnOk, IfOk, IfErr, IfSome};
     ghost use Rattle.std.specs.Option.{option_copied};
     ghost use Rattle.text_lines.specs.Lines.{lines};
     ghost use Rattle.cp_invlist.specs.InversionList.{contains};
     ghost use Rattle.prop_data.specs.Accepted.{AreAccepted};
     ghost use Rattle.prop_data.specs.Forbidden.{IsAllowed, AreAllowed};
     ghost use Rattle.cp_trie.specs.Map.{value_at};
-    ghost use Rattle.prop_names.specs.ValueNames.{text_at};
-    ghost use Rattle.prop_names.specs.ValueNameTables.{linear_text, sparse_text, subtag_text};
+    ghost use Rattle.prop_names.specs.Subtags.{AreSubtags};
+    ghost use Rattle.prop_data.specs.Rows.{is_subtags};
+    ghost use Rattle.prop_names.specs.ValueNameTables.{linear_text, name_at, sparse_text, subtag_text};
     ghost use Rattle.prop_data.specs.Changes.{no_tables, with_set, with_map, with_names, with_texts, with_emoji, with_scripts, with_list};
     ghost use Rattle.prop_data.specs.Database.{set_of, map_of, names_of, long_of, short_of, emoji_of, emoji_seen, scripts_of, list_at, tables_of, IsFault};
     ghost use Rattle.prop_data.specs.Counts.{table_count};
@@ -161,9 +162,9 @@ impl PropertyDatabase {
     pub(crate) fn insert_long(
         &mut self,
         table: MapTable,
-        texts: BTreeMap<u32, String>,
+        texts: NamesByNumber,
     ) -> Result<(), NoMemory>
-        ensures { OnOk result (tables_of self.new ≡ with_texts Length.Long table (text_at texts) (tables_of self.old)) }
+        ensures { OnOk result (tables_of self.new ≡ with_texts Length.Long table (name_at texts) (tables_of self.old)) }
     {
         if table == MapTable::CANONICAL_COMBINING_CLASS {
             self.long_ccc = Some(PropertyEnumToValueNameSparseMap::from_ordered(texts));
@@ -172,14 +173,15 @@ impl PropertyDatabase {
         keep_linear(&mut self.long_linear, table, texts)
     }
 
-    /// Keeps the short names as the table's.
+    /// Keeps the short names as the table's. Those of scripts are subtags.
     pub(crate) fn insert_short(
         &mut self,
         table: MapTable,
-        texts: BTreeMap<u32, String>,
+        texts: NamesByNumber,
     ) -> Result<(), NoMemory>
+        requires { is_subtags table ≡ true → AreSubtags texts }
         ensures { OnOk result
-            (tables_of self.new ≡ with_texts Length.Short table (text_at texts) (tables_of self.old)) }
+            (tables_of self.new ≡ with_texts Length.Short table (name_at texts) (tables_of self.old)) }
     {
         if table == MapTable::CANONICAL_COMBINING_CLASS {
             self.short_ccc = Some(PropertyEnumToValueNameSparseMap::from_ordered(texts));

@@ -22,7 +22,7 @@ pub use error::{LoadError, TableError, TableErrorKind};
 pub use named::{LinearlyNamedProperty, NamedEnumeratedProperty};
 pub use prop_binary::{EmojiTable, SetTable};
 pub use prop_names::{
-    PropertyEnumToValueNameLinearMap, PropertyEnumToValueNameLookup,
+    NamesByNumber, PropertyEnumToValueNameLinearMap, PropertyEnumToValueNameLookup,
     PropertyEnumToValueNameSparseMap, PropertyScriptToIcuScriptMap, PropertyValueNameToEnumMap,
 };
 pub use prop_values::{MapTable, NamesTable, ParseableEnumeratedProperty};

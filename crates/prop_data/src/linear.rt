@@ -2,11 +2,10 @@
 ghost use Rattle.std.specs.Prelude.{◌≡◌, ℕ, nat_eq, Some, OnOk, option_map, if◌then◌else◌};
 ghost use Rattle.std.specs.BTreeMap.{get};
 ghost use Rattle.std.specs.Ordering.{nat_cmp};
-ghost use Rattle.prop_names.specs.ValueNames.{text_at};
-ghost use Rattle.prop_names.specs.ValueNameTables.{linear_text};
+ghost use Rattle.prop_names.specs.ValueNameTables.{linear_text, name_at};
 
 use cp_invlist::NoMemory;
-use prop_names::PropertyEnumToValueNameLinearMap;
+use prop_names::{NamesByNumber, PropertyEnumToValueNameLinearMap};
 use prop_values::MapTable;
 use std::collections::BTreeMap;
 
@@ -14,10 +13,10 @@ use std::collections::BTreeMap;
 pub(crate) fn keep_linear(
     tables: &mut BTreeMap<u8, PropertyEnumToValueNameLinearMap>,
     table: MapTable,
-    names: BTreeMap<u32, String>,
+    names: NamesByNumber,
 ) -> Result<(), NoMemory>
     ensures { OnOk result ((t : ℕ) → option_map linear_text (get nat_cmp tables.new t) ≡
-        (if nat_eq table t then Some (text_at names) else option_map linear_text (get nat_cmp tables.old t))) }
+        (if nat_eq table t then Some (name_at names) else option_map linear_text (get nat_cmp tables.old t))) }
 {
     let names = PropertyEnumToValueNameLinearMap::from_ordered(names);
     tables.insert(table.number(), names)?;

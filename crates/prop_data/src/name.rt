@@ -1,6 +1,7 @@
 //! The characters of names.
-ghost use Rattle.std.specs.Prelude.{◌≡◌, IfOk, option_map};
+ghost use Rattle.std.specs.Prelude.{◌≡◌, true, Some, IfOk, IfSome, option_map};
 ghost use Rattle.std.specs.String.{string_bytes};
+ghost use Rattle.prop_names.specs.ValueNames.{subtag_of};
 ghost use Rattle.prop_data.specs.LineFault.{is_name_character, is_name, kept_of};
 
 use cp_invlist::NoMemory;
@@ -28,9 +29,11 @@ pub(crate) fn kept_name(
     is_subtag: bool,
     text: &[u8],
 ) -> Result<Option<String>, NoMemory>
-    ensures { IfOk result (λ name. option_map string_bytes name ≡ kept_of is_subtag text.now) }
+    ensures kept { IfOk result (λ name. option_map string_bytes name ≡ kept_of is_subtag text.now) }
+    ensures subtag { is_subtag ≡ true → IfOk result (λ name.
+        IfSome name (λ n. subtag_of (string_bytes n) ≡ Some (string_bytes n))) }
 {
-    if !is_name(text) {
+    if text.is_empty() || !is_name(text) {
         return Ok(None);
     }
     let name = ascii_text(alloc, text)?;

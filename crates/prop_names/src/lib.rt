@@ -2,6 +2,7 @@
 #![tactic(auto)]
 
 mod builder;
+mod by_number;
 mod folding;
 mod list;
 mod map;
@@ -9,6 +10,7 @@ mod texts;
 mod value_names;
 
 pub use builder::NamesBuilder;
+pub use by_number::NamesByNumber;
 pub use folding::{ascii_text, stored_folding};
 pub use map::PropertyValueNameToEnumMap;
 pub use value_names::{

@@ -1,22 +1,24 @@
 //! The tables that find the name of a value.
-ghost use Rattle.std.specs.Prelude.{◌≡◌, ℕ, List, Option, option_and_then, map, IfOk};
+ghost use Rattle.std.specs.Prelude.{◌≡◌, ◌<◌, ℕ, List, Option, length, map, IfOk, IfSome};
 ghost use Rattle.std.specs.Option.{option_copied};
 ghost use Rattle.std.specs.String.{string_bytes};
+ghost use Rattle.prop_names.specs.Subtags.{AreSubtags};
 
-use crate::texts::{copy_listed, copy_ordered, listed, ordered};
+use crate::by_number::NamesByNumber;
+use crate::texts::{copy_listed, listed};
 use cp_invlist::NoMemory;
 use prop_values::Subtag;
 use std::alloc::Global;
-use std::collections::BTreeMap;
 
 /// A table of names by the numbers of the values.
 pub trait PropertyEnumToValueNameLookup {
     /// The name of a number, if it has one.
     ghost name_of: { Self → ℕ → Option (List ℕ) };
 
-    /// The name of the value with this number.
+    /// The name of the value with this number. An empty text is no name.
     fn get(&self, prop: u32) -> Option<&str>
-        ensures { option_copied result ≡ name_of self.now prop };
+        ensures value { option_copied result ≡ name_of self.now prop }
+        ensures filled { IfSome result (λ name. 0 < length name.now) };
 
     /// The same names.
     fn copy(&self, alloc: Global) -> Result<Self, NoMemory>
@@ -28,7 +30,7 @@ pub trait PropertyEnumToValueNameLookup {
 /// Names by number: as a list, where an empty text is none, or in the order of the numbers that have one.
 pub(crate) enum LinearNames {
     Listed(Vec<String>),
-    Ordered(BTreeMap<u32, String>),
+    Ordered(NamesByNumber),
 }
 
 // By hand, so that letting a value go is one call in each proof.
@@ -48,8 +50,8 @@ pub struct PropertyEnumToValueNameLinearMap {
 }
 
 impl PropertyEnumToValueNameLinearMap {
-    ghost use Rattle.prop_names.specs.ValueNames.{listed_at, text_at};
-    ghost use Rattle.prop_names.specs.ValueNameTables.{linear_text};
+    ghost use Rattle.prop_names.specs.ValueNames.{listed_at};
+    ghost use Rattle.prop_names.specs.ValueNameTables.{linear_text, name_at};
 
     /// The table in which each text is the name of its index. An empty text is no name.
     pub fn from_names(names: Vec<String>) -> PropertyEnumToValueNameLinearMap
@@ -61,8 +63,8 @@ impl PropertyEnumToValueNameLinearMap {
     }
 
     /// The table of these names.
-    pub fn from_ordered(names: BTreeMap<u32, String>) -> PropertyEnumToValueNameLinearMap
-        ensures { (n : ℕ) → linear_text result n ≡ text_at names n }
+    pub fn from_ordered(names: NamesByNumber) -> PropertyEnumToValueNameLinearMap
+        ensures { (n : ℕ) → linear_text result n ≡ name_at names n }
     {
         PropertyEnumToValueNameLinearMap {
             names: LinearNames::Ordered(names),
@@ -78,14 +80,14 @@ impl PropertyEnumToValueNameLookup for PropertyEnumToValueNameLinearMap {
     fn get(&self, prop: u32) -> Option<&str> {
         match &self.names {
             LinearNames::Listed(names) => listed(names, prop as usize),
-            LinearNames::Ordered(names) => ordered(names, prop),
+            LinearNames::Ordered(names) => names.get(prop),
         }
     }
 
     fn copy(&self, alloc: Global) -> Result<PropertyEnumToValueNameLinearMap, NoMemory> {
         let names = match &self.names {
             LinearNames::Listed(names) => LinearNames::Listed(copy_listed(alloc, names)?),
-            LinearNames::Ordered(names) => LinearNames::Ordered(copy_ordered(names)?),
+            LinearNames::Ordered(names) => LinearNames::Ordered(names.copy()?),
         };
         Ok(PropertyEnumToValueNameLinearMap { names })
     }
@@ -94,16 +96,15 @@ impl PropertyEnumToValueNameLookup for PropertyEnumToValueNameLinearMap {
 /// The names of values of which few have one.
 #[derive(Drop)]
 pub struct PropertyEnumToValueNameSparseMap {
-    names: BTreeMap<u32, String>,
+    names: NamesByNumber,
 }
 
 impl PropertyEnumToValueNameSparseMap {
-    ghost use Rattle.prop_names.specs.ValueNames.{text_at};
-    ghost use Rattle.prop_names.specs.ValueNameTables.{sparse_text};
+    ghost use Rattle.prop_names.specs.ValueNameTables.{sparse_text, name_at};
 
     /// The table of these names.
-    pub fn from_ordered(names: BTreeMap<u32, String>) -> PropertyEnumToValueNameSparseMap
-        ensures { (n : ℕ) → sparse_text result n ≡ text_at names n }
+    pub fn from_ordered(names: NamesByNumber) -> PropertyEnumToValueNameSparseMap
+        ensures { (n : ℕ) → sparse_text result n ≡ name_at names n }
     {
         PropertyEnumToValueNameSparseMap { names }
     }
@@ -115,12 +116,12 @@ impl PropertyEnumToValueNameLookup for PropertyEnumToValueNameSparseMap {
     ghost name_of = { sparse_text };
 
     fn get(&self, prop: u32) -> Option<&str> {
-        ordered(&self.names, prop)
+        self.names.get(prop)
     }
 
     fn copy(&self, _alloc: Global) -> Result<PropertyEnumToValueNameSparseMap, NoMemory> {
         Ok(PropertyEnumToValueNameSparseMap {
-            names: copy_ordered(&self.names)?,
+            names: self.names.copy()?,
         })
     }
 }
@@ -128,25 +129,26 @@ impl PropertyEnumToValueNameLookup for PropertyEnumToValueNameSparseMap {
 /// The subtags of scripts.
 #[derive(Drop)]
 pub struct PropertyScriptToIcuScriptMap {
-    subtags: BTreeMap<u32, String>,
+    subtags: NamesByNumber,
+    ghost each: { AreSubtags subtags },
 }
 
 impl PropertyScriptToIcuScriptMap {
-    ghost use Rattle.prop_names.specs.ValueNames.{text_at, subtag_of};
-    ghost use Rattle.prop_names.specs.ValueNameTables.{subtag_text};
+    ghost use Rattle.prop_names.specs.ValueNameTables.{subtag_text, name_at};
 
     /// The table of these subtags.
-    pub fn from_ordered(subtags: BTreeMap<u32, String>) -> PropertyScriptToIcuScriptMap
-        ensures { (n : ℕ) → subtag_text result n ≡ text_at subtags n }
+    pub fn from_ordered(subtags: NamesByNumber) -> PropertyScriptToIcuScriptMap
+        requires { AreSubtags subtags }
+        ensures { (n : ℕ) → subtag_text result n ≡ name_at subtags n }
     {
         PropertyScriptToIcuScriptMap { subtags }
     }
 
     /// The subtag of the script with this number.
     pub fn get_script(&self, prop: u32) -> Option<Subtag>
-        ensures { result ≡ option_and_then subtag_of (subtag_text self.now prop) }
+        ensures { result ≡ subtag_text self.now prop }
     {
-        Subtag::try_from_str(ordered(&self.subtags, prop)?)
+        Subtag::try_from_str(self.subtags.get(prop)?)
     }
 }
 
@@ -156,12 +158,12 @@ impl PropertyEnumToValueNameLookup for PropertyScriptToIcuScriptMap {
     ghost name_of = { subtag_text };
 
     fn get(&self, prop: u32) -> Option<&str> {
-        ordered(&self.subtags, prop)
+        self.subtags.get(prop)
     }
 
     fn copy(&self, _alloc: Global) -> Result<PropertyScriptToIcuScriptMap, NoMemory> {
         Ok(PropertyScriptToIcuScriptMap {
-            subtags: copy_ordered(&self.subtags)?,
+            subtags: self.subtags.copy()?,
         })
     }
 }

@@ -5,7 +5,6 @@ ghost use Rattle.prop_data.specs.Database.{names_of, long_of, short_of};
 ghost use Rattle.prop_names.specs.Folding.{LacksSpacesAndHyphens};
 ghost use Rattle.prop_names.specs.Names.{exact, loose};
 ghost use Rattle.prop_names.specs.ValueNameTables.{subtag_text};
-ghost use Rattle.prop_names.specs.ValueNames.{subtag_of};
 ghost use Rattle.prop_query.specs.Answers.{NeedsTable, NeedsTableAndMemory};
 ghost use Rattle.prop_query.specs.Borrowed.{names_in, long_in, long_borrowed, short_in, short_borrowed, name_in};
 
@@ -367,7 +366,7 @@ impl PropertyNamesShortBorrowed<'_, Script> {
     /// The subtag of the script (RFC 5646, section 2.2.3), if it has a short name.
     pub fn get_locale_script(self, property: Script) -> Option<Subtag>
         ensures { result
-            ≡ option_and_then subtag_of (subtag_text (short_borrowed self.entry) property) }
+            ≡ subtag_text (short_borrowed self.entry) property }
     {
         self.names.get_script(property.to_u32())
     }

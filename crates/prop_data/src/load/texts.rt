@@ -1,9 +1,8 @@
 //! The table of one name for each value whose rows are being read.
-ghost use Rattle.std.specs.Prelude.{◌≡◌, ℕ, nat_eq, Some, None, is_some, OnOk, if◌then◌else◌};
-ghost use Rattle.std.specs.String.{string_bytes};
-ghost use Rattle.prop_names.specs.ValueNames.{text_at};
+ghost use Rattle.std.specs.Prelude.{◌≡◌, true};
+ghost use Rattle.prop_names.specs.Subtags.{AreSubtags};
 ghost use Rattle.prop_data.specs.Headers.{text_number};
-ghost use Rattle.prop_data.specs.Loading.{TakesRow, TakesFinished, row_seen, has_subtags};
+ghost use Rattle.prop_data.specs.Lengths.{has_subtags};
 
 use crate::database::PropertyDatabase;
 use crate::error::{LoadError, TableErrorKind, fault};
@@ -13,9 +12,9 @@ use crate::name::kept_name;
 use crate::numbers::decimal_number;
 use crate::value::accepted;
 use cp_invlist::NoMemory;
+use prop_names::NamesByNumber;
 use prop_values::MapTable;
 use std::alloc::Global;
-use std::collections::BTreeMap;
 
 /// Which names of values a table has.
 #[derive(Clone, Copy, Debug, PartialEq, Eq)]
@@ -50,20 +49,27 @@ pub(crate) struct OpenTexts {
     alloc: Global,
     table: MapTable,
     length: Length,
-    texts: BTreeMap<u32, String>,
+    texts: NamesByNumber,
+    ghost subtags: { has_subtags length table ≡ true → AreSubtags texts },
 }
 
 impl OpenTexts {
+    ghost use Rattle.std.specs.Prelude.{◌≡◌, ◌<◌, length as length_of, ℕ, nat_eq, true, Some, None, is_some, OnOk, if◌then◌else◌};
+    ghost use Rattle.std.specs.String.{string_bytes};
+    ghost use Rattle.prop_names.specs.ValueNames.{subtag_of};
+    ghost use Rattle.prop_names.specs.ValueNameTables.{name_at};
+    ghost use Rattle.prop_data.specs.Loading.{TakesRow, TakesFinished, row_seen};
+
     pub(crate) fn new(alloc: Global, table: MapTable, length: Length) -> OpenTexts
         ensures table { result.table ≡ table }
         ensures length { result.length ≡ length }
-        ensures texts { (n : ℕ) → text_at result.texts n ≡ None }
+        ensures texts { (n : ℕ) → name_at result.texts n ≡ None }
     {
         OpenTexts {
             alloc,
             table,
             length,
-            texts: BTreeMap::new(alloc),
+            texts: NamesByNumber::new(alloc),
         }
     }
 
@@ -93,20 +99,22 @@ impl OpenTexts {
 
     /// Whether the number has a name.
     fn has(&self, value: u32) -> bool
-        ensures { result ≡ is_some (text_at self.now.texts value) }
+        ensures { result ≡ is_some (name_at self.now.texts value) }
     {
-        self.texts.contains_key(&value)
+        self.texts.contains_key(value)
     }
 
     /// Keeps the name of the number.
     fn keep(&mut self, value: u32, name: String) -> Result<(), NoMemory>
+        requires filled { 0 < length_of (string_bytes name) }
+        requires subtag { has_subtags self.old.length self.old.table ≡ true →
+            subtag_of (string_bytes name) ≡ Some (string_bytes name) }
         ensures table { self.new.table ≡ self.old.table }
         ensures length { self.new.length ≡ self.old.length }
-        ensures texts { OnOk result ((n : ℕ) → text_at self.new.texts n ≡
-            (if nat_eq value n then Some (string_bytes name) else text_at self.old.texts n)) }
+        ensures texts { OnOk result ((n : ℕ) → name_at self.new.texts n ≡
+            (if nat_eq value n then Some (string_bytes name) else name_at self.old.texts n)) }
     {
-        self.texts.insert(value, name)?;
-        Ok(())
+        self.texts.insert(value, name)
     }
 
     /// Moves the names into the database.

@@ -20,20 +20,20 @@ not_empty-filled : (text : List ℕ) → false ≡ (length text == 0) → Some t
 not_empty-filled [] is = absurd (let f : false ≡ true = is in cc)
 not_empty-filled (c ∷ cs) is = refl
 
-pub returns-in_err-get : goal.returns-in_err-get
-returns-in_err-get c =
+pub returns-in_err-get-clause-value : goal.returns-in_err-get-clause-value
+returns-in_err-get-clause-value c =
     let past = c.in_err-get.ensures.lookup.3 in
     rw c.from_residual.ensures (sym (listed_as c.args.names.now c.args.index None (slice_get_past c.args.names.now c.args.index past)))
 
-pub returns-then-is_empty : goal.returns-then-is_empty
-returns-then-is_empty c =
+pub returns-then-is_empty-clause-value : goal.returns-then-is_empty-clause-value
+returns-then-is_empty-clause-value c =
     let found = c.in_ok-get.ensures.lookup in
     let names = c.args.names.now in
     not_empty-empty _ (rw (sym c.as_str-name.ensures.value) c.if-is_empty.ensures)
     ∙ sym (listed_as names c.args.index _ (slice_get_read names (length names) c.args.index _ refl found.3.0 found.1))
 
-pub returns-else-is_empty : goal.returns-else-is_empty
-returns-else-is_empty c =
+pub returns-else-is_empty-clause-value : goal.returns-else-is_empty-clause-value
+returns-else-is_empty-clause-value c =
     let found = c.in_ok-get.ensures.lookup in
     let names = c.args.names.now in
     rw c.as_str-name.ensures.value (not_empty-filled _ (rw (sym c.as_str-name.ensures.value) c.if-is_empty.ensures))

@@ -1,14 +1,15 @@
 use Rattle.std.proofs.Common.{◌≡◌, ℕ, Bool, List, Option, Some, None, is_some, option_map, unwrap_or, nat_eq, cond, ap, ap₂, sym, ◌∙◌}
 use Rattle.std.specs.Option.{option_copied}
 use Rattle.std.specs.String.{string_bytes}
-use Rattle.prop_names.specs.ValueNames.{text_at}
-use Rattle.prop_data.specs.Loading.{row_seen, has_subtags, table_of_length, with_text}
+use Rattle.prop_names.specs.ValueNameTables.{name_at}
+use Rattle.prop_data.specs.Lengths.{has_subtags}
+use Rattle.prop_data.specs.Loading.{row_seen, table_of_length, with_text}
 use Rattle.prop_data.specs.Changes.{with_texts}
 use Rattle.prop_data.specs.Rows.{as_kept, text_of, value_of}
 use Rattle.prop_data.specs.LineFault.{kept_of}
 use Rattle.prop_data.specs.TableText.{at_line}
 use Rattle.prop_data.proofs.LoadingLemmas.{texts_grown}
-use Rattle.prop_data.proofs.NameLemmas.{text_row, text_fault-none, text_fault-bad_name, text_fault-clash, accepted-taken, kept_of-as_kept, last_after-texts}
+use Rattle.prop_data.proofs.NameLemmas.{text_row, text_fault-none, text_fault-bad_name, text_fault-clash, accepted-taken, kept_of-as_kept, kept_of-filled, last_after-texts}
 use Rattle.prop_data.proofs.load.texts.OpenTexts.add_row.Goals as goal
 
 pub returns-in_default-2 : goal.returns-in_default-2
@@ -19,10 +20,10 @@ returns-in_default-2 c =
     let s = has_subtags old.length old.table in
     let takes = accepted-taken old.table number c.in-Some-accepted.value c.in-Some-accepted.ensures in
     let bad : kept_of s text ≡ None =
-    ap (λ (b : Bool). kept_of b text) (sym c.has_subtags-is_subtag.ensures) ∙ (sym c.in_ok-name.ensures ∙ ap (option_map string_bytes) c.in_default-2.is) in
+    ap (λ (b : Bool). kept_of b text) (sym c.has_subtags-is_subtag.ensures) ∙ (sym c.in_ok-name.ensures.kept ∙ ap (option_map string_bytes) c.in_default-2.is) in
     rw c.fault-in_default-2.ensures (λ tables. ap (option_map (at_line c.args.number)) (
-    text_row old.length old.table number c.args.row.first.now text (option_copied c.args.row.second) (text_at old.texts) tables (ap option_copied c.in-Some.is) c.in-Some-decimal_number.ensures
-    ∙ text_fault-bad_name s old.table number (text_at old.texts) text takes.1 bad
+    text_row old.length old.table number c.args.row.first.now text (option_copied c.args.row.second) (name_at old.texts) tables (ap option_copied c.in-Some.is) c.in-Some-decimal_number.ensures
+    ∙ text_fault-bad_name s old.table number (name_at old.texts) text takes.1 bad
     ))
 
 pub returns-then-has : goal.returns-then-has
@@ -33,12 +34,21 @@ returns-then-has c =
     let s = has_subtags old.length old.table in
     let takes = accepted-taken old.table number c.in-Some-accepted.value c.in-Some-accepted.ensures in
     let kept_is : Some (string_bytes c.in-Some-2.name) ≡ kept_of s text =
-    ap (option_map string_bytes) (sym c.in-Some-2.is) ∙ (c.in_ok-name.ensures ∙ ap (λ (b : Bool). kept_of b text) c.has_subtags-is_subtag.ensures) in
-    let there : is_some (text_at old.texts number) ≡ c.has.result = ap (λ n. is_some (text_at old.texts n)) (sym takes.0) ∙ sym c.has.ensures in
+    ap (option_map string_bytes) (sym c.in-Some-2.is) ∙ (c.in_ok-name.ensures.kept ∙ ap (λ (b : Bool). kept_of b text) c.has_subtags-is_subtag.ensures) in
+    let there : is_some (name_at old.texts number) ≡ c.has.result = ap (λ n. is_some (name_at old.texts n)) (sym takes.0) ∙ sym c.has.ensures in
     rw c.fault-then-has.ensures (λ tables. ap (option_map (at_line c.args.number)) (
-    text_row old.length old.table number c.args.row.first.now text (option_copied c.args.row.second) (text_at old.texts) tables (ap option_copied c.in-Some.is) c.in-Some-decimal_number.ensures
-    ∙ text_fault-clash s old.table number (text_at old.texts) text (string_bytes c.in-Some-2.name) takes.1 kept_is (there ∙ c.if-has.true)
+    text_row old.length old.table number c.args.row.first.now text (option_copied c.args.row.second) (name_at old.texts) tables (ap option_copied c.in-Some.is) c.in-Some-decimal_number.ensures
+    ∙ text_fault-clash s old.table number (name_at old.texts) text (string_bytes c.in-Some-2.name) takes.1 kept_is (there ∙ c.if-has.true)
     ))
+
+pub keep-requires-clause-filled : goal.keep-requires-clause-filled
+keep-requires-clause-filled c =
+    let old = c.args.self.now in
+    let text = c.in-Some.text.now in
+    let s = has_subtags old.length old.table in
+    let kept_is : Some (string_bytes c.in-Some-2.name) ≡ kept_of s text =
+    ap (option_map string_bytes) (sym c.in-Some-2.is) ∙ (c.in_ok-name.ensures.kept ∙ ap (λ (b : Bool). kept_of b text) c.has_subtags-is_subtag.ensures) in
+    kept_of-filled s text (string_bytes c.in-Some-2.name) kept_is
 
 pub returns : goal.returns
 returns c =
@@ -51,18 +61,18 @@ returns c =
     let number_is = c.in-Some-decimal_number.ensures in
     let takes = accepted-taken old.table number c.in-Some-accepted.value c.in-Some-accepted.ensures in
     let kept_is : Some (string_bytes c.in-Some-2.name) ≡ kept_of s text =
-    ap (option_map string_bytes) (sym c.in-Some-2.is) ∙ (c.in_ok-name.ensures ∙ ap (λ (b : Bool). kept_of b text) c.has_subtags-is_subtag.ensures) in
-    let there : is_some (text_at old.texts number) ≡ c.has.result = ap (λ n. is_some (text_at old.texts n)) (sym takes.0) ∙ sym c.has.ensures in
+    ap (option_map string_bytes) (sym c.in-Some-2.is) ∙ (c.in_ok-name.ensures.kept ∙ ap (λ (b : Bool). kept_of b text) c.has_subtags-is_subtag.ensures) in
+    let there : is_some (name_at old.texts number) ≡ c.has.result = ap (λ n. is_some (name_at old.texts n)) (sym takes.0) ∙ sym c.has.ensures in
     let kept : string_bytes c.in-Some-2.name ≡ as_kept s (text_of r.1) = kept_of-as_kept s text (string_bytes c.in-Some-2.name) kept_is ∙ ap (λ o. as_kept s (text_of o)) (sym second_is) in
     let value_is : c.in-Some-accepted.value ≡ value_of (Some r.0) = takes.0 ∙ ap (λ (o : Option ℕ). unwrap_or o 0) number_is in
-    let grown : (n : ℕ) → text_at c.keep.new.self.texts n ≡ with_text s r (text_at old.texts) n =
-    λ n. c.in_ok-keep.ensures.texts n ∙ ap₂ (λ (v : ℕ) (k : List ℕ). cond (nat_eq v n) (Some k) (text_at old.texts n)) value_is kept in (
+    let grown : (n : ℕ) → name_at c.keep.new.self.texts n ≡ with_text s r (name_at old.texts) n =
+    λ n. c.in_ok-keep.ensures.texts n ∙ ap₂ (λ (v : ℕ) (k : List ℕ). cond (nat_eq v n) (Some k) (name_at old.texts n)) value_is kept in (
       λ tables.
-          text_row old.length old.table number c.args.row.first.now text (option_copied c.args.row.second) (text_at old.texts) tables second_is number_is
-          ∙ text_fault-none s old.table number (text_at old.texts) text (string_bytes c.in-Some-2.name) takes.1 kept_is (there ∙ c.if-has.false),
+          text_row old.length old.table number c.args.row.first.now text (option_copied c.args.row.second) (name_at old.texts) tables second_is number_is
+          ∙ text_fault-none s old.table number (name_at old.texts) text (string_bytes c.in-Some-2.name) takes.1 kept_is (there ∙ c.if-has.false),
       ap₂ table_of_length c.in_ok-keep.ensures.length c.in_ok-keep.ensures.table,
       last_after-texts old.length old.table r,
       λ tables.
-          ap₂ (λ l t. with_texts l t (text_at c.keep.new.self.texts) tables) c.in_ok-keep.ensures.length c.in_ok-keep.ensures.table
-          ∙ texts_grown old.length old.table (text_at old.texts) (text_at c.keep.new.self.texts) r grown tables,
+          ap₂ (λ l t. with_texts l t (name_at c.keep.new.self.texts) tables) c.in_ok-keep.ensures.length c.in_ok-keep.ensures.table
+          ∙ texts_grown old.length old.table (name_at old.texts) (name_at c.keep.new.self.texts) r grown tables,
     )
