@@ -35,16 +35,19 @@ fn look_up_in<L: Ledger>(
     look_up(map, c, &mut steps)
 }
 
+/// The category of a number by the map of the database, counted.
+fn counted(alloc: Global, database: &PropertyDatabase, c: u32) -> Option<GeneralCategory> {
+    let map = CodePointMapData::<GeneralCategory>::new(alloc, database).ok()?;
+    Some(look_up_in::<Brand>(map.as_borrowed(), c, Blank::new(1)))
+}
+
 /// A number, and its general category.
 type Counted = (u32, GeneralCategory);
 
 impl Row for Counted {
     fn holds(&self, alloc: Global, database: &PropertyDatabase) -> bool {
         let (c, category) = *self;
-        match CodePointMapData::<GeneralCategory>::new(alloc, database) {
-            Ok(map) => look_up_in::<Brand>(map.as_borrowed(), c, Blank::new(1)) == category,
-            Err(_) => false,
-        }
+        counted(alloc, database, c) == Some(category)
     }
 }
 
