@@ -6,6 +6,7 @@ use Rattle.std.proofs.lemmas.Bool.{le-leb, lt-leb, cases_lt, and_left, and_right
 use Rattle.std.proofs.lemmas.Bool.Decides.{nat_tests}
 use Rattle.std.proofs.lemmas.List.{take-append-drop, take_all, drop_all}
 use Rattle.std.proofs.lemmas.List.Elements.{All-weaker}
+use Rattle.std.proofs.Math.Bool.{or-false, or-true}
 use Rattle.cp_invlist.specs.InversionList.{differ, contains, ascends_from, has_even_length, IsInversionList}
 use Rattle.cp_invlist.specs.Ranges.{in_code_points}
 use Rattle.cp_invlist.specs.declared.error.NoMemory.{NoMemory}
@@ -101,14 +102,6 @@ contains-with_range xs start past low high d =
 
 contains-split : (xs : List ℕ) (i d : ℕ) → contains xs d ≡ differ (contains (take i xs) d) (contains (drop i xs) d)
 contains-split xs i d = ap (λ l. contains l d) (sym (take-append-drop i xs)) ∙ contains-append (take i xs) (drop i xs) d
-
-or-false : (b : Bool) → (b || false) ≡ b
-or-false true = refl
-or-false false = refl
-
-or-true : (b : Bool) → (b || true) ≡ true
-or-true true = refl
-or-true false = refl
 
 differ-self : (a : Bool) → differ (not a) (differ a false) ≡ true
 differ-self true = refl

@@ -2,7 +2,7 @@
 use Rattle.std.proofs.Common.{◌≡◌, ℕ, zero, suc, ◌+◌, ◌-◌, ◌%◌, ◌<◌, ◌≤◌, Bool, true, false, not, ◌==◌, nat_le, nat_lt, List, [], ◌∷◌, length, take, drop, get_or, All, refl, sym, ap, ◌∙◌, arith, leb-true, ◌⊎◌, inl, inr}
 use Rattle.std.specs.List.{AllWithin}
 use Rattle.std.specs.List.Sorted.{IsPartitionPoint, IsPartitionedBy}
-use Rattle.std.proofs.lemmas.Bool.{leb-false, ltb-true, ltb-false, cases_lt, cases_eq}
+use Rattle.std.proofs.lemmas.Bool.{leb-false, ltb-true, ltb-false, cases_lt, cases_eq, not-false, not-true}
 use Rattle.std.proofs.lemmas.Bool.Decides.{nat_tests}
 use Rattle.std.proofs.lemmas.List.{get_or-take, get_or-drop, length-take, length-drop, take-append-drop, length-take-le}
 use Rattle.std.proofs.lemmas.List.Elements.{All-take}
@@ -113,14 +113,6 @@ CutAfter-all c xs all = record {
   before = All-take (λ x. x ≤ c) (length xs) xs all;
   behind = λ k d lt. absurd (omega (arith, length-drop (length xs) xs));
 }
-
-pub not-false : (b : Bool) → not b ≡ false → b ≡ true
-not-false true h = refl
-not-false false h = sym h
-
-pub not-true : (b : Bool) → not b ≡ true → b ≡ false
-not-true true h = sym h
-not-true false h = refl
 
 -- the parity of a cut list by the place
 pub has_even_length-take : (xs : List ℕ) (i : ℕ) → i ≤ length xs → i % 2 ≡ 0 → has_even_length (take i xs) ≡ true

@@ -1,11 +1,11 @@
 -- A list of strings without a fault is canonical, and a binary search in it finds each of its strings.
-use Rattle.std.proofs.Common.{◌≡◌, ◌≢◌, ℕ, suc, ◌<◌, ◌≤◌, false, Option, Some, None, is_some, Result, Ok, Err, is_ok, List, [], ◌∷◌, length, map, get_or, All, refl, sym, ap, ◌∙◌, arith, nat_cmp, true≢false, eq-or-lt_of_le, le_refl, inl, inr}
+use Rattle.std.proofs.Common.{◌≡◌, ◌≢◌, ℕ, suc, ◌+◌, ◌<◌, ◌≤◌, false, Option, Some, None, is_some, Result, Ok, Err, is_ok, List, [], ◌∷◌, length, map, get_or, All, refl, sym, ap, ◌∙◌, arith, nat_cmp, true≢false, eq-or-lt_of_le, le_refl, inl, inr}
 use Rattle.std.specs.declared.cmp.Ordering.{Ordering}
 use Rattle.std.specs.declared.cmp.Ordering.TheVariants.{Less, Equal, Greater}
 use Rattle.std.specs.Cmp.Lexicographic.{slice_cmp}
 use Rattle.std.specs.List.{list_any, AllPairs}
 use Rattle.std.specs.List.Sorted.{IsBinarySearchResult, IsSearchInRange, IsNonDecreasingBy}
-use Rattle.std.specs.Ordering.{is_eq, ordering_index, ordering_reverse}
+use Rattle.std.specs.Ordering.{is_eq, is_lt, ordering_index, ordering_reverse}
 use Rattle.std.specs.Str.{chars, bytes_eq}
 use Rattle.std.proofs.lemmas.Bool.{cases_Bool, cases_lt, cond-true, cond-false}
 use Rattle.std.proofs.lemmas.Cmp.{nat_list_cmp_total, alike_right}
@@ -14,6 +14,7 @@ use Rattle.std.proofs.lemmas.List.Elements.{All-nil, All-cons, All-head, All-tai
 use Rattle.std.proofs.lemmas.List.Kept.{AllPairs-cons}
 use Rattle.std.proofs.lemmas.List.Recursion.{or_at, or_from_places}
 use Rattle.std.proofs.lemmas.Map.Text.{is_eq-slice_cmp}
+use Rattle.std.proofs.lemmas.List.Sorted.{searchable_from_sorted}
 use Rattle.cp_strset.specs.declared.StringListError.{StringListError}
 use Rattle.cp_strset.specs.declared.StringListError.TheVariants.{StringOfOne}
 use Rattle.cp_strset.specs.StringList.{sole_of, fault_of_order, fault_behind, fault_at, first_or, fault_from, AreCanonical}
@@ -78,32 +79,14 @@ canonical_from p i (s ∷ ss) h =
 pub AreCanonical-faultless : (ss : List (List ℕ)) → fault_from None 0 ss ≡ None → AreCanonical ss
 AreCanonical-faultless ss h = (canonical_from None 0 ss h).1
 
-at_most_two : (o : Ordering) → ordering_index o ≤ ordering_index Greater
-at_most_two Less = omega arith
-at_most_two Equal = omega arith
-at_most_two Greater = omega arith
-
 -- the answer of a comparison with one text rises along ascending strings
-rises_to : (a b s : List ℕ) (o : Ordering) → IsBelow a b → slice_cmp nat_cmp b s ≡ o → ordering_index (slice_cmp nat_cmp a s) ≤ ordering_index o
-rises_to a b s Less below h =
-    let total = nat_list_cmp_total in
-    rw (total.trans a b s below h) (le_refl 0)
-rises_to a b s Equal below h =
-    let less : slice_cmp nat_cmp a s ≡ Less = sym (alike_right nat_list_cmp_total b s a h) ∙ below in
-    rw less (omega arith)
-rises_to a b s Greater below h = at_most_two (slice_cmp nat_cmp a s)
-
 answers_rise : {X : Type 0} (f : X → List ℕ) (xs : List X) (s : List ℕ) → AllPairs IsBelow (map f xs) → IsNonDecreasingBy (λ y. ordering_index (slice_cmp nat_cmp (f y) s)) xs
-answers_rise f xs s ascending i j d le lt = elim (eq-or-lt_of_le le) [
-  | inl same ↦ let e : get_or xs i d ≡ get_or xs j d = ap (λ k. get_or xs k d) same in rw e (le_refl _)
-  | inr less ↦
-      let short : i < length xs = omega arith in
-      let below = ascending i j [] less (omega (arith, length-map xs f)) in
-      let at : IsBelow (f (get_or xs i d)) (f (get_or xs j d)) =
-      ap (λ t. slice_cmp nat_cmp t (f (get_or xs j d))) (sym (get_or-map f xs i d [] short))
-      ∙ ap (slice_cmp nat_cmp (get_or (map f xs) i [])) (sym (get_or-map f xs j d [] lt)) ∙ below in
-      rises_to (f (get_or xs i d)) (f (get_or xs j d)) s (slice_cmp nat_cmp (f (get_or xs j d)) s) at refl
-]
+answers_rise f xs s ascending = searchable_from_sorted nat_list_cmp_total f xs s (λ k d from within.
+    let at : IsBelow (f (get_or xs k d)) (f (get_or xs (k + 1) d)) =
+    ap (λ t. slice_cmp nat_cmp t (f (get_or xs (k + 1) d))) (sym (get_or-map f xs k d [] (omega arith)))
+    ∙ ap (slice_cmp nat_cmp (get_or (map f xs) k [])) (sym (get_or-map f xs (k + 1) d [] within))
+    ∙ ascending k (k + 1) [] (omega arith) (omega (arith, within, length-map xs f)) in
+    ap is_lt (nat_list_cmp_total.antisymm (f (get_or xs (k + 1) d)) (f (get_or xs k d)) ∙ ap ordering_reverse at))
 
 equal_bytes : (s t : List ℕ) (o : Ordering) → slice_cmp nat_cmp t s ≡ o → bytes_eq t s ≡ is_eq o
 equal_bytes s t o h = sym (is_eq-slice_cmp t s) ∙ ap is_eq h

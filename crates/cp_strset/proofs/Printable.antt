@@ -7,6 +7,7 @@ use Rattle.std.specs.Str.{chars}
 use Rattle.std.proofs.lemmas.Bool.Decides.{nat_tests}
 use Rattle.std.proofs.lemmas.List.Folds.{list_all-append}
 use Rattle.std.proofs.lemmas.List.Sums.{AllPass-from_list_all}
+use Rattle.std.proofs.lemmas.Bool.{cond_both}
 use Rattle.cp_invlist.specs.declared.ranges.CodePointRange.{CodePointRange}
 use Rattle.cp_strset.specs.PatternText.{escaped, range_text, string_text, pattern_text, IsPatternOf, is_printable_ascii}
 use Rattle.cp_strset.specs.StringSet.{StringSet}
@@ -27,15 +28,11 @@ glyph d h = grind (arith, nat_tests)
 glyph_onto : (n : ℕ) (acc : List ℕ) → Printable acc → Printable (digit_glyph false (n % 16) ∷ acc)
 glyph_onto n acc h = ap₂ (λ x y. x && y) (glyph (n % 16) (omega arith)) h
 
-if_printable : (t : Bool) (a b : List ℕ) → Printable a → Printable b → Printable (cond t a b)
-if_printable true a b h k = h
-if_printable false a b h k = k
-
 digits_onto_printable : (k n : ℕ) (acc : List ℕ) → Printable acc → Printable (digits_onto k 16 false n acc)
 digits_onto_printable zero n acc h = h
 digits_onto_printable (suc k) n acc h =
     let first = glyph_onto n acc h in
-    if_printable (n / 16 == 0) _ _ first (digits_onto_printable k (n / 16) (digit_glyph false (n % 16) ∷ acc) first)
+    cond_both (n / 16 == 0) _ _ Printable (λ _. first) (λ _. digits_onto_printable k (n / 16) (digit_glyph false (n % 16) ∷ acc) first)
 
 escaped_printable : (c : ℕ) → Printable (escaped c)
 unfolding digits
@@ -46,7 +43,7 @@ escaped_printable c =
 range_printable : (r : CodePointRange) → Printable (range_text r)
 range_printable r =
     let end = both (codes "-") (escaped r.end) refl (escaped_printable r.end) in
-    if_printable (r.start == r.end) _ _ (escaped_printable r.start) (both (escaped r.start) (codes "-" ++ escaped r.end) (escaped_printable r.start) end)
+    cond_both (r.start == r.end) _ _ Printable (λ _. escaped_printable r.start) (λ _. both (escaped r.start) (codes "-" ++ escaped r.end) (escaped_printable r.start) end)
 
 string_printable : (bs : List ℕ) → Printable (string_text bs)
 string_printable bs =

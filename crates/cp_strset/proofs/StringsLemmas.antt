@@ -1,7 +1,7 @@
 -- Sets of strings, by their bytes.
 use Rattle.std.proofs.Common.{◌≡◌, ◌≢◌, ◌<◌, ◌+◌, take, slice_index_or, subst, ℕ, Bool, true, false, cond, ◌||◌, ◌&&◌, not, List, [], ◌∷◌, ◌++◌, zero, suc, map, length, filter, None, refl, sym, ap, ◌∙◌, inl, inr, arith, append-nil}
 use mathlib.Core.Logic.{◌⊎◌}
-use Rattle.std.proofs.lemmas.Bool.{cases_Bool}
+use Rattle.std.proofs.lemmas.Bool.{cases_Bool, or_cases, and_parts, or_right}
 use Rattle.std.proofs.lemmas.List.Elements.{All-from_recursion, All-map}
 use Rattle.std.proofs.lemmas.List.Folds.{list_any-append}
 use Rattle.std.proofs.lemmas.Map.Text.{is_eq-slice_cmp}
@@ -34,10 +34,6 @@ spelled_in ks bytes = list_any (spells bytes) ks
 abbrev pub NoneOfOne : List (String Global) → Type 0
 NoneOfOne ks = (bytes : List ℕ) → spelled_in ks bytes ≡ true → sole_of (chars bytes) ≡ None
 
-either : (a b : Bool) → (a || b) ≡ true → (a ≡ true) ⊎ (b ≡ true)
-either true b h = inl refl
-either false b h = inr h
-
 same_bytes : (bytes : List ℕ) (k : String Global) → spells bytes k ≡ true → bytes ≡ string_bytes k
 same_bytes bytes k h = (bytes_eq-Decides bytes (string_bytes k)).0 (sym (is_eq-slice_cmp bytes (string_bytes k)) ∙ h)
 
@@ -50,7 +46,7 @@ replaced_or false false = refl
 -- a string was added that isn't one character
 pub none_of_one_more : (old new : List (String Global)) (added : List ℕ) → sole_of (chars added) ≡ None → NoneOfOne old →
     ((bytes : List ℕ) → spelled_in new bytes ≡ (spelled_in old bytes || bytes_eq added bytes)) → NoneOfOne new
-none_of_one_more old new added none all joined bytes h = elim (either (spelled_in old bytes) (bytes_eq added bytes) (sym (joined bytes) ∙ h)) [
+none_of_one_more old new added none all joined bytes h = elim (or_cases (spelled_in old bytes) (bytes_eq added bytes) (sym (joined bytes) ∙ h)) [
   | inl was ↦ all bytes was
   | inr is ↦ ap (λ bs. sole_of (chars bs)) (sym ((bytes_eq-Decides added bytes).0 is)) ∙ none
 ]
@@ -58,14 +54,14 @@ none_of_one_more old new added none all joined bytes h = elim (either (spelled_i
 -- strings were added of which none is one character
 pub none_of_one_joined : (old other new : List (String Global)) → NoneOfOne old → NoneOfOne other →
     ((bytes : List ℕ) → spelled_in new bytes ≡ (spelled_in old bytes || spelled_in other bytes)) → NoneOfOne new
-none_of_one_joined old other new all all_too joined bytes h = elim (either (spelled_in old bytes) (spelled_in other bytes) (sym (joined bytes) ∙ h)) [
+none_of_one_joined old other new all all_too joined bytes h = elim (or_cases (spelled_in old bytes) (spelled_in other bytes) (sym (joined bytes) ∙ h)) [
   | inl was ↦ all bytes was
   | inr is ↦ all_too bytes is
 ]
 
 witness : (test : String Global → Bool) (ks : List (String Global)) → list_any test ks ≡ true → (k : String Global) × (test k ≡ true)
 witness test [] h = cc
-witness test (k ∷ ks) h = elim (either (test k) (list_any test ks) h) [
+witness test (k ∷ ks) h = elim (or_cases (test k) (list_any test ks) h) [
   | inl is ↦ (k, is)
   | inr more ↦ witness test ks more
 ]
@@ -85,7 +81,7 @@ pub union_spelled : (xs ys zs : List (String Global)) → IsUnion (eq_by_cmp str
 union_spelled xs ys zs union bytes = elim (cases_Bool (spelled_in zs bytes)) [
   | inl is ↦ (let w = witness (spells bytes) zs is in union_at xs ys zs union bytes w.0 w.1)
   | inr isnt ↦ elim (cases_Bool (spelled_in xs bytes || spelled_in ys bytes)) [
-    | inl some ↦ elim (either (spelled_in xs bytes) (spelled_in ys bytes) some) [
+    | inl some ↦ elim (or_cases (spelled_in xs bytes) (spelled_in ys bytes) some) [
       | inl is ↦ (let w = witness (spells bytes) xs is in union_at xs ys zs union bytes w.0 w.1)
       | inr is ↦ (let w = witness (spells bytes) ys is in union_at xs ys zs union bytes w.0 w.1)
     ]
@@ -114,17 +110,9 @@ kept_spelled test (k ∷ ks) bytes =
     ∙ (ap (λ more. cond (test (string_bytes k)) (spells bytes k || more) more) (kept_spelled test ks bytes)
     ∙ kept_step (test (string_bytes k)) (spells bytes k) (spelled_in ks bytes) (test bytes) (λ is. ap test (sym (same_bytes bytes k is))))
 
-first_of_both : (a b : Bool) → (a && b) ≡ true → a ≡ true
-first_of_both true b h = refl
-first_of_both false b h = h
-
 -- fewer strings, none of which is one character
 pub none_of_one_kept : (test : List ℕ → Bool) (ks kept : List (String Global)) → NoneOfOne ks → ((bytes : List ℕ) → spelled_in kept bytes ≡ (spelled_in ks bytes && test bytes)) → NoneOfOne kept
-none_of_one_kept test ks kept all is bytes h = all bytes (first_of_both (spelled_in ks bytes) (test bytes) (sym (is bytes) ∙ h))
-
-or_second : (a b : Bool) → b ≡ true → (a || b) ≡ true
-or_second true b h = refl
-or_second false b h = h
+none_of_one_kept test ks kept all is bytes h = all bytes (and_parts (spelled_in ks bytes) (test bytes) (sym (is bytes) ∙ h)).0
 
 spelled_front : (xs ys : List (String Global)) (bytes : List ℕ) → spelled_in xs bytes ≡ true → spelled_in (xs ++ ys) bytes ≡ true
 spelled_front xs ys bytes h = list_any-append (spells bytes) xs ys ∙ ap (λ b. b || spelled_in ys bytes) h
@@ -145,7 +133,7 @@ each_of_more : (ks : List (String Global)) → NoneOfOne ks → AllByRecursion (
 each_of_more [] none = tt
 each_of_more (k ∷ ks) none = (
   not_one (chars (string_bytes k)) (none (string_bytes k) (ap (λ b. b || spelled_in ks (string_bytes k)) (spells_itself k))),
-  each_of_more ks (λ bytes h. none bytes (or_second (spells bytes k) (spelled_in ks bytes) h)),
+  each_of_more ks (λ bytes h. none bytes (or_right (spells bytes k) (spelled_in ks bytes) h)),
 )
 
 ascending_bytes : (ks : List (String Global)) → IsStrictlySortedBy string_cmp ks → AllPairs (λ s t. slice_cmp nat_cmp s t ≡ Less) (map string_bytes ks)

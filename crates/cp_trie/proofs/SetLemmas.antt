@@ -3,6 +3,7 @@ use Rattle.std.proofs.Common.{◌≡◌, ℕ, ◌+◌, ◌<◌, ◌≤◌, Bool,
 use Rattle.std.proofs.lemmas.Bool.{cases_lt}
 use Rattle.std.proofs.lemmas.List.{drop_all}
 use Rattle.std.proofs.lemmas.Bool.Decides.{nat_tests}
+use Rattle.std.proofs.Math.Bool.{and-false, or-false, and-true, or_assoc}
 use Rattle.cp_invlist.specs.InversionList.{is_code_point}
 use Rattle.cp_invlist.specs.Ranges.{in_code_points}
 use Rattle.cp_trie.specs.Runs.{value_in}
@@ -14,22 +15,6 @@ use Rattle.cp_trie.proofs.CoverLemmas.{IsCover, value_in-within, value_in-behind
 abbrev pub holds_value : {V : Type 0} → (V → V → Bool) → V → List (CodePointMapRange V) → ℕ → Bool
 holds_value eq v [] c = false
 holds_value eq v (r ∷ rs) c = (eq r.value v && in_code_points r.range c) || holds_value eq v rs c
-
-and-false : (a : Bool) → (a && false) ≡ false
-and-false true = refl
-and-false false = refl
-
-or-false : (a : Bool) → (a || false) ≡ a
-or-false true = refl
-or-false false = refl
-
-and-true : (a : Bool) → (a && true) ≡ a
-and-true true = refl
-and-true false = refl
-
-or-assoc : (a b c : Bool) → ((a || b) || c) ≡ (a || (b || c))
-or-assoc true b c = refl
-or-assoc false b c = refl
 
 -- no run of a cover holds a number below it
 holds_value-before : {V : Type 0} (eq : V → V → Bool) (v : V) (n : ℕ) (rs : List (CodePointMapRange V)) (c : ℕ) → IsCover n rs → c < n → holds_value eq v rs c ≡ false
@@ -62,7 +47,7 @@ holds_value-value_in eq v n (r ∷ rs) e c cover h =
 -- the numbers of a run whose value is equal to the value are gathered
 pub holds_value-taken : {V : Type 0} (eq : V → V → Bool) (v : V) (rs : List (CodePointMapRange V)) (i : ℕ) (r : CodePointMapRange V) (c : ℕ) (b all : Bool) → i < length rs → r ≡ get_or rs i r → true ≡ eq r.value v → (b || holds_value eq v (drop i rs) c) ≡ all → ((b || in_code_points r.range c) || holds_value eq v (drop (i + 1) rs) c) ≡ all
 holds_value-taken eq v rs i r c b all within read same h =
-    or-assoc b (in_code_points r.range c) (holds_value eq v (drop (i + 1) rs) c)
+    or_assoc b (in_code_points r.range c) (holds_value eq v (drop (i + 1) rs) c)
     ∙ (ap (λ a. b || ((a && in_code_points r.range c) || holds_value eq v (drop (i + 1) rs) c)) same
     ∙ (ap (λ l. b || holds_value eq v l c) (sym (left_from rs i r within read)) ∙ h))
 

@@ -1,5 +1,5 @@
-//! Lines of a text, and the fields of a line.
-use text_lines::{before_comment, split_behind, split_field, split_line};
+//! Lines of a text, the fields of a line, and numbers as fields spell them.
+use text_lines::{before_comment, decimal_number, hex, split_behind, split_field, split_line};
 
 /// Texts, their first lines and what stands behind these.
 const LINES: &[(&str, Option<(&str, &str)>)] = &[
@@ -72,5 +72,28 @@ const PARTS: &[(&str, (&str, &str))] = &[
 fn a_text_is_cut_behind_a_word(rt: HostRuntime) {
     for (text, parts) in PARTS {
         assert!(rt; split_behind(text, b"end") == *parts, "at {text}");
+    }
+}
+
+/// Bytes, with the number that they spell as hexadecimal digits and the one that they spell as decimal digits.
+const NUMBERS: &[(&[u8], Option<u32>, Option<u64>)] = &[
+    (b"0", Some(0), Some(0)),
+    (b"41", Some(0x41), Some(41)),
+    (b"10FfFf", Some(0x10_FFFF), None),
+    (b"000041", Some(0x41), Some(41)),
+    (b"FFFFFF", Some(0xFF_FFFF), None),
+    (b"0000041", None, Some(41)),
+    (b"9999999999", None, Some(9_999_999_999)),
+    (b"00000000041", None, None),
+    (b"4G", None, None),
+    (b"+1", None, None),
+    (b"1 ", None, None),
+    (b"", None, None),
+];
+
+#[test]
+fn digits_spell_numbers(rt: HostRuntime) {
+    for (digits, hexadecimal, decimal) in NUMBERS {
+        assert!(rt; hex(digits) == *hexadecimal && decimal_number(digits) == *decimal, "at {digits:?}");
     }
 }

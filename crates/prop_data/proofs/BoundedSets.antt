@@ -1,6 +1,7 @@
 -- Each set of a table text ends.
 use Rattle.std.proofs.Common.{◌≡◌, ℕ, ◌+◌, ◌≤◌, Bool, true, false, cond, ◌||◌, nat_eq, List, [], ◌∷◌, Option, Some, None, refl, ap, ◌∙◌, subst, arith}
 use Rattle.std.proofs.lemmas.Bool.Decides.{nat_tests}
+use Rattle.std.proofs.lemmas.Bool.{or_from}
 use Rattle.prop_data.specs.Headers.{Table, set_table}
 use Rattle.prop_data.specs.Laws.{SetsAreBounded}
 use Rattle.prop_data.specs.Line.{Row}
@@ -16,15 +17,12 @@ range_ends : (r : Option (ℕ × ℕ)) → Ends (holds r)
 range_ends None = (0, λ c h. refl)
 range_ends (Some (start, end)) = (end + 1, λ c h. grind (arith, nat_tests, h))
 
-neither : (a b : Bool) → a ≡ false → b ≡ false → (a || b) ≡ false
-neither a b h k = ap (λ x. x || b) h ∙ k
-
 members_end : (rows : List Row) → Ends (members rows)
 members_end [] = (0, λ c h. refl)
 members_end (r ∷ rows) =
     let (first, beyond) = members_end rows in
     let (second, further) = range_ends (range r.0) in
-    (first + second, λ c h. neither (members rows c) (holds (range r.0) c) (beyond c (omega (arith, h))) (further c (omega (arith, h))))
+    (first + second, λ c h. or_from (members rows c) (holds (range r.0) c) (beyond c (omega (arith, h))) (further c (omega (arith, h))))
 
 -- every set that the option is
 abbrev AllEnd : Option (ℕ → Bool) → Type 0

@@ -4,6 +4,7 @@ use Rattle.std.proofs.lemmas.Bool.Decides.{nat_tests}
 use Rattle.std.proofs.lemmas.Str.{chars-encodes}
 use Rattle.std.specs.List.{list_any}
 use Rattle.std.specs.Str.{all_scalars, chars}
+use Rattle.std.proofs.lemmas.Bool.{or_parts, eq-eqb}
 use Rattle.cp_strset.specs.StringList.{sole_of}
 use Rattle.prop_data.specs.declared.error.TableErrorKind.TheVariants.{TooLarge, StringOfOne, StringTwice}
 use Rattle.prop_data.specs.Changes.{with_emoji}
@@ -13,15 +14,12 @@ use Rattle.prop_data.specs.Numbers.{range}
 use Rattle.prop_data.specs.Strings.{braced, spelled_numbers, is_surrogate, string_numbers, without_surrogates, text_of_numbers, text_spelled, range_in, range_unless, string_in}
 use Rattle.prop_data.specs.Tables.{EmojiMembers, Tables}
 
-own_table : (t : ℕ) → nat_eq t t ≡ true
-own_table t = grind (arith, nat_tests)
-
 -- a row of an emoji table is tested against the members of its table
 pub emoji_row : (t : ℕ) (last : Option ℕ) (first : List ℕ) (second inner : Option (List ℕ)) (members : EmojiMembers) (tables : Tables) → second ≡ None → inner ≡ braced first →
     row_fault (with_emoji t members tables) (Some (emoji_table t)) last (first, second) ≡ emoji_row_fault members last first inner
 emoji_row t last first second inner members tables one is =
     ap (λ (s : Option (List ℕ)). row_fault (with_emoji t members tables) (Some (emoji_table t)) last (first, s)) one
-    ∙ (ap (λ (b : Bool). emoji_row_fault (unwrap_or (cond b (Some members) (tables.emoji t)) no_emoji) last first (braced first)) (own_table t)
+    ∙ (ap (λ (b : Bool). emoji_row_fault (unwrap_or (cond b (Some members) (tables.emoji t)) no_emoji) last first (braced first)) (eq-eqb t t refl)
     ∙ ap (emoji_row_fault members last first) (sym is))
 
 -- what no string spells
@@ -47,10 +45,6 @@ far_character n far = grind (arith, nat_tests)
 pub past_all : (ns : List ℕ) (b : Bool) → list_any is_surrogate ns ≡ false → all_scalars ns ≡ b → list_any (nat_lt 0x10_FFFF) ns ≡ cond b false true
 past_all ns b apart is = each ns apart ∙ ap (λ x. cond x false true) is
   where
-    both_false : (x y : Bool) → (x || y) ≡ false → (x ≡ false) × (y ≡ false)
-    both_false true y h = cc
-    both_false false y h = (refl, h)
-
     step : (n : ℕ) (far others all : Bool) → nat_lt 0x10_FFFF n ≡ far → is_surrogate n ≡ false → others ≡ cond all false true →
         (far || others) ≡ cond (cond (nat_lt n 55296) true (nat_le 57344 n && nat_lt n 1114112) && all) false true
     step n true others all is apart rest = ap (λ x. cond (x && all) false true) (sym (far_character n is))
@@ -59,12 +53,8 @@ past_all ns b apart is = each ns apart ∙ ap (λ x. cond x false true) is
     each : (ns : List ℕ) → list_any is_surrogate ns ≡ false → list_any (nat_lt 0x10_FFFF) ns ≡ cond (all_scalars ns) false true
     each [] apart = refl
     each (n ∷ ns) apart =
-        let p = both_false (is_surrogate n) (list_any is_surrogate ns) apart in
+        let p = or_parts (is_surrogate n) (list_any is_surrogate ns) apart in
         step n (nat_lt 0x10_FFFF n) (list_any (nat_lt 0x10_FFFF) ns) (all_scalars ns) refl p.0 (each ns p.1)
-
-pub or_none : (b : Bool) → b ≡ (b || false)
-or_none true = refl
-or_none false = refl
 
 -- numbers that are no surrogates are those of a string
 pub string_numbers-spelled : (inner ns : List ℕ) → Some ns ≡ spelled_numbers inner → list_any is_surrogate ns ≡ false → string_numbers inner ≡ Some ns

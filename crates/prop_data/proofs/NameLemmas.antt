@@ -1,8 +1,9 @@
 -- Rows of tables of names.
 use Rattle.std.proofs.Common.{◌≡◌, ℕ, ◌<◌, Bool, true, false, not, nat_eq, List, length, [], ◌∷◌, All, is_some, Option, Some, None, unwrap_or, cond, refl, sym, ap, ◌∙◌, arith}
 use Rattle.std.proofs.lemmas.Bool.Decides.{nat_tests}
-use Rattle.std.proofs.lemmas.Bool.{and_parts}
+use Rattle.std.proofs.lemmas.Bool.{and_parts, eq-eqb}
 use Rattle.std.proofs.lemmas.List.Elements.{All-nil, All-cons}
+use Rattle.std.proofs.lemmas.Option.{cond_some}
 use Rattle.prop_names.specs.Names.{Names}
 use Rattle.prop_names.specs.ValueNames.{not_empty}
 use Rattle.prop_data.specs.declared.error.TableErrorKind.TheVariants.{BadName, NamesClash}
@@ -19,15 +20,12 @@ use Rattle.prop_data.specs.Numbers.{decimal_number}
 use Rattle.prop_data.specs.Tables.{Tables}
 use Rattle.prop_data.specs.LineFault.{is_name_character, is_name, accepts_name, clashes, name_fault, row_fault, names_row_fault, accepts_value, kept_of, text_fault, text_row_fault, no_text}
 
-own_table : (t : ℕ) → nat_eq t t ≡ true
-own_table t = grind (arith, nat_tests)
-
 -- the row of a name is tested against the names of its table
 pub names_row : (t n : ℕ) (first text : List ℕ) (second : Option (List ℕ)) (names : Names) (tables : Tables) → second ≡ Some text → Some n ≡ decimal_number first →
     row_fault (with_names t names tables) (Some (names_table t)) None (first, second) ≡ name_fault t names n text
 names_row t n first text second names tables second_is number_is =
     ap (λ (s : Option (List ℕ)). row_fault (with_names t names tables) (Some (names_table t)) None (first, s)) second_is
-    ∙ (ap (λ (b : Bool). names_row_fault t (unwrap_or (cond b (Some names) (tables.names t)) []) (decimal_number first) text) (own_table t)
+    ∙ (ap (λ (b : Bool). names_row_fault t (unwrap_or (cond b (Some names) (tables.names t)) []) (decimal_number first) text) (eq-eqb t t refl)
     ∙ ap (λ (o : Option ℕ). names_row_fault t names o text) (sym number_is))
 
 pub name_fault-none : (t n : ℕ) (names : Names) (text : List ℕ) → accepts_name t n ≡ true → is_name text ≡ true → clashes names text n ≡ false → name_fault t names n text ≡ None
@@ -38,11 +36,7 @@ name_fault-clash t n names text taken named clash = rw (taken, named, clash) ref
 
 -- a number that the table of names takes
 pub accepted_name-some : (t n v : ℕ) → Some v ≡ cond (accepts_name t n) (Some n) None → (v ≡ n) × (accepts_name t n ≡ true)
-accepted_name-some t n v h = by_test (accepts_name t n) h
-  where
-    by_test : (b : Bool) → Some v ≡ cond b (Some n) None → (v ≡ n) × (b ≡ true)
-    by_test true h = (cc, refl)
-    by_test false h = cc
+accepted_name-some t n v h = let p = cond_some (accepts_name t n) n v (sym h) in (sym p.1, p.0)
 
 -- names are ASCII
 pub is_name-ascii : (text : List ℕ) → is_name text ≡ true → All (λ c. c < 128) text
@@ -59,11 +53,11 @@ pub text_row : (l : Length) (t n : ℕ) (first text : List ℕ) (second : Option
     row_fault (with_texts l t texts tables) (Some (table_of_length l t)) None (first, second) ≡ text_fault (has_subtags l t) t texts n text
 text_row Long t n first text second texts tables second_is number_is =
     ap (λ (s : Option (List ℕ)). row_fault (with_texts Long t texts tables) (Some (long_table t)) None (first, s)) second_is
-    ∙ (ap (λ (b : Bool). text_row_fault false t (unwrap_or (cond b (Some texts) (tables.long t)) no_text) (decimal_number first) text) (own_table t)
+    ∙ (ap (λ (b : Bool). text_row_fault false t (unwrap_or (cond b (Some texts) (tables.long t)) no_text) (decimal_number first) text) (eq-eqb t t refl)
     ∙ ap (λ (o : Option ℕ). text_row_fault false t texts o text) (sym number_is))
 text_row Short t n first text second texts tables second_is number_is =
     ap (λ (s : Option (List ℕ)). row_fault (with_texts Short t texts tables) (Some (short_table t)) None (first, s)) second_is
-    ∙ (ap (λ (b : Bool). text_row_fault (is_subtags t) t (unwrap_or (cond b (Some texts) (tables.short t)) no_text) (decimal_number first) text) (own_table t)
+    ∙ (ap (λ (b : Bool). text_row_fault (is_subtags t) t (unwrap_or (cond b (Some texts) (tables.short t)) no_text) (decimal_number first) text) (eq-eqb t t refl)
     ∙ ap (λ (o : Option ℕ). text_row_fault (is_subtags t) t texts o text) (sym number_is))
 
 -- the name of a row that passes its tests, as it is kept
@@ -113,11 +107,7 @@ text_fault-clash s t n texts text kept taken kept_is there = rw (taken, there, �
 
 -- a number that the property takes
 pub accepted-taken : (t n v : ℕ) → Some v ≡ cond (accepts_value t n) (Some n) None → (v ≡ n) × (accepts_value t n ≡ true)
-accepted-taken t n v h = by_test (accepts_value t n) h
-  where
-    by_test : (b : Bool) → Some v ≡ cond b (Some n) None → (v ≡ n) × (b ≡ true)
-    by_test true h = (cc, refl)
-    by_test false h = cc
+accepted-taken t n v h = let p = cond_some (accepts_value t n) n v (sym h) in (sym p.1, p.0)
 
 -- tables of names have no ranges
 pub last_after-texts : (l : Length) (t : ℕ) (r : Row) → None ≡ last_after (Some (table_of_length l t)) r None

@@ -1,7 +1,7 @@
 -- Strings as they are spelled in braces.
 use Rattle.std.proofs.Common.{◌≡◌, ℕ, ◌+◌, ◌<◌, Bool, true, false, cond, not, ◌&&◌, ◌==◌, nat_lt, List, [], ◌∷◌, ◌++◌, take, length, Option, Some, None, option_map, option_and_then, refl, sym, ap, ap₂, ◌∙◌, arith, append_assoc, append-nil, get_or, zero, suc}
 use Rattle.std.proofs.lemmas.Bool.Decides.{nat_tests}
-use Rattle.std.proofs.lemmas.Bool.{and_parts}
+use Rattle.std.proofs.lemmas.Bool.{and_parts, and_right, and_left, false_from_ne_true}
 use Rattle.std.proofs.lemmas.List.{take_more}
 use Rattle.std.proofs.lemmas.Str.{encodes-append}
 use lib.Utf8.{scalar}
@@ -86,16 +86,8 @@ next_part read new rest text part behind all n is parts good more same =
 -- a number that is no character's
 pub not_all : (ns : List ℕ) (i : ℕ) → i < length ns → (scalar (get_or ns i 0) ≡ true → ⊥) → all_scalars ns ≡ false
 not_all [] i h none = absurd (omega (arith, h))
-not_all (n ∷ ns) zero h none = first_not (scalar n) (all_scalars ns) none
-  where
-    first_not : (a b : Bool) → (a ≡ true → ⊥) → (a && b) ≡ false
-    first_not true b never = absurd (never refl)
-    first_not false b never = refl
-not_all (n ∷ ns) (suc i) h none = second_not (scalar n) (all_scalars ns) (not_all ns i (omega (arith, h)) none)
-  where
-    second_not : (a b : Bool) → b ≡ false → (a && b) ≡ false
-    second_not true b never = never
-    second_not false b never = refl
+not_all (n ∷ ns) zero h none = and_left (scalar n) (all_scalars ns) (false_from_ne_true (scalar n) none)
+not_all (n ∷ ns) (suc i) h none = and_right (scalar n) (all_scalars ns) (not_all ns i (omega (arith, h)) none)
 
 all_scalars-more : (ns : List ℕ) (n : ℕ) → all_scalars ns ≡ true → scalar n ≡ true → all_scalars (ns ++ n ∷ []) ≡ true
 all_scalars-more [] n all is = ap (λ b. b && true) is

@@ -1,7 +1,7 @@
 -- The sets of a table text without a fault.
 use mathlib.Core.Logic.{◌⊎◌}
 use Rattle.std.proofs.Common.{◌≡◌, ℕ, ◌+◌, ◌≤◌, Bool, true, false, ◌&&◌, nat_eq, nat_le, List, [], ◌∷◌, Option, Some, None, option_map, cond, refl, ap, ◌∙◌, inl, inr, subst, arith}
-use Rattle.std.proofs.lemmas.Bool.{both_ways, or_from, cases_Bool}
+use Rattle.std.proofs.lemmas.Bool.{both_ways, or_from, cases_Bool, eq-eqb}
 use Rattle.std.proofs.lemmas.Bool.Decides.{nat_tests}
 use Rattle.std.specs.List.{list_any}
 use Rattle.prop_data.specs.declared.error.TableErrorKind.TheVariants.{TooLarge, RangeOrder, SyntaxAscii, AfterEnd}
@@ -87,12 +87,9 @@ row_allowed true t last tables (first, Some second) h = cc
 row_allowed false t last tables (first, Some second) h = cc
 row_allowed false t last tables (first, None) h = range_allowed (record { closed = false; table = Some (set_table t); last = last; tables = tables }) t (range first) h
 
-eq_itself : (t : ℕ) → nat_eq t t ≡ true
-eq_itself t = grind (arith, nat_tests)
-
 -- the rows of the nearest section are allowed, where it is a set
 nearest_allowed : (t : ℕ) (rows : List Row) (ss : List Section) → AreAllowed (tables_of_sections ((set_table t, rows) ∷ ss)) → IsAllowed t (members rows)
-nearest_allowed t rows ss before = before t (members rows) (ap (λ b. or_else (cond b (Some (members rows)) None) (found (set_at t) ss)) (eq_itself t))
+nearest_allowed t rows ss before = before t (members rows) (ap (λ b. or_else (cond b (Some (members rows)) None) (found (set_at t) ss)) (eq-eqb t t refl))
 
 -- a set with a row more
 set_grows : (t : ℕ) (r : Row) (rows : List Row) (ss : List Section) → AreAllowed (tables_of_sections ((set_table t, rows) ∷ ss)) → ((c : ℕ) → is_forbidden t c ≡ true → holds (range r.0) c ≡ false) →

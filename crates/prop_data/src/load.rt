@@ -19,7 +19,6 @@ mod texts;
 use crate::database::PropertyDatabase;
 use crate::error::{LoadError, TableErrorKind, fault};
 use crate::line::{Header, Line, Row, read_line};
-use crate::numbers::decimal_number;
 use crate::value::{accepted, accepted_script};
 use cp_invlist::NoMemory;
 use emoji::{OpenEmoji, emoji_table};
@@ -32,6 +31,7 @@ use scripts::OpenScripts;
 use set::OpenSet;
 use std::alloc::Global;
 pub(crate) use texts::Length;
+use text_lines::decimal_number;
 use texts::{OpenTexts, text_table};
 
 /// A table whose rows are being read.

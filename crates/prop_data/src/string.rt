@@ -5,9 +5,9 @@ ghost use Rattle.std.specs.Option.{option_copied};
 ghost use Rattle.std.specs.String.{string_bytes};
 ghost use Rattle.prop_data.specs.Strings.{braced, is_underscore, first_part, numbers_of, spelled_numbers, is_surrogate, text_spelled};
 
-use crate::numbers::hex;
 use cp_invlist::NoMemory;
 use std::alloc::Global;
+use text_lines::hex;
 
 /// What stands between a `{` at the front and a `}` at the end.
 #[tactic(auto, unfolding(crate::specs::Strings::braced))]

@@ -1,5 +1,5 @@
 -- A binary search among names in order.
-use Rattle.std.proofs.Common.{◌≡◌, ℕ, zero, suc, ◌<◌, ◌≤◌, true, false, Some, None, Err, List, [], ◌∷◌, length, get_or, refl, sym, ap, ◌∙◌, arith, nat_cmp, eq-or-lt_of_le, le_refl, inl, inr}
+use Rattle.std.proofs.Common.{◌≡◌, ℕ, zero, suc, ◌+◌, ◌<◌, ◌≤◌, true, false, Some, None, Err, List, [], ◌∷◌, length, get_or, refl, sym, ap, ◌∙◌, arith, nat_cmp, inl, inr}
 use Rattle.std.specs.declared.cmp.Ordering.{Ordering}
 use Rattle.std.specs.declared.cmp.Ordering.TheVariants.{Less, Equal, Greater}
 use Rattle.std.specs.Cmp.Lexicographic.{slice_cmp}
@@ -14,6 +14,7 @@ use Rattle.std.proofs.lemmas.Bool.{and_parts, cases_lt}
 use Rattle.std.proofs.lemmas.Cmp.{nat_list_cmp_total, alike_right}
 use Rattle.std.proofs.lemmas.Map.Entries.{lookup_head, lookup_tail}
 use Rattle.std.proofs.lemmas.Map.Text.{is_eq-slice_cmp}
+use Rattle.std.proofs.lemmas.List.Sorted.{searchable_from_sorted}
 use Rattle.prop_names.specs.Names.{all_above, ascend}
 use Rattle.prop_names.specs.Texts.{text_of, texts}
 
@@ -42,24 +43,9 @@ in_order (r ∷ rows) zero (suc j) d h lt short =
 in_order (r ∷ rows) (suc i) (suc j) d h lt short =
     in_order rows i j d (and_parts (all_above (string_bytes r.0) (texts rows)) (ascend (texts rows)) h).1 (omega arith) (omega arith)
 
-at_most_greater : (o : Ordering) → ordering_index o ≤ ordering_index Greater
-at_most_greater Less = omega arith
-at_most_greater Equal = omega arith
-at_most_greater Greater = omega arith
-
--- how two names compare with a third, the first being below the second
-rises_to : (a b s : List ℕ) (o : Ordering) → slice_cmp nat_cmp a b ≡ Less → slice_cmp nat_cmp b s ≡ o → ordering_index (slice_cmp nat_cmp a s) ≤ ordering_index o
-rises_to a b s Less below h = rw (nat_list_cmp_total.trans a b s below h) (le_refl 0)
-rises_to a b s Equal below h =
-    let first : slice_cmp nat_cmp a s ≡ Less = sym (alike_right nat_list_cmp_total b s a h) ∙ below in
-    rw first (omega arith)
-rises_to a b s Greater below h = at_most_greater (slice_cmp nat_cmp a s)
-
 rise : (rows : List (String Global × ℕ)) (s : List ℕ) → ascend (texts rows) ≡ true → IsNonDecreasingBy (λ (y : String Global × ℕ). ordering_index (slice_cmp nat_cmp (string_bytes y.0) s)) rows
-rise rows s h i j d le short = elim (eq-or-lt_of_le le) [
-  | inl same ↦ let e : get_or rows i d ≡ get_or rows j d = ap (λ k. get_or rows k d) same in rw e (le_refl _)
-  | inr lt ↦ rises_to (name_at rows i d) (name_at rows j d) s (slice_cmp nat_cmp (name_at rows j d) s) (in_order rows i j d h lt short) refl
-]
+rise rows s h = searchable_from_sorted nat_list_cmp_total (λ y. string_bytes y.0) rows s (λ k d from within.
+    ap is_lt (nat_list_cmp_total.antisymm (name_at rows (k + 1) d) (name_at rows k d) ∙ ap ordering_reverse (in_order rows k (k + 1) d h (omega arith) within)))
 
 -- whether a name is the one sought, by how they compare
 is_name : (s t : List ℕ) (o : Ordering) → slice_cmp nat_cmp t s ≡ o → bytes_eq s t ≡ is_eq o

@@ -1,5 +1,6 @@
 -- The name of each number in the tables that find the name of a value.
-use Rattle.std.specs.Prelude.{ℕ, List, Option}
+use Rattle.std.specs.Prelude.{ℕ, List, Option, map}
+use Rattle.std.specs.String.{string_bytes}
 use Rattle.prop_names.specs.ByNumber.{text_at}
 use Rattle.prop_names.specs.ValueNames.{listed_at}
 use Rattle.prop_names.specs.declared.by_number.NamesByNumber.{NamesByNumber}
@@ -8,8 +9,6 @@ use Rattle.prop_names.specs.declared.value_names.LinearNames.TheVariants.{Listed
 use Rattle.prop_names.specs.declared.value_names.PropertyEnumToValueNameLinearMap.{PropertyEnumToValueNameLinearMap}
 use Rattle.prop_names.specs.declared.value_names.PropertyEnumToValueNameSparseMap.{PropertyEnumToValueNameSparseMap}
 use Rattle.prop_names.specs.declared.value_names.PropertyScriptToIcuScriptMap.{PropertyScriptToIcuScriptMap}
-use Rattle.std.specs.Prelude.{map}
-use Rattle.std.specs.String.{string_bytes}
 
 -- the name of a number
 abbrev pub name_at : NamesByNumber → ℕ → Option (List ℕ)

@@ -42,7 +42,8 @@ impl NamesByNumber {
         Some(self.names.get(&number)?.as_str())
     }
 
-    /// Gives the number this name, which isn't empty. Where memory is refused nothing has changed.
+    /// Gives the number this name, which isn't empty, in place of the name that it may have had. Where memory is refused nothing
+    /// has changed.
     pub fn insert(&mut self, number: u32, name: String) -> Result<(), NoMemory>
         requires { 0 < length (string_bytes name) }
         ensures ok { OnOk result ((n : ℕ) → name_at self.new n ≡

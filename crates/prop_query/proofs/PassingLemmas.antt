@@ -1,6 +1,6 @@
 -- The ranges of the runs whose values pass a test are the maximal ranges of the code points whose values do.
 use Rattle.std.proofs.Common.{◌≡◌, ℕ, ◌+◌, ◌<◌, ◌≤◌, Bool, true, false, cond, ◌&&◌, List, [], ◌∷◌, Option, Some, None, refl, sym, ap, ap₂, ◌∙◌, inl, inr, arith}
-use Rattle.std.proofs.lemmas.Bool.{cases_lt}
+use Rattle.std.proofs.lemmas.Bool.{cases_lt, cond_both}
 use Rattle.std.proofs.lemmas.Bool.Decides.{nat_tests}
 use Rattle.cp_invlist.specs.InversionList.{is_code_point}
 use Rattle.cp_invlist.specs.Ranges.{AreRangesFrom}
@@ -53,11 +53,6 @@ ranges-closed m from n None end rs ordered none is_begun behind =
 ranges-closed m from n (Some begun) end rs ordered none is_begun behind =
     (is_begun.0, is_begun.1, is_begun.3, is_begun.4, none (begun.end + 1) (omega arith) (omega arith), behind (begun.end + 1) (omega arith, λ c low high. none c (omega arith) (omega arith)))
 
--- the choice that is made at a run
-ranges-choice : (m : ℕ → Bool) (from : ℕ) (b : Bool) (one two : List CodePointRange) → (b ≡ true → AreRangesFrom m from one) → (b ≡ false → AreRangesFrom m from two) → AreRangesFrom m from (cond b one two)
-ranges-choice m from true one two first second = first refl
-ranges-choice m from false one two first second = second refl
-
 -- behind the last code point nothing is a member
 members-past_end : {V : Type 0} (passes : V → Bool) (at : ℕ → V) (c : ℕ) → 0x11_0000 ≤ c → members passes at c ≡ false
 members-past_end passes at c past =
@@ -74,7 +69,7 @@ pub ranges-passing_from : {V : Type 0} (eq : V → V → Bool) → ((x y : V) �
 ranges-passing_from eq exact passes at from n begun [] runs is_begun = ranges-end passes at from n begun runs is_begun
 ranges-passing_from eq exact passes at from n begun (r ∷ rs) runs is_begun =
     let m = members passes at in
-    ranges-choice m from (passes r.value) (passing_from passes (Some (grown begun r.range)) rs) (closed begun (passing_from passes None rs))
+    cond_both (passes r.value) (passing_from passes (Some (grown begun r.range)) rs) (closed begun (passing_from passes None rs)) (AreRangesFrom m from)
     (λ test. ranges-passing_from eq exact passes at from (r.range.end + 1) (Some (grown begun r.range)) rs runs.6
     (IsBegun-grown m from n begun r.range runs.0 runs.1 (members-run eq exact passes at n r true test runs.2 runs.3 runs.4) is_begun))
     (λ test. ranges-closed m from n begun r.range.end (passing_from passes None rs) runs.1 (members-run eq exact passes at n r false test runs.2 runs.3 runs.4) is_begun

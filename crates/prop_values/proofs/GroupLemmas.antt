@@ -3,18 +3,10 @@ use Rattle.std.proofs.Common.{◌≡◌, ℕ, zero, suc, ◌+◌, ◌/◌, ◌%�
 use Rattle.std.specs.Int.{bit_at}
 use Rattle.std.proofs.lemmas.Bool.{and_parts}
 use Rattle.std.proofs.lemmas.Bool.Decides.{nat_tests}
-use Rattle.std.proofs.lemmas.Nat.Bits.{bit_at-lt, bit_at_lowest, bit_at-suc}
+use Rattle.std.proofs.lemmas.Nat.Bits.{bit_at-lt, bit_at_lowest, bit_at-suc, same_from_bits_below}
 use Rattle.prop_values.specs.Category.{categories, number_of}
 use Rattle.prop_values.specs.Groups.{has, SameMembers}
 use Rattle.prop_values.specs.declared.category.GeneralCategory.{GeneralCategory}
-
--- numbers below a power of two with the same bits are the same
-same_bits : (k a b : ℕ) → a < 2 ^ k → b < 2 ^ k → ((i : ℕ) → i < k → bit_at a i ≡ bit_at b i) → a ≡ b
-same_bits zero a b small_a small_b bits = omega arith
-same_bits (suc k) a b small_a small_b bits =
-    let low : a % 2 ≡ b % 2 = sym (bit_at_lowest a) ∙ (bits 0 (omega arith) ∙ bit_at_lowest b) in
-    let high : a / 2 ≡ b / 2 = same_bits k (a / 2) (b / 2) (omega arith) (omega arith) (λ i below. sym (bit_at-suc a i) ∙ (bits (suc i) (omega arith) ∙ bit_at-suc b i)) in
-    omega (arith, low, high)
 
 -- the numbers of the categories in a list count from this one
 abbrev are_numbered : ℕ → List GeneralCategory → Bool
@@ -40,4 +32,4 @@ same_bits_of a b n (suc i) m (c ∷ cs) numbered same is below =
 
 pub same_members-same_bits : SameMembers
 same_members-same_bits a b small_a small_b same =
-    same_bits 30 a b small_a small_b (λ i below. same_bits_of a b 0 i i categories refl same (omega arith) below)
+    same_from_bits_below 30 a b small_a small_b (λ i below. same_bits_of a b 0 i i categories refl same (omega arith) below)

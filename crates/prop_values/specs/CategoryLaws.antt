@@ -44,10 +44,6 @@ category_of-number_of FinalPunctuation = refl
 pub category_of-again : (n : ℕ) (c : GeneralCategory) → category_of n ≡ Some c → category_of (number_of c) ≡ Some c
 category_of-again n c h = category_of-number_of c
 
-pub number_of-injective : (c d : GeneralCategory) → number_of c ≡ number_of d → c ≡ d
-number_of-injective c d h =
-    let e : Some c ≡ Some d = sym (category_of-number_of c) ∙ (ap category_of h ∙ category_of-number_of d) in cc
-
 pub default_number_of : (c : GeneralCategory) → c ≡ Unassigned → number_of c ≡ 0
 default_number_of c h = ap number_of h
 

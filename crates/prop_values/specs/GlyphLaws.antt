@@ -3,19 +3,17 @@ use Rattle.std.proofs.Common.{◌≡◌, ℕ, ◌+◌, ◌*◌, ◌/◌, ◌%◌
 use Rattle.std.specs.Prelude.{unwrap_or, is_some}
 use Rattle.std.proofs.lemmas.Bool.Decides.{nat_tests}
 use Rattle.std.proofs.lemmas.Bool.{and_parts}
+use Rattle.std.proofs.lemmas.Option.{cond_some}
 use mathlib.Core.Bool.{beq}
 use denote.Enum.Bare.{sameb, same_true, true_same}
 use Rattle.cp_trie.specs.Values.{is_scalar_value}
 use Rattle.prop_values.specs.contracts.glyph.BidiPairedBracketType.{the_type}
 use Rattle.prop_values.specs.declared.glyph.BidiPairedBracketType.TheVariants.{None as NoBracket}
+use Rattle.prop_values.specs.NumberedLaws.{is_some_chosen}
 use Rattle.prop_values.specs.MirroringGlyph.{glyph_bits, bracket_bits, is_glyph_number}
 use Rattle.prop_values.specs.GlyphPacking.{bracket_number, bracket_of, glyph_of, glyph_spelled, unpacked_glyph, packed_glyph}
 use Rattle.prop_values.specs.declared.glyph.BidiMirroringGlyph.{BidiMirroringGlyph}
 use Rattle.prop_values.specs.declared.glyph.BidiPairedBracketType.{BidiPairedBracketType}
-
-chosen : {V : Type 0} (b : Bool) (v w : V) → cond b (Some v) None ≡ Some w → (b ≡ true) × (v ≡ w)
-chosen true v w h = (refl, cc)
-chosen false v w h = cc
 
 glyph_number : (g : ℕ) (b : Bool) → (g == 0) ≡ b → unwrap_or (cond b None (Some g)) 0 ≡ g
 glyph_number g true h = let zero_is : g ≡ 0 = grind (arith, nat_tests) in sym zero_is
@@ -64,7 +62,7 @@ no_fourth_bracket a b h bound = grind (arith, nat_tests)
 -- the packing of a value that a number unpacks to unpacks to that value
 pub unpacked_glyph-again : (n : ℕ) (v : BidiMirroringGlyph) → unpacked_glyph n ≡ Some v → unpacked_glyph (packed_glyph v) ≡ Some v
 unpacked_glyph-again n v h =
-    let spelled = chosen (is_glyph_number n) (glyph_spelled n) v h in
+    let spelled = cond_some (is_glyph_number n) (glyph_spelled n) v h in
     let g = glyph_bits n in
     let m = n / 2097152 % 2 in
     let b = bracket_bits n in
@@ -123,10 +121,6 @@ values_reflexive x =
 pub same_glyph : (x y : BidiMirroringGlyph) → (values_eq x y ≡ true) ↔ (x ≡ y)
 same_glyph x y =
     (same_values x y, λ e. let P : BidiMirroringGlyph → Type 0 = λ z. values_eq x z ≡ true in subst P e (values_reflexive x))
-
-is_some_chosen : {V : Type 0} (b : Bool) (v : V) → is_some (cond b (Some v) None) ≡ b
-is_some_chosen true v = refl
-is_some_chosen false v = refl
 
 -- the numbers that unpack are those whose bits spell a value
 pub unpacked_glyph-accepted : (n : ℕ) → is_some (unpacked_glyph n) ≡ is_glyph_number n

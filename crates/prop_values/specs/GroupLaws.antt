@@ -3,6 +3,7 @@ use Rattle.std.proofs.Common.{◌≡◌, ℕ, ◌<◌, ◌^◌, Bool, true, fals
 use Rattle.std.specs.Prelude.{is_some}
 use Rattle.std.proofs.lemmas.Bool.{and_parts}
 use Rattle.std.proofs.lemmas.Bool.Decides.{nat_tests}
+use Rattle.std.proofs.lemmas.Option.{cond_some}
 use Rattle.prop_values.specs.Groups.{number_in, bits_in, packings, packed_group, unpacked_group}
 
 -- the bits that the number of these bits stands for are these bits
@@ -25,14 +26,10 @@ bits_in-comes_back (row ∷ rows) n empty all =
     let parts = and_parts (comes_back row.1) (all_come_back rows) all in
     choice_comes_back (row.0 == n) row.1 (bits_in rows n) parts.0 (bits_in-comes_back rows n empty parts.1)
 
-chosen : {V : Type 0} (b : Bool) (v w : V) → cond b (Some v) None ≡ Some w → v ≡ w
-chosen true v w h = cc
-chosen false v w h = cc
-
 -- the packing of a group that a number unpacks to unpacks to that group
 pub unpacked_group-again : (n group : ℕ) → unpacked_group n ≡ Some group → unpacked_group (packed_group group) ≡ Some group
 unpacked_group-again n group h =
-    let group_is : bits_in packings n ≡ group = chosen (nat_lt n 65536) (bits_in packings n) group h in
+    let group_is : bits_in packings n ≡ group = (cond_some (nat_lt n 65536) (bits_in packings n) group h).1 in
     let back = bits_in-comes_back packings n refl refl in
     let parts = and_parts (bits_in packings (number_in packings (bits_in packings n)) == bits_in packings n) _ back in
     let same : bits_in packings (number_in packings (bits_in packings n)) ≡ bits_in packings n = grind (arith, nat_tests, parts.0) in

@@ -1,10 +1,12 @@
-//! Lines of a text, and the fields of a line.
+//! Lines of a text, the fields of a line, and numbers as fields spell them.
 #![tactic(auto)]
 
 mod fields;
 mod lines;
+mod numbers;
 mod parts;
 
 pub use fields::{before_comment, split_field};
 pub use lines::split_line;
+pub use numbers::{decimal_number, hex};
 pub use parts::split_behind;

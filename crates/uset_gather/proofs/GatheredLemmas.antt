@@ -1,5 +1,5 @@
 -- What is gathered, member by member.
-use Rattle.std.proofs.Common.{◌≡◌, ℕ, ◌≤◌, Bool, true, false, ◌||◌, ◌&&◌, nat_le, List, Result, Ok, Err, IfOk, refl, arith}
+use Rattle.std.proofs.Common.{◌≡◌, ℕ, ◌≤◌, ◌&&◌, nat_le, List, arith}
 use Rattle.std.proofs.lemmas.Bool.Decides.{nat_tests}
 use Rattle.cp_invlist.specs.InversionList.{is_code_point}
 use Rattle.uset_grammar.specs.Tree.{Member, point, string}
@@ -8,18 +8,6 @@ pub each_member : (P : Member → Type 0) → ((c : ℕ) → P (point c)) → ((
 each_member P points strings (point c) = points c
 each_member P points strings (string bytes) = strings bytes
 
-pub if_ok : {A E : Type 0} (result : Result A E) {P Q : A → Type 0} → ((x : A) → P x → Q x) → IfOk result P → IfOk result Q
-if_ok (Ok x) f h = f x h
-if_ok (Err e) f h = tt
-
-pub or_nothing : (b : Bool) → b ≡ (b || false)
-or_nothing true = refl
-or_nothing false = refl
-
 -- a range of code points has code points alone
 pub within_code_points : (first last c : ℕ) → last ≤ 0x10FFFF → ((nat_le first c && nat_le c last) && is_code_point c) ≡ (nat_le first c && nat_le c last)
 within_code_points first last c within = grind (arith, nat_tests)
-
-pub none_kept : (b : Bool) → (b && false) ≡ false
-none_kept true = refl
-none_kept false = refl

@@ -3,12 +3,13 @@ use Rattle.std.proofs.Common.{◌≡◌, ◌≤◌, ℕ, zero, suc, ◌+◌, Boo
 use mathlib.Core.Logic.{◌⊎◌}
 use Rattle.std.specs.Prelude.{◌==◌, nat_le, if◌then◌else◌}
 use Rattle.std.specs.List.{list_all}
-use Rattle.std.proofs.lemmas.Bool.{cases_Bool, eqb-true, le-leb}
+use Rattle.std.proofs.lemmas.Bool.{cases_Bool, eqb-true, le-leb, and_left, and_right}
 use Rattle.std.proofs.lemmas.Bool.Decides.{nat_tests}
 use Rattle.std.proofs.lemmas.List.Folds.{list_all-append}
 use Rattle.uset_grammar.specs.Text.{Text, ◌>>=◌, behind_code}
 use Rattle.uset_grammar.specs.Outcome.{Outcome, got, faulty, ended}
 use Rattle.uset_grammar.specs.Escape.{Apart, is_hex, value, is_number, Spelled, named, itself, numbers, digits, up_to_brace, with_word, words, values, at_least_one, braced_or, plain, Letter, four, two, six, name, other, letter, escape_by, escape_at, escape_shape}
+use Rattle.uset_grammar.proofs.Binding.{bind_assoc}
 use Rattle.uset_grammar.proofs.UnitMachine.{Next, goes, whole, refuses, turn, run, free}
 
 -- What an escape awaits.
@@ -105,11 +106,11 @@ pub record Digits (read : Text) (m : ℕ) : Type 0 where
   pub some : 1 ≤ length read
   pub most : length read + m ≡ 6
 
-length_snoc : (w : Text) (c : ℕ) → length (w ++ c ∷ []) ≡ length w + 1
+pub length_snoc : (w : Text) (c : ℕ) → length (w ++ c ∷ []) ≡ length w + 1
 length_snoc [] c = refl
 length_snoc (d ∷ w) c = let ih = length_snoc w c in omega arith
 
-all_snoc : (test : ℕ → Bool) (w : Text) (c : ℕ) → list_all test w ≡ true → test c ≡ true → list_all test (w ++ c ∷ []) ≡ true
+pub all_snoc : (test : ℕ → Bool) (w : Text) (c : ℕ) → list_all test w ≡ true → test c ≡ true → list_all test (w ++ c ∷ []) ≡ true
 all_snoc test w c h k = list_all-append test w (c ∷ []) ∙ (λ i. h i && (k i && true))
 
 pub one_digit : (c : ℕ) → is_hex c ≡ true → Digits (c ∷ []) 5
@@ -130,18 +131,11 @@ record Bad (w : Text) : Type 0 where
   some : 1 ≤ length w
   bad : (list_all is_hex w ≡ false) ⊎ (7 ≤ length w)
 
-false_and : (a b : Bool) → a ≡ false → (a && b) ≡ false
-false_and a b h = ap (λ x. x && b) h
-
-and_false : (a b : Bool) → b ≡ false → (a && b) ≡ false
-and_false true b h = h
-and_false false b h = refl
-
 bad_longer : (w : Text) (c : ℕ) → Bad w → Bad (w ++ c ∷ [])
 bad_longer w c b = let l = length_snoc w c in record {
   some = omega (arith, b.some);
   bad = elim b.bad [
-    | inl isnt ↦ inl (list_all-append is_hex w (c ∷ []) ∙ false_and (list_all is_hex w) (is_hex c && true) isnt)
+    | inl isnt ↦ inl (list_all-append is_hex w (c ∷ []) ∙ and_left (list_all is_hex w) (is_hex c && true) isnt)
     | inr long ↦ inr (omega arith)
   ];
 }
@@ -150,18 +144,14 @@ bad_number : (w : Text) → Bad w → is_number w ≡ false
 unfolding is_number
 bad_number w b = elim b.bad [
   | inl isnt ↦ ap (λ x. x && (nat_le 1 (length w) && nat_le (length w) 6)) isnt
-  | inr long ↦ and_false (list_all is_hex w) (nat_le 1 (length w) && nat_le (length w) 6) (and_false (nat_le 1 (length w)) (nat_le (length w) 6) (grind (arith, nat_tests)))
+  | inr long ↦ and_right (list_all is_hex w) (nat_le 1 (length w) && nat_le (length w) 6) (and_right (nat_le 1 (length w)) (nat_le (length w) 6) (grind (arith, nat_tests)))
 ]
 
 stray_bad : (w : Text) (c : ℕ) → is_hex c ≡ false → Bad (w ++ c ∷ [])
 stray_bad w c h = let l = length_snoc w c in record {
   some = omega arith;
-  bad = inl (list_all-append is_hex w (c ∷ []) ∙ and_false (list_all is_hex w) (is_hex c && true) (false_and (is_hex c) true h));
+  bad = inl (list_all-append is_hex w (c ∷ []) ∙ and_right (list_all is_hex w) (is_hex c && true) (and_left (is_hex c) true h));
 }
-
-bind_assoc : {A B C : Type 0} (o : Option A) (f : A → Option B) (g : B → Option C) → ((o >>= f) >>= g) ≡ (o >>= λ x. (f x >>= g))
-bind_assoc None f g = refl
-bind_assoc (Some a) f g = refl
 
 bad_word : (w : Text) (l : List Text) → Bad w → values (with_word w l) ≡ None
 bad_word [] l b = absurd (let s = b.some in omega arith)

@@ -9,7 +9,7 @@ use Rattle.uset_grammar.specs.Text.{Text}
 use Rattle.uset_grammar.specs.Outcome.{Kind, invalid_escape, Outcome, got, faulty, ended}
 use Rattle.uset_grammar.specs.Escape.{Apart, is_hex, value, is_number, Spelled, named, itself, numbers, Letter, four, two, six, name, other, letter, escape_shape, is_above, is_surrogate}
 use Rattle.uset_grammar.specs.EscapeSlips.{Around, in_string, in_bracket, IsNumber, BeforeNumber, first, further, Sixth, EscapeSlips, not_read, long_above, above, sole_surrogate, first_surrogate, later_surrogate, shorter_surrogate, two_codes}
-use Rattle.uset_grammar.proofs.UnitMachine.{Next, goes, whole, refuses, Slip, turn, onward, run, reach, free, run_on, reach_on}
+use Rattle.uset_grammar.proofs.UnitMachine.{Next, goes, whole, refuses, Slip, turn, onward, run, reach, free, run_on, reach_on, whole_from}
 use Rattle.uset_grammar.proofs.EscapeMachine.{State, start, letters, brace_or, zero_first, zero_second, fixed, awaits, number, at_letter, next_fixed, next_digit, close_or, next, read_whole, Digits, digits_number, shape_is_read}
 use Rattle.uset_grammar.proofs.UnitMachineOutcome.{goes_within}
 use Rattle.uset_grammar.proofs.EscapeMachineSlips.{or_else, letter_slip, second, later, sixth, shorter, fixed_slip, within, end_slip, slip, At, letter_name, walk}
@@ -308,11 +308,6 @@ module _ (white_space : ℕ → Bool) (apart : Apart white_space) where
   sole_within p (fixed true k w) c n e sur = sole_fixed_by p k n c w (is_hex c) e sur
   sole_within p (awaits ns) c n e sur = sole_awaits p ns n c (is_hex c) (cond (c == 0x7D) (close_or ns) (cond (white_space c) (goes (awaits ns)) refuses)) e
   sole_within p (number ns m w before) c n e sur = sole_number p ns m w before c n (is_hex c) e
-
-  whole_from : (p : Text) (c : ℕ) (v : Spelled) (n : Next State Spelled) (go : State → Outcome Spelled) → ((s : State) → go s ≡ ended) → turn None n go p c [] ≡ got v [] → n ≡ whole v
-  whole_from p c v (goes s) go all e = absurd (let f : ended ≡ got v [] = sym (all s) ∙ e in cc)
-  whole_from p c v (whole w) go all e = let f : w ≡ v = cc in ap (λ z. whole z) f
-  whole_from p c v refuses go all e = absurd (let f = e in cc)
 
   -- the last character of a shape
   pub ends_shape : (t : Text) (c : ℕ) (v : Spelled) → escape_shape white_space (t ++ c ∷ []) ≡ Some (v, []) →

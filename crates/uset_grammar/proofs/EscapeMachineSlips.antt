@@ -10,7 +10,7 @@ use Rattle.uset_grammar.specs.Outcome.{unexpected, unimplemented, invalid_escape
 use Rattle.uset_grammar.specs.Escape.{Apart, is_hex, value, Spelled, named, itself, numbers, Letter, four, two, six, name, other, letter, is_above, is_surrogate}
 use Rattle.uset_grammar.specs.EscapeSlips.{Around, in_string, in_bracket, BeforeNumber, first, further}
 use Rattle.uset_grammar.proofs.UnitMachine.{Next, goes, whole, refuses, Slip, onward, reach, free}
-use Rattle.uset_grammar.proofs.EscapeMachine.{State, start, letters, brace_or, zero_first, zero_second, fixed, awaits, number, at_letter, next_fixed, next_digit, close_or, next, Sort, digit, brace, white, stray, sort, Digits, one_digit, more_digits, digits_number}
+use Rattle.uset_grammar.proofs.EscapeMachine.{State, start, letters, brace_or, zero_first, zero_second, fixed, awaits, number, at_letter, next_fixed, next_digit, close_or, next, Sort, digit, brace, white, stray, sort, Digits, one_digit, more_digits, digits_number, length_snoc, all_snoc}
 
 abbrev pub or_else : Slip → Slip → Slip
 or_else (Some x) y = Some x
@@ -115,13 +115,6 @@ letter_name c h = eqb-true c 0x4E (letter_name_by (c == 0x75) (c == 0x78) (c == 
 pub snoc : {p q : Text} {c d : ℕ} → p ≡ q → c ≡ d → p ++ c ∷ [] ≡ q ++ d ∷ []
 snoc e f = λ i. e i ++ f i ∷ []
 
-pub len_snoc : (w : Text) (c : ℕ) → length (w ++ c ∷ []) ≡ length w + 1
-len_snoc [] c = refl
-len_snoc (d ∷ w) c = let ih = len_snoc w c in omega arith
-
-snoc_all : (test : ℕ → Bool) (w : Text) (c : ℕ) → list_all test w ≡ true → test c ≡ true → list_all test (w ++ c ∷ []) ≡ true
-snoc_all test w c h k = list_all-append test w (c ∷ []) ∙ (λ i. h i && (k i && true))
-
 module _ (white_space : ℕ → Bool) (apart : Apart white_space) (a : Around) where
   start_on : (p : Text) (c : ℕ) (b : Bool) → (c == 0x5C) ≡ b → p ≡ [] → Onward white_space a p c (cond b (goes letters) refuses)
   start_on p c true e at = snoc at (eqb-true c 0x5C e)
@@ -137,7 +130,7 @@ module _ (white_space : ℕ → Bool) (apart : Apart white_space) (a : Around) w
   fixed_on : (p : Text) (long : Bool) (k : ℕ) (w : Text) (c : ℕ) → is_hex c ≡ true → At white_space a (fixed long k w) p → Onward white_space a p c (next_fixed long k (w ++ c ∷ []))
   fixed_on p long zero w c e at = tt
   fixed_on p false (suc k) w c e at = tt
-  fixed_on p true (suc k) w c e at = (snoc at.0 refl, snoc_all is_hex w c at.1 e, (let l = len_snoc w c in let m = at.2 in omega arith))
+  fixed_on p true (suc k) w c e at = (snoc at.0 refl, all_snoc is_hex w c at.1 e, (let l = length_snoc w c in let m = at.2 in omega arith))
 
   fixed_by : (p : Text) (long : Bool) (k : ℕ) (w : Text) (c : ℕ) (h : Bool) → is_hex c ≡ h → At white_space a (fixed long k w) p → Onward white_space a p c (cond h (next_fixed long k (w ++ c ∷ [])) refuses)
   fixed_by p long k w c true e at = fixed_on p long k w c e at
@@ -157,10 +150,10 @@ module _ (white_space : ℕ → Bool) (apart : Apart white_space) (a : Around) w
   zero_by p q c s false e into at = tt
 
   white_more : (ns : List ℕ) (p : Text) (c : ℕ) → white_space c ≡ true → BeforeNumber white_space ns p → BeforeNumber white_space ns (p ++ c ∷ [])
-  white_more _ _ c e (first {c = d} {w} l blank) = first {c = d} {w = w ++ c ∷ []} l (record { is = snoc_all white_space w c blank.is e })
+  white_more _ _ c e (first {c = d} {w} l blank) = first {c = d} {w = w ++ c ∷ []} l (record { is = all_snoc white_space w c blank.is e })
   white_more _ _ c e (further {ns} {before} {word} {w} {c = d} b counted one blank) =
       subst (BeforeNumber white_space (ns ++ value word ∷ [])) (sym (append_assoc before (word ++ d ∷ w) (c ∷ []) ∙ ap (λ z. before ++ z) (append_assoc word (d ∷ w) (c ∷ []))))
-      (further {w = w ++ c ∷ []} b counted one (record { is = snoc_all white_space w c blank.is e }))
+      (further {w = w ++ c ∷ []} b counted one (record { is = all_snoc white_space w c blank.is e }))
 
   close_on : (p : Text) (c : ℕ) (ns : List ℕ) → Onward white_space a p c (close_or ns)
   close_on p c [] = tt

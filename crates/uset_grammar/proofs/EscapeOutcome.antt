@@ -1,19 +1,21 @@
 -- What begins as an escape has one outcome.
-use Rattle.std.proofs.Common.{◌≡◌, ◌<◌, ◌≤◌, ℕ, zero, suc, ◌+◌, Bool, true, false, ◌||◌, ◌&&◌, cond, List, [], ◌∷◌, ◌++◌, length, Option, Some, None, refl, sym, ap, ◌∙◌, subst, inl, inr, append_assoc, arith}
+use Rattle.std.proofs.Common.{◌≡◌, ◌<◌, ◌≤◌, ℕ, zero, suc, ◌+◌, ◌*◌, ◌^◌, Bool, true, false, ◌||◌, ◌&&◌, cond, List, [], ◌∷◌, ◌++◌, length, Option, Some, None, refl, sym, ap, ◌∙◌, subst, inl, inr, append_assoc, arith}
 use Rattle.std.specs.Prelude.{◌==◌, nat_le}
 use Rattle.std.specs.List.{list_all}
-use Rattle.std.proofs.lemmas.Bool.{cases_Bool}
+use Rattle.std.proofs.lemmas.Bool.{cases_Bool, and_parts, and_right}
 use Rattle.std.proofs.lemmas.Bool.Decides.{nat_tests}
 use Rattle.std.proofs.lemmas.List.Folds.{list_all-append}
 use Rattle.std.specs.Char.{digit_value}
+use Rattle.std.proofs.Math.Nat.{lt_of_lt_of_le, mul-le-mul_right, mul_assoc, mul_right_comm, one-mul, pow-suc, pow-le-pow_right}
 use Rattle.uset_grammar.specs.Text.{Text, ◌>>=◌}
 use Rattle.uset_grammar.specs.Outcome.{HasOutcome, Kind, invalid_escape, Outcome, got, Enough, NoSlip}
 use Rattle.uset_grammar.specs.Escape.{Apart, is_hex, value, Spelled, named, itself, numbers, up_to_brace, words, values, at_least_one, plain, Letter, four, two, six, name, other, letter, is_above, is_surrogate, onto}
 use Rattle.uset_grammar.specs.EscapeSlips.{EscapeShape, EscapeRead, Around, fits_in, so_many, in_string, in_bracket, allowed, EscapeSlips}
-use Rattle.uset_grammar.proofs.UnitMachine.{Next, goes, whole, refuses, Slip, turn, Halts, run, reach, Stopped, free, run_on, got_longer, part_of}
-use Rattle.uset_grammar.proofs.EscapeMachine.{State, start, letters, brace_or, zero_first, zero_second, fixed, awaits, number, at_letter, next_fixed, next_digit, close_or, next, read_whole, Sort, digit, brace, white, stray, sort, Digits, one_digit, more_digits, shape_is_read, braces_read, inner, finish}
-use Rattle.uset_grammar.proofs.UnitMachineOutcome.{Describes, got_whole, whole_got, faulty_faults, faults_faulty, ended_sound, sound_ended}
-use Rattle.uset_grammar.proofs.EscapeMachineSlips.{or_else, letter_slip, second, later, sixth, shorter, fixed_slip, within, end_slip, slip, len_snoc}
+use Rattle.uset_grammar.proofs.Binding.{bound}
+use Rattle.uset_grammar.proofs.UnitMachine.{Next, goes, whole, refuses, Slip, turn, Halts, run, reach, Stopped, free, run_on, got_longer, part_of, Keeps, read_fits}
+use Rattle.uset_grammar.proofs.EscapeMachine.{State, start, letters, brace_or, zero_first, zero_second, fixed, awaits, number, at_letter, next_fixed, next_digit, close_or, next, read_whole, Sort, digit, brace, white, stray, sort, Digits, one_digit, more_digits, shape_is_read, braces_read, inner, finish, length_snoc, all_snoc}
+use Rattle.uset_grammar.proofs.UnitMachineOutcome.{Describes, answered}
+use Rattle.uset_grammar.proofs.EscapeMachineSlips.{or_else, letter_slip, second, later, sixth, shorter, fixed_slip, within, end_slip, slip}
 use Rattle.uset_grammar.proofs.EscapeMachineMeaning.{read_got, at_slip_law, slip_at_law, not_above}
 
 zeros : ℕ → Text
@@ -50,56 +52,23 @@ hex_small : (c : ℕ) → is_hex c ≡ true → digit_value c < 16
 unfolding is_hex
 hex_small c h = grind (arith, nat_tests)
 
-first_of : (x y : Bool) → (x && y) ≡ true → x ≡ true
-first_of true y h = refl
-first_of false y h = h
-
-rest_of : (x y : Bool) → (x && y) ≡ true → y ≡ true
-rest_of true y h = h
-rest_of false y h = absurd (let e = h in cc)
-
-not_above_5 : (n : ℕ) → n < 1048576 → is_above n ≡ false
-unfolding is_above
-not_above_5 n h = grind (arith, nat_tests)
-
-digits_below : (w : Text) → list_all is_hex w ≡ true → length w ≤ 5 → onto 0 w < 1048576
-digits_below [] h l = omega arith
-digits_below (a ∷ []) h l =
-    let ha = hex_small a (first_of (is_hex a) true h) in omega arith
-digits_below (a ∷ b ∷ []) h l =
-    let h1 = rest_of (is_hex a) (is_hex b && true) h in
-    let ha = hex_small a (first_of (is_hex a) (is_hex b && true) h) in
-    let hb = hex_small b (first_of (is_hex b) true h1) in omega arith
-digits_below (a ∷ b ∷ c ∷ []) h l =
-    let h1 = rest_of (is_hex a) (is_hex b && (is_hex c && true)) h in
-    let h2 = rest_of (is_hex b) (is_hex c && true) h1 in
-    let ha = hex_small a (first_of (is_hex a) (is_hex b && (is_hex c && true)) h) in
-    let hb = hex_small b (first_of (is_hex b) (is_hex c && true) h1) in
-    let hc = hex_small c (first_of (is_hex c) true h2) in omega arith
-digits_below (a ∷ b ∷ c ∷ d ∷ []) h l =
-    let h1 = rest_of (is_hex a) (is_hex b && (is_hex c && (is_hex d && true))) h in
-    let h2 = rest_of (is_hex b) (is_hex c && (is_hex d && true)) h1 in
-    let h3 = rest_of (is_hex c) (is_hex d && true) h2 in
-    let ha = hex_small a (first_of (is_hex a) (is_hex b && (is_hex c && (is_hex d && true))) h) in
-    let hb = hex_small b (first_of (is_hex b) (is_hex c && (is_hex d && true)) h1) in
-    let hc = hex_small c (first_of (is_hex c) (is_hex d && true) h2) in
-    let hd = hex_small d (first_of (is_hex d) true h3) in omega arith
-digits_below (a ∷ b ∷ c ∷ d ∷ e ∷ []) h l =
-    let h1 = rest_of (is_hex a) (is_hex b && (is_hex c && (is_hex d && (is_hex e && true)))) h in
-    let h2 = rest_of (is_hex b) (is_hex c && (is_hex d && (is_hex e && true))) h1 in
-    let h3 = rest_of (is_hex c) (is_hex d && (is_hex e && true)) h2 in
-    let h4 = rest_of (is_hex d) (is_hex e && true) h3 in
-    let ha = hex_small a (first_of (is_hex a) (is_hex b && (is_hex c && (is_hex d && (is_hex e && true)))) h) in
-    let hb = hex_small b (first_of (is_hex b) (is_hex c && (is_hex d && (is_hex e && true))) h1) in
-    let hc = hex_small c (first_of (is_hex c) (is_hex d && (is_hex e && true)) h2) in
-    let hd = hex_small d (first_of (is_hex d) (is_hex e && true) h3) in
-    let he = hex_small e (first_of (is_hex e) true h4) in omega arith
-digits_below (a ∷ b ∷ c ∷ d ∷ e ∷ f ∷ w) h l = absurd (omega (arith, l))
+-- digits that are read onto a number
+onto_below : (w : Text) (n : ℕ) → list_all is_hex w ≡ true → onto n w < (n + 1) * 16 ^ length w
+onto_below [] n h = omega arith
+onto_below (c ∷ t) n h =
+    let p = and_parts (is_hex c) (list_all is_hex t) h in
+    let k = 16 ^ length t in
+    let further : n * 16 + digit_value c + 1 ≤ (n + 1) * 16 = omega (arith, hex_small c p.0) in
+    let one_more : (n + 1) * 16 * k ≡ (n + 1) * 16 ^ suc (length t) =
+    mul_right_comm (n + 1) 16 k ∙ (mul_assoc (n + 1) k 16 ∙ ap (λ m. (n + 1) * m) (sym (pow-suc 16 (length t)))) in
+    subst (λ most. onto (n * 16 + digit_value c) t < most) one_more (lt_of_lt_of_le (onto_below t (n * 16 + digit_value c) p.1) (mul-le-mul_right k further))
 
 -- a number of at most five digits is a code point
 five_below : (w : Text) → list_all is_hex w ≡ true → length w ≤ 5 → is_above (value w) ≡ false
-unfolding value
-five_below w h l = not_above_5 (onto 0 w) (digits_below w h l)
+unfolding value is_above
+five_below w h l =
+    let below : onto 0 w < 16 ^ 5 = lt_of_lt_of_le (onto_below w 0 h) (subst (λ most. most ≤ 16 ^ 5) (sym (one-mul (16 ^ length w))) (pow-le-pow_right {n = 16} (omega arith) l)) in
+    grind (arith, nat_tests, below)
 
 -- WHERE THE VALUES ARE ALLOWED
 module _ (a : Around) where
@@ -132,9 +101,7 @@ module _ (a : Around) where
   Fine (number ns m w b) = Ready ns × Digits w m × (m ≡ 0 → Last a ns (value w))
 
   abbrev pub Good : Next State Spelled → Type 0
-  Good (goes s) = Fine s
-  Good (whole v) = allowed a v ≡ true
-  Good refuses = Unit {0}
+  Good = Keeps Fine (λ v. allowed a v ≡ true)
 
   fits_bracket : (both : Bool) (n : ℕ) → is_above n ≡ false → fits_in (in_bracket both) n ≡ true
   fits_bracket both n h = rw h refl
@@ -152,15 +119,11 @@ one_fits in_string n h e = let s = surrogate_none (is_surrogate n) (invalid_esca
 one_fits (in_bracket true) n h e = rw h refl
 one_fits (in_bracket false) n h e = rw h refl
 
--- the last of several numbers
-all_one_more : (test : ℕ → Bool) (ns : List ℕ) (v : ℕ) → list_all test ns ≡ true → test v ≡ true → list_all test (ns ++ v ∷ []) ≡ true
-all_one_more test ns v h k = list_all-append test ns (v ∷ []) ∙ (λ i. h i && (k i && true))
-
 several_fit : (a : Around) (n : ℕ) (ns : List ℕ) (v : ℕ) → Ready a (n ∷ ns) → Last a a (n ∷ ns) v → allowed a (numbers (n ∷ (ns ++ v ∷ []))) ≡ true
 several_fit in_string n ns v r l =
-    let all = all_one_more (fits_in in_string) (n ∷ ns) v r.0 (fits_string in_string v l.0 l.1) in ap (λ b. b && true) all
+    let all = all_snoc (fits_in in_string) (n ∷ ns) v r.0 (fits_string in_string v l.0 l.1) in ap (λ b. b && true) all
 several_fit (in_bracket both) n ns v r l =
-    let all = all_one_more (fits_in (in_bracket both)) (n ∷ ns) v r.0 (fits_bracket (in_bracket both) both v l) in
+    let all = all_snoc (fits_in (in_bracket both)) (n ∷ ns) v r.0 (fits_bracket (in_bracket both) both v l) in
     let many : both ≡ true = r.1 both refl in
     (λ i. all i && (many i || nat_le (length (n ∷ (ns ++ v ∷ []))) 1))
 
@@ -191,7 +154,7 @@ many_both (in_bracket false) n m ns h b e = absurd (let g : false ≡ true = sym
 
 ready_more : (a : Around) (n m : ℕ) (ns : List ℕ) → allowed a (numbers (n ∷ m ∷ ns)) ≡ true → Ready a (n ∷ m ∷ ns)
 ready_more a n m ns h =
-    (first_of (list_all (fits_in a) (n ∷ m ∷ ns)) (so_many a (n ∷ m ∷ ns)) h, many_both a n m ns (rest_of (list_all (fits_in a) (n ∷ m ∷ ns)) (so_many a (n ∷ m ∷ ns)) h))
+    let p = and_parts (list_all (fits_in a) (n ∷ m ∷ ns)) (so_many a (n ∷ m ∷ ns)) h in (p.0, many_both a n m ns p.1)
 
 ready_after : (a : Around) (ns : List ℕ) → Fair a ns → second a ns ≡ None → Ready a ns
 ready_after a [] f e = tt
@@ -232,12 +195,9 @@ module _ (white_space : ℕ → Bool) (apart : Apart white_space) (a : Around) w
       let e' = ap (λ b. cond b (fixed_slip p zero (value (w ++ c ∷ []))) None) h in
       let n = above_none (is_above (value (w ++ c ∷ []))) (invalid_escape, p) None (sym e' ∙ x) in one_fits a (value (w ++ c ∷ [])) n.0 e
   good_fixed p false (suc k) w c h f x e =
-      (snoc_all' w c f.0 h, (let l = len_snoc w c in let g = f.1 in omega arith))
-    where
-      snoc_all' : (w : Text) (c : ℕ) → list_all is_hex w ≡ true → is_hex c ≡ true → list_all is_hex (w ++ c ∷ []) ≡ true
-      snoc_all' w c h k = all_one_more is_hex w c h k
+      (all_snoc is_hex w c f.0 h, (let l = length_snoc w c in let g = f.1 in omega arith))
   good_fixed p false zero w c h f x e =
-      one_fits a (value (w ++ c ∷ [])) (five_below (w ++ c ∷ []) (all_one_more is_hex w c f.0 h) (let l = len_snoc w c in let g = f.1 in omega arith)) e
+      one_fits a (value (w ++ c ∷ [])) (five_below (w ++ c ∷ []) (all_snoc is_hex w c f.0 h) (let l = length_snoc w c in let g = f.1 in omega arith)) e
 
   good_fixed_by : (p : Text) (long : Bool) (k : ℕ) (w : Text) (c : ℕ) (h : Bool) → is_hex c ≡ h → Fine a (fixed long k w) → within a p (fixed long k w) c ≡ None →
       end_slip a (cond h (next_fixed long k (w ++ c ∷ [])) refuses) ≡ None → Good a (cond h (next_fixed long k (w ++ c ∷ [])) refuses)
@@ -300,33 +260,15 @@ module _ (white_space : ℕ → Bool) (apart : Apart white_space) (a : Around) w
   good p (awaits ns) c f x e = good_awaits p ns c (sort white_space apart c) f x e
   good p (number ns m w b) c f x e = good_number p ns m w b c (sort white_space apart c) f x e
 
-  allowed_from : (p t : Text) (c : ℕ) (v : Spelled) (r : Text) (x : Slip) (n : Next State Spelled) → (x ≡ None → Good a n) →
-      ((s : State) → Fine a s → run (next white_space) (slip white_space a) (p ++ c ∷ []) s t ≡ got v r → allowed a v ≡ true) →
-      turn x n (λ s. run (next white_space) (slip white_space a) (p ++ c ∷ []) s t) p c t ≡ got v r → allowed a v ≡ true
-  allowed_from p t c v r (Some x) n f ih h = absurd (let e = h in cc)
-  allowed_from p t c v r None (goes s) f ih h = ih s (f refl) h
-  allowed_from p t c v r None (whole w) f ih h = let e : w ≡ v = cc in ap (allowed a) (sym e) ∙ f refl
-  allowed_from p t c v r None refuses f ih h = absurd (let e = h in cc)
-
   -- what is read without a slip is allowed
   pub read_allowed : (p t : Text) (s : State) (v : Spelled) (r : Text) → Fine a s → run (next white_space) (slip white_space a) p s t ≡ got v r → allowed a v ≡ true
-  read_allowed p [] s v r f h = absurd (let e = h in cc)
-  read_allowed p (c ∷ t) s v r f h = allowed_from p t c v r (slip white_space a p s c) (next white_space p s c)
-      (λ e. (let n = or_else_none (within a p s c) (end_slip a (next white_space p s c)) e in good p s c f n.0 n.1))
-      (λ s' f' k. read_allowed (p ++ c ∷ []) t s' v r f' k) h
+  read_allowed = read_fits (next white_space) (slip white_space a) (Fine a) (λ v. allowed a v ≡ true)
+      (λ p s c f e. let n = or_else_none (within a p s c) (end_slip a (next white_space p s c)) e in good p s c f n.0 n.1)
 
 -- WHAT IS ALLOWED HAS NO SLIP
-pub bind_some : {A B : Type 0} (o : Option A) (f : A → Option B) (b : B) → (o >>= f) ≡ Some b → (x : A) × (f x ≡ Some b)
-bind_some None f b h = absurd (let e = h in cc)
-bind_some (Some x) f b h = (x, h)
-
 not_among : (test : ℕ → Bool) (ns ms : List ℕ) (v : ℕ) → test v ≡ false → list_all test (ns ++ v ∷ ms) ≡ false
 not_among test [] ms v h = ap (λ b. b && list_all test ms) h
-not_among test (n ∷ ns) ms v h = ap (λ b. test n && b) (not_among test ns ms v h) ∙ last (test n)
-  where
-    last : (b : Bool) → (b && false) ≡ false
-    last true = refl
-    last false = refl
+not_among test (n ∷ ns) ms v h = and_right (test n) (list_all test (ns ++ v ∷ ms)) (not_among test ns ms v h)
 
 above_unfit : (a : Around) (v : ℕ) → is_above v ≡ true → fits_in a v ≡ false
 above_unfit in_string v h = rw h refl
@@ -358,9 +300,9 @@ module _ (white_space : ℕ → Bool) (apart : Apart white_space) where
   awaits_extends : (p t r : Text) (ns : List ℕ) (v : Spelled) → run (next white_space) free p (awaits ns) t ≡ got v r → Extends ns v
   awaits_extends p t r ns v h =
       let read : inner white_space ns [] t ≡ Some (v, r) = sym ((braces_read white_space apart t).0 p ns) ∙ ap (λ o. read_whole o) h in
-      let cut = bind_some (up_to_brace t) (finish white_space ns []) (v, r) read in
-      let some = bind_some (values (words white_space [] cut.0.0)) (λ ms. at_least_one (ns ++ ms) cut.0.1) (v, r) cut.1 in
-      (some.0, at_least_extends ns some.0 cut.0.1 r v some.1)
+      let cut = bound (up_to_brace t) (finish white_space ns []) (v, r) read in
+      let some = bound (values (words white_space [] cut.0.0)) (λ ms. at_least_one (ns ++ ms) cut.0.1) (v, r) cut.2 in
+      (some.0, at_least_extends ns some.0 cut.0.1 r v some.2)
 
   run_step : (p t : Text) (s : State) (c : ℕ) (n : Next State Spelled) (o : Outcome Spelled) → next white_space p s c ≡ n → run (next white_space) free p s (c ∷ t) ≡ o →
       turn None n (λ s'. run (next white_space) free (p ++ c ∷ []) s' t) p c t ≡ o
@@ -466,7 +408,7 @@ module _ (white_space : ℕ → Bool) (apart : Apart white_space) where
       let f = run_step p t (awaits (n ∷ [])) c (goes (number (n ∷ []) 5 (c ∷ []) p)) (got v r) (rw h refl) read in
       let more = number_more t (p ++ c ∷ []) r (n ∷ []) 5 (c ∷ []) p v f in
       let fits : allowed (in_bracket false) (numbers (n ∷ more.0 ∷ more.1)) ≡ true = ap (allowed (in_bracket false)) (sym more.2) ∙ ok in
-      let bad = many_both (in_bracket false) n more.0 more.1 (rest_of (list_all (fits_in (in_bracket false)) (n ∷ more.0 ∷ more.1)) (so_many (in_bracket false) (n ∷ more.0 ∷ more.1)) fits) false refl in cc
+      let bad = many_both (in_bracket false) n more.0 more.1 (and_parts (list_all (fits_in (in_bracket false)) (n ∷ more.0 ∷ more.1)) (so_many (in_bracket false) (n ∷ more.0 ∷ more.1)) fits).1 false refl in cc
 
   lost_end : (a : Around) (p : Text) (s : State) (c : ℕ) (n : Next State Spelled) (x : Kind × Text) → next white_space p s c ≡ n → end_slip a n ≡ Some x → Lost a p s c
   lost_end (in_bracket both) p s c n x en e t r v read ok = absurd (let f = e in cc)
@@ -517,19 +459,6 @@ module _ (white_space : ℕ → Bool) (apart : Apart white_space) where
   abbrev pub outcome : Around → Text → Outcome Spelled
   outcome a q = run (next white_space) (slip white_space a) [] start q
 
-  got_read : (a : Around) (q : Text) (v : Spelled) (r : Text) → outcome a q ≡ got v r → EscapeRead white_space a q v r
-  got_read a q v r h =
-      let unit = got_whole (next white_space) (slip white_space a) start (EscapeShape white_space) (EscapeSlips white_space a) (escape_machine a) q v r h in
-      let read = ap (λ z. run (next white_space) free [] start z) unit.parts ∙ got_longer (next white_space) free [] unit.unit r start v [] unit.read in
-      record { shape = sym (shape_is_read white_space apart q []) ∙ ap (λ o. read_whole o) read; fits = read_allowed white_space apart a [] q start v r tt h }
-
-  read_got_law : (a : Around) (q : Text) (v : Spelled) (r : Text) → EscapeRead white_space a q v r → outcome a q ≡ got v r
-  read_got_law a q v r read =
-      let free_read = read_got (run (next white_space) free [] start q) v r (shape_is_read white_space apart q [] ∙ read.shape) in
-      let part = part_of (next white_space) free [] q r start v free_read in
-      whole_got (next white_space) (slip white_space a) start (EscapeShape white_space) (EscapeSlips white_space a) (escape_machine a) q v r
-      (record { unit = part.part; parts = part.parts; read = part.read; no_slip = allowed_no_slip a part.part v part.read read.fits })
-
   not_early : (a : Around) (t : Text) (stop : Stopped (next white_space) (slip white_space a) [] start (0x5C ∷ t)) → Enough stop.front
   not_early a t stop = by stop.front stop.at stop.more stop.state stop.parts stop.reached stop.halts
     where
@@ -547,17 +476,14 @@ module _ (white_space : ℕ → Bool) (apart : Apart white_space) where
       by (d ∷ f) c m s parts on h = (λ e. (let e' = e in cc), λ e. (let d_is : d ≡ 0x5B = cc in let is : 0x5C ≡ d = cc in absurd (omega (arith, d_is, is))))
 
   pub escape_answered : (a : Around) (t : Text) → HasOutcome (EscapeRead white_space a) (EscapeShape white_space) (EscapeSlips white_space a) (0x5C ∷ t) (outcome a (0x5C ∷ t))
-  escape_answered a t = record {
-    reads = λ v r. (got_read a (0x5C ∷ t) v r, read_got_law a (0x5C ∷ t) v r);
-    faults = λ k b. (
-      faulty_faults (next white_space) (slip white_space a) start (EscapeShape white_space) (EscapeSlips white_space a) (escape_machine a) (0x5C ∷ t) k b (not_early a t),
-      faults_faulty (next white_space) (slip white_space a) start (EscapeShape white_space) (EscapeSlips white_space a) (escape_machine a) (0x5C ∷ t) k b,
-    );
-    ends = (
-      ended_sound (next white_space) (slip white_space a) start (EscapeShape white_space) (EscapeSlips white_space a) (escape_machine a) (0x5C ∷ t) enough,
-      sound_ended (next white_space) (slip white_space a) start (EscapeShape white_space) (EscapeSlips white_space a) (escape_machine a) (0x5C ∷ t),
-    );
-  }
+  escape_answered a t =
+      answered (next white_space) (slip white_space a) start (EscapeShape white_space) (EscapeSlips white_space a) (escape_machine a) (λ v. allowed a v ≡ true)
+      (λ q v r h. read_allowed white_space apart a [] q start v r tt h) (allowed_no_slip a) (EscapeRead white_space a) (0x5C ∷ t)
+      (λ v r. (
+        λ read. (read_got (run (next white_space) free [] start (0x5C ∷ t)) v r (shape_is_read white_space apart (0x5C ∷ t) [] ∙ read.shape), read.fits),
+        λ (read, fits). record { shape = sym (shape_is_read white_space apart (0x5C ∷ t) []) ∙ ap (λ o. read_whole o) read; fits = fits },
+      ))
+      enough (not_early a t)
     where
       enough : Enough (0x5C ∷ t)
       enough = (λ e. (let e' = e in cc), λ e. (let is : ◌≡◌ {A = ℕ} 0x5C 0x5B = cc in absurd (omega (arith, is))))

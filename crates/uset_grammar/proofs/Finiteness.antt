@@ -6,6 +6,7 @@ use Rattle.std.specs.Str.{all_scalars, bytes_eq}
 use Rattle.std.proofs.lemmas.Bool.Decides.{nat_tests}
 use Rattle.std.proofs.lemmas.List.Elements.{All-append, All-nil, All-cons}
 use Rattle.std.proofs.lemmas.List.Folds.{list_any-append}
+use Rattle.std.proofs.lemmas.Bool.{or_from, and_left, and_parts, and_from}
 use lib.Utf8.{scalar}
 use Rattle.uset_grammar.specs.Text.{Text, ◌>>=◌, behind_code, skip}
 use Rattle.uset_grammar.specs.Escape.{is_hex, Spelled, named, itself, numbers, codes_of, plain, is_above, is_surrogate, digits, value, braced, braced_or, values, words, up_to_brace, at_least_one, Letter, four, two, six, name, other, letter, escape_by, escape_at, escape_shape}
@@ -22,20 +23,11 @@ use Rattle.uset_grammar.specs.Front as Front
 use Rattle.uset_grammar.specs.Grammar.{Sort, ItemAt, one_character, variable, unit, ReadsItems, ends, reads, nests, Reads, a_bracket, a_property, a_variable}
 use Rattle.uset_grammar.specs.Finite.{IsBounded, IsString, IsFinite, IsFiniteValue, IsFiniteLanguage}
 use Rattle.uset_grammar.specs.Laws.{FiniteSets, RestsAreLast}
+use Rattle.uset_grammar.proofs.Binding.{bound}
 use Rattle.uset_grammar.proofs.FrontRests.{Suffix, suffix, suffix_of, suffix_then, skip_suffix, closing_is, opening_behind, first_bracket_behind, first_variable_behind}
-use Rattle.uset_grammar.proofs.UnitRests.{bound, escape_long, long_behind, property_long, item_behind}
+use Rattle.uset_grammar.proofs.UnitRests.{escape_long, long_behind, property_long, item_behind}
 
 -- sets of finitely many members
-
-or_left : (a b : Bool) → a ≡ false → b ≡ false → (a || b) ≡ false
-or_left a b h k = ap (λ x. x || b) h ∙ k
-
-and_left : (a b : Bool) → a ≡ false → (a && b) ≡ false
-and_left a b h = ap (λ x. x && b) h
-
-and_holds : (a b : Bool) → (a && b) ≡ true → a ≡ true
-and_holds true b h = refl
-and_holds false b h = h
 
 either : (a b c d : Bool) → (a ≡ true → c ≡ true) → (b ≡ true → d ≡ true) → (a || b) ≡ true → (c || d) ≡ true
 either true b c d f g h = ap (λ x. x || d) (f refl)
@@ -50,7 +42,7 @@ joined : (a b : Member → Bool) → IsFinite a → IsFinite b → IsFinite (λ 
 joined a b f g = record {
   code_points = record {
     bound = f.code_points.bound + g.code_points.bound;
-    beyond = λ c h. or_left (a (point c)) (b (point c)) (f.code_points.beyond c (omega (arith, h))) (g.code_points.beyond c (omega (arith, h)));
+    beyond = λ c h. or_from (a (point c)) (b (point c)) (f.code_points.beyond c (omega (arith, h))) (g.code_points.beyond c (omega (arith, h)));
   };
   texts = f.texts ++ g.texts;
   are_strings = All-append IsString f.texts g.texts f.are_strings g.are_strings;
@@ -63,7 +55,7 @@ kept a b f = record {
   code_points = record { bound = f.code_points.bound; beyond = λ c h. and_left (a (point c)) (b (point c)) (f.code_points.beyond c h) };
   texts = f.texts;
   are_strings = f.are_strings;
-  only = λ bytes h. f.only bytes (and_holds (a (string bytes)) (b (string bytes)) h);
+  only = λ bytes h. f.only bytes (and_parts (a (string bytes)) (b (string bytes)) h).0;
 }
 
 of_code_points : (a : ℕ → Bool) → IsBounded a → IsFinite (in_source a)
@@ -140,20 +132,13 @@ found_finite n (Some r) fine = or_negated _ (in_source r.source) (of_code_points
 
 -- the characters of texts
 
-two_parts : (a b : Bool) → (a && b) ≡ true → (a ≡ true) × (b ≡ true)
-two_parts true b h = (refl, h)
-two_parts false b h = absurd (let g = h in cc)
-
-both_hold : (a b : Bool) → a ≡ true → b ≡ true → (a && b) ≡ true
-both_hold a b h k = ap (λ x. x && b) h ∙ k
-
 scalars-append : (a b : Text) → all_scalars a ≡ true → all_scalars b ≡ true → all_scalars (a ++ b) ≡ true
 scalars-append [] b h k = k
-scalars-append (c ∷ a) b h k = let p = two_parts (scalar c) (all_scalars a) h in both_hold (scalar c) (all_scalars (a ++ b)) p.0 (scalars-append a b p.1 k)
+scalars-append (c ∷ a) b h k = let p = and_parts (scalar c) (all_scalars a) h in and_from (scalar c) (all_scalars (a ++ b)) p.0 (scalars-append a b p.1 k)
 
 scalars-behind : (w r : Text) → all_scalars (w ++ r) ≡ true → all_scalars r ≡ true
 scalars-behind [] r h = h
-scalars-behind (c ∷ w) r h = scalars-behind w r (two_parts (scalar c) (all_scalars (w ++ r)) h).1
+scalars-behind (c ∷ w) r h = scalars-behind w r (and_parts (scalar c) (all_scalars (w ++ r)) h).1
 
 scalars_of_suffix : {t r : Text} → Suffix t r → all_scalars t ≡ true → all_scalars r ≡ true
 scalars_of_suffix {t} {r} (suffix w e) h = scalars-behind w r (ap all_scalars (sym e) ∙ h)
@@ -214,7 +199,7 @@ module _ (white_space : ℕ → Bool) where
 
   escape_at_plain : (t : Text) (v : Spelled) (r : Text) → all_scalars t ≡ true → escape_at white_space t ≡ Some (v, r) → IsPlain v
   escape_at_plain [] v r s h = absurd (let g = h in cc)
-  escape_at_plain (c ∷ t) v r s h = escape_by_plain (letter c) c t v r (two_parts (scalar c) (all_scalars t) s).0 h
+  escape_at_plain (c ∷ t) v r s h = escape_by_plain (letter c) c t v r (and_parts (scalar c) (all_scalars t) s).0 h
 
   escape_plain : (c : ℕ) (t : Text) (v : Spelled) (r : Text) → all_scalars t ≡ true → escape_shape white_space (c ∷ t) ≡ Some (v, r) → IsPlain v
   escape_plain c t v r s h = by (c == 0x5C) h
@@ -231,13 +216,13 @@ fits_scalar n h = grind (arith, nat_tests)
 fit_scalars : (ns : List ℕ) → list_all (fits_in in_string) ns ≡ true → all_scalars ns ≡ true
 fit_scalars [] h = refl
 fit_scalars (n ∷ ns) h =
-    let p = two_parts (fits_in in_string n) (list_all (fits_in in_string) ns) h in
-    both_hold (scalar n) (all_scalars ns) (fits_scalar n p.0) (fit_scalars ns p.1)
+    let p = and_parts (fits_in in_string n) (list_all (fits_in in_string) ns) h in
+    and_from (scalar n) (all_scalars ns) (fits_scalar n p.0) (fit_scalars ns p.1)
 
 spelled_scalars : (v : Spelled) → IsPlain v → allowed in_string v ≡ true → all_scalars (codes_of v) ≡ true
 spelled_scalars named p h = refl
 spelled_scalars (itself c) p h = ap (λ b. b && true) p
-spelled_scalars (numbers ns) p h = fit_scalars ns (two_parts (list_all (fits_in in_string) ns) true h).0
+spelled_scalars (numbers ns) p h = fit_scalars ns (and_parts (list_all (fits_in in_string) ns) true h).0
 
 module _ (white_space : ℕ → Bool) where
   -- a piece in front of others
@@ -248,7 +233,7 @@ module _ (white_space : ℕ → Bool) where
       let e : ◌≡◌ {A = List Spelled × Text} (s ∷ b.0.0, b.0.1) (v, r) = (let g = b.2 in cc) in
       let here : s ∷ b.0.0 ≡ v = ap (λ z. z.0) e in
       let rest : b.0.1 ≡ r = ap (λ z. z.1) e in
-      let p = two_parts (allowed in_string s) (list_all (allowed in_string) b.0.0) (ap (list_all (allowed in_string)) here ∙ fit) in
+      let p = and_parts (allowed in_string s) (list_all (allowed in_string) b.0.0) (ap (list_all (allowed in_string)) here ∙ fit) in
       subst (λ z. all_scalars (text_of z) ≡ true) here
       (scalars-append (codes_of s) (text_of b.0.0) (spelled_scalars s plain_piece p.0) (go b.0.0 (b.1 ∙ ap (λ z. Some (b.0.0, z)) rest) p.1))
 
@@ -260,13 +245,13 @@ module _ (white_space : ℕ → Bool) where
       by : (x y z : Bool) → cond x (Some ([], t)) (cond y (pieces_shape white_space n t) (cond z (escape_shape white_space (c ∷ t) >>= λ p. with_piece p.0 (pieces_shape white_space n p.1)) (with_piece (itself c) (pieces_shape white_space n t)))) ≡ Some (v, r) →
           ((u : Text) (w : List Spelled) → pieces_shape white_space n u ≡ Some (w, r) → all_scalars u ≡ true → list_all (allowed in_string) w ≡ true → all_scalars (text_of w) ≡ true) → all_scalars (text_of v) ≡ true
       by true y z h f = subst (λ z. all_scalars (text_of z) ≡ true) (let e : ◌≡◌ {A = List Spelled × Text} ([], t) (v, r) = cc in ap (λ z. z.0) e) refl
-      by false true z h f = f t v h (two_parts (scalar c) (all_scalars t) s).1 fit
+      by false true z h f = f t v h (and_parts (scalar c) (all_scalars t) s).1 fit
       by false false true h f =
           let b = bound (escape_shape white_space (c ∷ t)) (λ p. with_piece p.0 (pieces_shape white_space n p.1)) (v, r) h in
           let rest = scalars_of_suffix (suffix_of (long_behind white_space (c ∷ t) b.0.1 (escape_long white_space (c ∷ t) b.0.0 b.0.1 b.1))) s in
-          piece_scalars b.0.0 (pieces_shape white_space n b.0.1) v r b.2 (escape_plain white_space c t b.0.0 b.0.1 (two_parts (scalar c) (all_scalars t) s).1 b.1) fit (λ w k g. f b.0.1 w k rest g)
+          piece_scalars b.0.0 (pieces_shape white_space n b.0.1) v r b.2 (escape_plain white_space c t b.0.0 b.0.1 (and_parts (scalar c) (all_scalars t) s).1 b.1) fit (λ w k g. f b.0.1 w k rest g)
       by false false false h f =
-          let p = two_parts (scalar c) (all_scalars t) s in
+          let p = and_parts (scalar c) (all_scalars t) s in
           piece_scalars (itself c) (pieces_shape white_space n t) v r h p.0 fit (λ w k g. f t w k p.1 g)
 
   string_scalars : (q : Text) (v : List Spelled) (r : Text) → StringRead white_space q v r → all_scalars q ≡ true → all_scalars (text_of v) ≡ true
@@ -274,7 +259,7 @@ module _ (white_space : ℕ → Bool) where
   string_scalars (c ∷ t) v r h s = by (c == 0x7B) h.shape
     where
       by : (x : Bool) → (cond x (Some t) None >>= λ u. pieces_shape white_space (length u) u) ≡ Some (v, r) → all_scalars (text_of v) ≡ true
-      by true g = pieces_scalars (length t) t v r g (two_parts (scalar c) (all_scalars t) s).1 h.fits
+      by true g = pieces_scalars (length t) t v r g (and_parts (scalar c) (all_scalars t) s).1 h.fits
       by false g = absurd (let e = g in cc)
 
 text_finite : (t : Text) → all_scalars t ≡ true → IsFiniteItem (text_item t)

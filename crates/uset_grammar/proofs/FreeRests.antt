@@ -2,6 +2,7 @@
 use Rattle.std.proofs.Common.{◌≡◌, ℕ, Bool, true, false, cond, not, List, [], ◌∷◌, ◌++◌, Option, Some, None, refl, sym, ap, ◌∙◌, subst, append_assoc}
 use Rattle.std.specs.Prelude.{◌==◌, is_some}
 use Rattle.std.proofs.lemmas.List.{append_cancel_right}
+use Rattle.std.proofs.lemmas.Option.{some_pair_parts}
 use Rattle.uset_grammar.specs.Text.{Text, skip, while_in, behind_code, optional_code}
 use Rattle.uset_grammar.specs.Tree.{Tree}
 use Rattle.uset_grammar.specs.Item.{Item, chars, minus, ampersand, dollar, nested, Opening, tree_of}
@@ -82,9 +83,6 @@ while_stops p (c ∷ t) s h = by (p c) refl (while_stops p t s h)
 pair_parts : {A : Type 0} {x y : A} {t r : Text} → ◌≡◌ {A = A × Text} (x, t) (y, r) → (x ≡ y) × (t ≡ r)
 pair_parts e = (ap (λ z. z.0) e, ap (λ z. z.1) e)
 
-some_parts : {A : Type 0} {x y : A} {t r : Text} → ◌≡◌ {A = Option (A × Text)} (Some (x, t)) (Some (y, r)) → (x ≡ y) × (t ≡ r)
-some_parts {A} {x} {y} {t} {r} h = pair_parts (let e : ◌≡◌ {A = A × Text} (x, t) (y, r) = cc in e)
-
 -- A character that is left out where it stands in front.
 optional_free : (m : ℕ) (t : Text) (b : Bool) (e : ℕ) (r : Text) → optional_code m t ≡ (b, e ∷ r) → (w : Text) × (t ≡ w ++ e ∷ r) × ((s : Text) → optional_code m (w ++ e ∷ s) ≡ (b, e ∷ s))
 optional_free m [] b e r h = absurd (let g : ◌≡◌ {A = Text} [] (e ∷ r) = ap (λ z. z.1) h in cc)
@@ -142,7 +140,7 @@ module _ (l : Language) where
       by : (x : Bool) → l.start c ≡ x → cond {A = Option (Text × Text)} x (Some (c ∷ (while_in l.continue t).0, (while_in l.continue t).1)) None ≡ Some (n, e ∷ r) →
           (c2 : ℕ) × (w : Text) × (c ∷ t ≡ c2 ∷ (w ++ e ∷ r)) × ((s : Text) → name l (c2 ∷ (w ++ e ∷ s)) ≡ Some (n, e ∷ s))
       by true f h =
-          let p = some_parts h in
+          let p = some_pair_parts _ _ _ _ h in
           let (is, here) = while_free l.continue t e r p.1 in
           let w = (while_in l.continue t).0 in (
             c,
@@ -422,7 +420,7 @@ module _ (l : Language) where
       by : (x : Bool) → l.start c ≡ x → cond {A = Option (Text × Text)} x (Some (c ∷ (while_in l.continue t).0, (while_in l.continue t).1)) None ≡ Some (n, r) →
           (c2 : ℕ) × (w : Text) × (c ∷ t ≡ c2 ∷ (w ++ r)) × ((s : Text) → stops l.continue s ≡ true → name l (c2 ∷ (w ++ s)) ≡ Some (n, s))
       by true f h =
-          let p = some_parts h in
+          let p = some_pair_parts _ _ _ _ h in
           let w = (while_in l.continue t).0 in (
             c,
             w,

@@ -3,6 +3,7 @@ use Rattle.std.proofs.Common.{◌≡◌, arith, ℕ, ◌≤◌, zero, suc, lengt
 use Rattle.std.specs.Prelude.{◌==◌}
 use Rattle.std.proofs.lemmas.Bool.{eqb-true}
 use Rattle.std.proofs.lemmas.List.{length-append}
+use Rattle.std.proofs.lemmas.Option.{some_pair_parts}
 use Rattle.uset_grammar.specs.Text.{Text, ◌>>=◌, behind_code}
 use Rattle.uset_grammar.specs.Escape.{is_hex, Spelled, named, itself, numbers, digits, value, up_to_brace, words, values, at_least_one, braced, braced_or, escape_by, escape_at, escape_shape, plain, Letter, four, two, six, name, other, letter}
 use Rattle.uset_grammar.specs.BracedString.{with_piece, pieces_shape, string_shape}
@@ -10,22 +11,19 @@ use Rattle.uset_grammar.specs.Property.{Query, Form, posix, perl, mark, up_to, c
 use Rattle.uset_grammar.specs.Property as P
 use Rattle.uset_grammar.specs.Unit.{Meaning, UnitRead, escape_read, string_read, property_read}
 use Rattle.uset_grammar.specs.Language.{Language, resolves, lacks}
-use Rattle.uset_grammar.proofs.UnitRests.{bound, behind_is}
+use Rattle.uset_grammar.proofs.Binding.{bound}
+use Rattle.uset_grammar.proofs.UnitRests.{behind_is}
 
 -- The reader takes a front of the text, and takes it with the same answer before any rest.
 abbrev pub Free : {A : Type 0} → (Text → Option (A × Text)) → Text → A → Text → Type 0
 Free f t v r = (w : Text) × (t ≡ w ++ r) × ((s : Text) → f (w ++ s) ≡ Some (v, s))
-
--- a pair told by its parts
-parts : {A : Type 0} {x v : A} {t r : Text} → ◌≡◌ {A = Option (A × Text)} (Some (x, t)) (Some (v, r)) → (x ≡ v) × (t ≡ r)
-parts {A} {x} {v} {t} {r} h = let e : ◌≡◌ {A = A × Text} (x, t) (v, r) = cc in (ap (λ z. z.0) e, ap (λ z. z.1) e)
 
 free_as : {A : Type 0} (f : Text → Option (A × Text)) {t : Text} {x v : A} {u r : Text} → x ≡ v → u ≡ r → Free f t x u → Free f t v r
 free_as f {t} {x} {r} e k h = subst (λ y. Free f t y r) e (subst (λ y. Free f t x y) k h)
 
 -- a reader that takes nothing
 at_once : {A : Type 0} (x : A) (t : Text) {v : A} {r : Text} → ◌≡◌ {A = Option (A × Text)} (Some (x, t)) (Some (v, r)) → Free (λ t. Some (x, t)) t v r
-at_once x t h = let p = parts h in free_as (λ t. Some (x, t)) p.0 p.1 ([], refl, λ s. refl)
+at_once x t h = let p = some_pair_parts _ _ _ _ h in free_as (λ t. Some (x, t)) p.0 p.1 ([], refl, λ s. refl)
 
 -- one reader and then another
 then_free : {A B : Type 0} (f : Text → Option (A × Text)) (g : A → Text → Option (B × Text)) (t : Text) (v : B) (r : Text) → (f t >>= λ p. g p.0 p.1) ≡ Some (v, r) →
@@ -153,7 +151,7 @@ module _ (white_space : ℕ → Bool) where
   piece_parts : (x : Spelled) (o : Option (List Spelled × Text)) (v : List Spelled) (r : Text) → with_piece x o ≡ Some (v, r) → (vs : List Spelled) × (o ≡ Some (vs, r)) × (x ∷ vs ≡ v)
   piece_parts x o v r h =
       let b = bound o (λ q. Some (x ∷ q.0, q.1)) (v, r) h in
-      let p = parts b.2 in
+      let p = some_pair_parts _ _ _ _ b.2 in
       (b.0.0, b.1 ∙ ap (λ z. Some (b.0.0, z)) p.1, p.0)
 
   at_less : (n m : ℕ) (P : ℕ → Type 0) → suc n ≤ m → ((k : ℕ) → n ≤ k → P (suc k)) → P m
@@ -174,7 +172,7 @@ module _ (white_space : ℕ → Bool) where
 
       by : (x y z : Bool) → (c == 0x7D) ≡ x → white_space c ≡ y → (c == 0x5C) ≡ z → PiecesAt c x y z n t ≡ Some (v, r) →
           ((u : Text) (vs : List Spelled) → pieces_shape white_space n u ≡ Some (vs, r) → PiecesFree u vs r) → PiecesFree (c ∷ t) v r
-      by true y z e f g h more = let p = parts h in (c, [], ap (λ u. c ∷ u) p.1, λ m s le. here true y z e f g m s ∙ ap (λ vs. Some (vs, s)) p.0)
+      by true y z e f g h more = let p = some_pair_parts _ _ _ _ h in (c, [], ap (λ u. c ∷ u) p.1, λ m s le. here true y z e f g m s ∙ ap (λ vs. Some (vs, s)) p.0)
       by false true z e f g h more =
           let (d, w, k, there) = more t v h in
           (c, d ∷ w, ap (λ u. c ∷ u) k, λ m s le. here false true z e f g m (d ∷ (w ++ s)) ∙ at_less (length w) m (λ m. pieces_shape white_space m (d ∷ (w ++ s)) ≡ Some (v, s)) le (λ k le. there k s le))
@@ -222,7 +220,7 @@ module _ (white_space : ℕ → Bool) where
   closed_free : (form : Form) (n : Query) (t : Text) (v : Query) (r : Text) → closed form n t ≡ Some (v, r) → Free (closed form n) t v r
   closed_free posix n t v r h =
       let b = bound (behind_code 0x5D t) (λ u. Some (n, u)) (v, r) h in
-      let (is, rest) = parts b.2 in
+      let (is, rest) = some_pair_parts _ _ _ _ b.2 in
       (0x5D ∷ [], behind_is 0x5D t b.0 b.1 ∙ ap (λ u. 0x5D ∷ u) rest, λ s. ap (λ n. Some (n, s)) is)
   closed_free perl n t v r h = at_once n t h
 

@@ -1,3 +1,4 @@
+pub mod Binding
 pub mod UnitMachine
 pub mod UnitMachineOutcome
 pub mod EscapeMachine

@@ -5,8 +5,9 @@ use Rattle.std.specs.Prelude.{◌==◌, not, if◌then◌else◌}
 use Rattle.std.proofs.lemmas.Bool.{eqb-true}
 use Rattle.uset_grammar.specs.Text.{Text, ◌>>=◌, behind_code}
 use Rattle.uset_grammar.specs.Outcome.{HasOutcome, Kind, Outcome, got, ended, Enough, NoSlip}
-use Rattle.uset_grammar.proofs.UnitMachineOutcome.{Describes, goes_within, got_whole, whole_got, faulty_faults, faults_faulty, ended_sound, sound_ended}
-use Rattle.uset_grammar.proofs.UnitMachine.{Next, goes, whole, refuses, Slip, turn, Halts, run, reach, Stopped, free, run_on, got_longer, part_of}
+use Rattle.uset_grammar.proofs.Binding.{bind_assoc, bind_none}
+use Rattle.uset_grammar.proofs.UnitMachineOutcome.{Describes, goes_within, answered}
+use Rattle.uset_grammar.proofs.UnitMachine.{Next, goes, whole, refuses, Slip, turn, Halts, run, reach, Stopped, free, run_on, got_longer, part_of, whole_from, Keeps, read_fits}
 use Rattle.uset_grammar.specs.Property.{is_key, Query, Form, posix, perl, mark, up_to, no_value, with_value, query, closed, without_white, inner, caret_or, perl_shape, property_shape, PropertyShape, unresolved, PropertyRead, PropertySlips, posix_mark, perl_mark}
 use Rattle.uset_grammar.proofs.EscapeMachine.{read_whole}
 use Rattle.uset_grammar.proofs.EscapeMachineMeaning.{read_got}
@@ -64,14 +65,6 @@ module _ (white_space : ℕ → Bool) where
 
   abbrev value_rest : Form → Bool → Text → Text → Text × Text → Option (Query × Text)
   value_rest form negated key value p = with_value negated key (value ++ without_white white_space p.0) >>= λ n. closed form n p.1
-
-  bind_assoc : {A B C : Type 0} (o : Option A) (f : A → Option B) (g : B → Option C) → ((o >>= f) >>= g) ≡ (o >>= λ x. (f x >>= g))
-  bind_assoc None f g = refl
-  bind_assoc (Some a) f g = refl
-
-  bind_none : {A B : Type 0} (o : Option A) → ◌≡◌ {A = Option B} (o >>= λ x. None) None
-  bind_none None = refl
-  bind_none (Some a) = refl
 
   bracket_read : (p t : Text) (n : Query) → read_whole (run next free p (bracket n) t) ≡ closed posix n t
   bracket_read p [] n = refl
@@ -318,11 +311,6 @@ module _ (white_space : ℕ → Bool) where
   tells_caret p c true = tt
   tells_caret p c false = key_tells p posix false [] c
 
-  whole_from : (p : Text) (c : ℕ) (v : Query) (n : Next State Query) (go : State → Outcome Query) → ((s : State) → go s ≡ ended) → turn None n go p c [] ≡ got v [] → n ≡ whole v
-  whole_from p c v (goes s) go all e = absurd (let f : ended ≡ got v [] = sym (all s) ∙ e in cc)
-  whole_from p c v (whole w) go all e = let f : w ≡ v = cc in ap (λ z. whole z) f
-  whole_from p c v refuses go all e = absurd (let f = e in cc)
-
   goes_from : (p : Text) (c d : ℕ) (v : Query) (n : Next State Query) (go : State → Outcome Query) → turn None n go p c (d ∷ []) ≡ got v [] → (e : State) × (n ≡ goes e) × (go e ≡ got v [])
   goes_from p c d v (goes s) go e = (s, refl, e)
   goes_from p c d v (whole w) go e = absurd (let f = e in cc)
@@ -489,9 +477,7 @@ module _ (white_space : ℕ → Bool) where
     Fine (bracket n) = resolves n ≡ true
 
     abbrev Good : Next State Query → Type 0
-    Good (goes s) = Fine s
-    Good (whole n) = resolves n ≡ true
-    Good refuses = Unit {0}
+    Good = Keeps Fine (λ n. resolves n ≡ true)
 
     good_by : (p : Text) (m : Next State Query) → slip_by resolves lacks p m ≡ None → Good m
     good_by p (goes start) h = tt
@@ -518,18 +504,6 @@ module _ (white_space : ℕ → Bool) where
     good p caret_due c f h = good_by p (next p caret_due c) h
     good p (in_key form negated key) c f h = good_by p (next p (in_key form negated key) c) h
     good p (in_value form negated d key value) c f h = good_by p (next p (in_value form negated d key value) c) h
-
-    fit_from : (p t : Text) (c : ℕ) (v : Query) (r : Text) (x : Slip) (n : Next State Query) → (x ≡ None → Good n) →
-        ((s : State) → Fine s → run next (slip resolves lacks) (p ++ c ∷ []) s t ≡ got v r → resolves v ≡ true) →
-        turn x n (λ s. run next (slip resolves lacks) (p ++ c ∷ []) s t) p c t ≡ got v r → resolves v ≡ true
-    fit_from p t c v r (Some x) n f ih h = absurd (let e = h in cc)
-    fit_from p t c v r None (goes s) f ih h = ih s (f refl) h
-    fit_from p t c v r None (whole w) f ih h = let e : w ≡ v = cc in ap resolves (sym e) ∙ f refl
-    fit_from p t c v r None refuses f ih h = absurd (let e = h in cc)
-
-    read_fits : (p t : Text) (s : State) (v : Query) (r : Text) → Fine s → run next (slip resolves lacks) p s t ≡ got v r → resolves v ≡ true
-    read_fits p [] s v r f h = absurd (let e = h in cc)
-    read_fits p (c ∷ t) s v r f h = fit_from p t c v r (slip resolves lacks p s c) (next p s c) (λ e. good p s c f e) (λ s' f' k. read_fits (p ++ c ∷ []) t s' v r f' k) h
 
     -- WHAT RESOLVES HAS NO SLIP
     bracket_got : (p t r : Text) (n v : Query) → run next free p (bracket n) t ≡ got v r → n ≡ v
@@ -574,32 +548,15 @@ module _ (white_space : ℕ → Bool) where
     abbrev pub outcome : Text → Outcome Query
     outcome q = run next (slip resolves lacks) [] start q
 
-    got_read : white_space 0x61 ≡ false → (q : Text) (v : Query) (r : Text) → outcome q ≡ got v r → PropertyRead white_space resolves lacks q v r
-    got_read l q v r h =
-        let unit = got_whole next (slip resolves lacks) start (PropertyShape white_space) Slips (property_machine l) q v r h in
-        let read = ap (λ z. run next free [] start z) unit.parts ∙ got_longer next free [] unit.unit r start v [] unit.read in
-        record { shape = sym (shape_is_read q []) ∙ ap (λ o. read_whole o) read; fits = read_fits [] q start v r tt h }
-
-    read_got_law : white_space 0x61 ≡ false → (q : Text) (v : Query) (r : Text) → PropertyRead white_space resolves lacks q v r → outcome q ≡ got v r
-    read_got_law l q v r read =
-        let free_read = read_got (run next free [] start q) v r (shape_is_read q [] ∙ read.shape) in
-        let part = part_of next free [] q r start v free_read in
-        whole_got next (slip resolves lacks) start (PropertyShape white_space) Slips (property_machine l) q v r
-        (record { unit = part.part; parts = part.parts; read = part.read; no_slip = fits_no_slip part.part v part.read read.fits })
-
-    answered : white_space 0x61 ≡ false → (q : Text) → Enough q → ((stop : Stopped next (slip resolves lacks) [] start q) → Enough stop.front) →
+    property_answered : white_space 0x61 ≡ false → (q : Text) → Enough q → ((stop : Stopped next (slip resolves lacks) [] start q) → Enough stop.front) →
         HasOutcome (PropertyRead white_space resolves lacks) (PropertyShape white_space) Slips q (outcome q)
-    answered l q enough early = record {
-      reads = λ v r. (got_read l q v r, read_got_law l q v r);
-      faults = λ k b. (
-        faulty_faults next (slip resolves lacks) start (PropertyShape white_space) Slips (property_machine l) q k b early,
-        faults_faulty next (slip resolves lacks) start (PropertyShape white_space) Slips (property_machine l) q k b,
-      );
-      ends = (
-        ended_sound next (slip resolves lacks) start (PropertyShape white_space) Slips (property_machine l) q enough,
-        sound_ended next (slip resolves lacks) start (PropertyShape white_space) Slips (property_machine l) q,
-      );
-    }
+    property_answered l q =
+        answered next (slip resolves lacks) start (PropertyShape white_space) Slips (property_machine l) (λ n. resolves n ≡ true)
+        (λ q v r h. read_fits next (slip resolves lacks) Fine (λ n. resolves n ≡ true) good [] q start v r tt h) fits_no_slip (PropertyRead white_space resolves lacks) q
+        (λ v r. (
+          λ read. (read_got (run next free [] start q) v r (shape_is_read q [] ∙ read.shape), read.fits),
+          λ (read, fits). record { shape = sym (shape_is_read q []) ∙ ap (λ o. read_whole o) read; fits = fits },
+        ))
 
     -- what the machine reads whatever follows, it doesn't stop at
     not_at : (t f m : Text) (c d : ℕ) (s s' e : State) → d ∷ t ≡ c ∷ m → s ≡ s' → next f s d ≡ goes e → slip resolves lacks f s d ≡ None → Halts (slip resolves lacks f s' c) (next f s' c) → ⊥
@@ -631,10 +588,10 @@ module _ (white_space : ℕ → Bool) where
         by (a ∷ f) c m s parts on h = (λ e. (let e' = e in cc), λ e. (let a_is : a ≡ 0x5B = cc in let is : 0x5C ≡ a = cc in absurd (omega (arith, a_is, is))))
 
     posix_answered : white_space 0x61 ≡ false → (t : Text) → HasOutcome (PropertyRead white_space resolves lacks) (PropertyShape white_space) Slips (0x5B ∷ 0x3A ∷ t) (outcome (0x5B ∷ 0x3A ∷ t))
-    posix_answered l t = answered l (0x5B ∷ 0x3A ∷ t) (λ e. (let e' = e in cc), λ e. (let e' = e in cc)) (posix_early t)
+    posix_answered l t = property_answered l (0x5B ∷ 0x3A ∷ t) (λ e. (let e' = e in cc), λ e. (let e' = e in cc)) (posix_early t)
 
     perl_answered : white_space 0x61 ≡ false → (t : Text) → HasOutcome (PropertyRead white_space resolves lacks) (PropertyShape white_space) Slips (0x5C ∷ t) (outcome (0x5C ∷ t))
-    perl_answered l t = answered l (0x5C ∷ t) (λ e. (let e' = e in cc), λ e. (let is : ◌≡◌ {A = ℕ} 0x5C 0x5B = cc in absurd (omega (arith, is)))) (perl_early t)
+    perl_answered l t = property_answered l (0x5C ∷ t) (λ e. (let e' = e in cc), λ e. (let is : ◌≡◌ {A = ℕ} 0x5C 0x5B = cc in absurd (omega (arith, is)))) (perl_early t)
 
 pub one_property_law : (white_space : ℕ → Bool) → white_space 0x61 ≡ false → (resolves lacks : Query → Bool) (q t : Text) → ((q ≡ 0x5B ∷ 0x3A ∷ t) ⊎ (q ≡ 0x5C ∷ t)) →
     (o : Outcome Query) × HasOutcome (PropertyRead white_space resolves lacks) (PropertyShape white_space) (PropertySlips white_space resolves lacks) q o

@@ -2,16 +2,16 @@
 use Rattle.std.proofs.Common.{◌≡◌, ℕ, Bool, true, false, ◌&&◌, cond, List, [], ◌∷◌, ◌++◌, Some, None, refl, sym, ap, ◌∙◌, subst, append_assoc, append-nil, arith}
 use Rattle.std.specs.Prelude.{◌==◌}
 use Rattle.std.specs.List.{list_all}
-use Rattle.std.proofs.lemmas.Bool.{eqb-true}
+use Rattle.std.proofs.lemmas.Bool.{eqb-true, and_parts}
 use Rattle.std.proofs.lemmas.List.Folds.{list_all-append}
 use Rattle.std.proofs.lemmas.List.Folds.{list_all-append}
 use Rattle.uset_grammar.specs.Text.{Text}
 use Rattle.uset_grammar.specs.Outcome.{HasOutcome, Kind, Outcome, got, ended, Enough, NoSlip}
 use Rattle.uset_grammar.specs.EscapeSlips.{in_string, allowed}
-use Rattle.uset_grammar.proofs.UnitMachineOutcome.{Describes, goes_within, got_whole, whole_got, faulty_faults, faults_faulty, ended_sound, sound_ended}
+use Rattle.uset_grammar.proofs.UnitMachineOutcome.{Describes, goes_within, answered}
 use Rattle.uset_grammar.specs.Escape.{Apart, Spelled, itself}
 use Rattle.uset_grammar.specs.BracedString.{StringShape, StringRead, StringSlips, in_escape}
-use Rattle.uset_grammar.proofs.UnitMachine.{Next, goes, whole, refuses, Slip, turn, onward, Halts, run, reach, Stopped, free, run_on, reach_on, got_longer, part_of}
+use Rattle.uset_grammar.proofs.UnitMachine.{Next, goes, whole, refuses, Slip, turn, onward, Halts, run, reach, Stopped, free, run_on, reach_on, got_longer, part_of, whole_from, Keeps, read_fits}
 use Rattle.uset_grammar.proofs.EscapeMachine as E
 use Rattle.uset_grammar.proofs.EscapeMachine.{read_whole}
 use Rattle.uset_grammar.proofs.EscapeMachineSlips as S
@@ -156,11 +156,6 @@ module _ (white_space : ℕ → Bool) (apart : Apart white_space) where
       never (whole x) e = cc
       never refuses e = cc
 
-  whole_from : (p : Text) (c : ℕ) (v : List Spelled) (n : Next State (List Spelled)) (go : State → Outcome (List Spelled)) → ((s : State) → go s ≡ ended) → turn None n go p c [] ≡ got v [] → n ≡ whole v
-  whole_from p c v (goes s) go all e = absurd (let f : ended ≡ got v [] = sym (all s) ∙ e in cc)
-  whole_from p c v (whole w) go all e = let f : w ≡ v = cc in ap (λ z. whole z) f
-  whole_from p c v refuses go all e = absurd (let f = e in cc)
-
   opened : (b : Text) → StringShape white_space (b ++ 0x7D ∷ []) → (ps : List Spelled) × (reach (next white_space) free [] start b ≡ Some (pieces ps))
   opened b shape =
       let read = F.read_got (run (next white_space) free [] start (b ++ 0x7D ∷ [])) shape.0 [] (shape_is_read white_space apart (b ++ 0x7D ∷ []) [] ∙ shape.1) in
@@ -217,9 +212,7 @@ module _ (white_space : ℕ → Bool) (apart : Apart white_space) where
   Fine (inside ps b q e) = AllFit ps × L.Fine in_string e
 
   abbrev Good : Next State (List Spelled) → Type 0
-  Good (goes s) = Fine s
-  Good (whole v) = AllFit v
-  Good refuses = Unit {0}
+  Good = Keeps Fine AllFit
 
   one_more_fits : (ps : List Spelled) (s : Spelled) → AllFit ps → allowed in_string s ≡ true → AllFit (ps ++ s ∷ [])
   one_more_fits ps s h k = list_all-append (allowed in_string) ps (s ∷ []) ∙ (λ i. h i && (k i && true))
@@ -250,18 +243,6 @@ module _ (white_space : ℕ → Bool) (apart : Apart white_space) where
   good p (inside ps b q e) c f x =
       let none = L.or_else_none (S.within in_string q e c) (S.end_slip in_string (E.next white_space q e c)) (behind_none b (S.slip white_space in_string q e c) x) in
       good_lift ps b (q ++ c ∷ []) (E.next white_space q e c) f.0 (L.good white_space apart in_string q e c f.1 none.0 none.1)
-
-  fit_from : (p t : Text) (c : ℕ) (v : List Spelled) (r : Text) (x : Slip) (n : Next State (List Spelled)) → (x ≡ None → Good n) →
-      ((s : State) → Fine s → run (next white_space) (slip white_space) (p ++ c ∷ []) s t ≡ got v r → AllFit v) →
-      turn x n (λ s. run (next white_space) (slip white_space) (p ++ c ∷ []) s t) p c t ≡ got v r → AllFit v
-  fit_from p t c v r (Some x) n f ih h = absurd (let e = h in cc)
-  fit_from p t c v r None (goes s) f ih h = ih s (f refl) h
-  fit_from p t c v r None (whole w) f ih h = let e : w ≡ v = cc in ap (list_all (allowed in_string)) (sym e) ∙ f refl
-  fit_from p t c v r None refuses f ih h = absurd (let e = h in cc)
-
-  read_fits : (p t : Text) (s : State) (v : List Spelled) (r : Text) → Fine s → run (next white_space) (slip white_space) p s t ≡ got v r → AllFit v
-  read_fits p [] s v r f h = absurd (let e = h in cc)
-  read_fits p (c ∷ t) s v r f h = fit_from p t c v r (slip white_space p s c) (next white_space p s c) (λ e. good p s c f e) (λ s' f' k. read_fits (p ++ c ∷ []) t s' v r f' k) h
 
   -- WHAT HAS CHARACTERS ALONE HAS NO SLIP
   -- the pieces that were read stand in front, and an escape that was begun is read behind them
@@ -298,17 +279,9 @@ module _ (white_space : ℕ → Bool) (apart : Apart white_space) where
         λ p r b q ps v e h. holds_inside t p r b q c ps v (E.next white_space q e c) ih h,
       )
 
-  and_last : (a b : Bool) → (a && b) ≡ true → b ≡ true
-  and_last true b h = h
-  and_last false b h = absurd (let e = h in cc)
-
-  and_front : (a b : Bool) → (a && b) ≡ true → a ≡ true
-  and_front true b h = refl
-  and_front false b h = h
-
   among_fits : (ps ms : List Spelled) (s : Spelled) → AllFit (ps ++ s ∷ ms) → allowed in_string s ≡ true
-  among_fits [] ms s h = and_front (allowed in_string s) (list_all (allowed in_string) ms) h
-  among_fits (x ∷ ps) ms s h = among_fits ps ms s (and_last (allowed in_string x) (list_all (allowed in_string) (ps ++ s ∷ ms)) h)
+  among_fits [] ms s h = (and_parts (allowed in_string s) (list_all (allowed in_string) ms) h).0
+  among_fits (x ∷ ps) ms s h = among_fits ps ms s (and_parts (allowed in_string x) (list_all (allowed in_string) (ps ++ s ∷ ms)) h).1
 
   lost : (p u : Text) (s : State) (c : ℕ) (k : Kind) (a : Text) (v : List Spelled) → slip white_space p s c ≡ Some (k, a) → run (next white_space) free p s (c ∷ u) ≡ got v [] → AllFit v → ⊥
   lost p u start c k a v e h f = absurd (let g = e in cc)
@@ -327,19 +300,6 @@ module _ (white_space : ℕ → Bool) (apart : Apart white_space) where
   abbrev pub outcome : Text → Outcome (List Spelled)
   outcome q = run (next white_space) (slip white_space) [] start q
 
-  got_read : (q : Text) (v : List Spelled) (r : Text) → outcome q ≡ got v r → StringRead white_space q v r
-  got_read q v r h =
-      let unit = got_whole (next white_space) (slip white_space) start (StringShape white_space) Slips string_machine q v r h in
-      let read = ap (λ z. run (next white_space) free [] start z) unit.parts ∙ got_longer (next white_space) free [] unit.unit r start v [] unit.read in
-      record { shape = sym (shape_is_read white_space apart q []) ∙ ap (λ o. read_whole o) read; fits = read_fits [] q start v r tt h }
-
-  read_got_law : (q : Text) (v : List Spelled) (r : Text) → StringRead white_space q v r → outcome q ≡ got v r
-  read_got_law q v r read =
-      let free_read = F.read_got (run (next white_space) free [] start q) v r (shape_is_read white_space apart q [] ∙ read.shape) in
-      let part = part_of (next white_space) free [] q r start v free_read in
-      whole_got (next white_space) (slip white_space) start (StringShape white_space) Slips string_machine q v r
-      (record { unit = part.part; parts = part.parts; read = part.read; no_slip = fits_no_slip part.part v part.read read.fits })
-
   not_early : (t : Text) (stop : Stopped (next white_space) (slip white_space) [] start (0x7B ∷ t)) → Enough stop.front
   not_early t stop = by stop.front stop.at stop.more stop.state stop.parts stop.reached stop.halts
     where
@@ -353,17 +313,14 @@ module _ (white_space : ℕ → Bool) (apart : Apart white_space) where
       by (d ∷ f) c m s parts on h = (λ e. (let e' = e in cc), λ e. (let d_is : d ≡ 0x5B = cc in let is : 0x7B ≡ d = cc in absurd (omega (arith, d_is, is))))
 
   string_answered : (t : Text) → HasOutcome (StringRead white_space) (StringShape white_space) Slips (0x7B ∷ t) (outcome (0x7B ∷ t))
-  string_answered t = record {
-    reads = λ v r. (got_read (0x7B ∷ t) v r, read_got_law (0x7B ∷ t) v r);
-    faults = λ k b. (
-      faulty_faults (next white_space) (slip white_space) start (StringShape white_space) Slips string_machine (0x7B ∷ t) k b (not_early t),
-      faults_faulty (next white_space) (slip white_space) start (StringShape white_space) Slips string_machine (0x7B ∷ t) k b,
-    );
-    ends = (
-      ended_sound (next white_space) (slip white_space) start (StringShape white_space) Slips string_machine (0x7B ∷ t) enough,
-      sound_ended (next white_space) (slip white_space) start (StringShape white_space) Slips string_machine (0x7B ∷ t),
-    );
-  }
+  string_answered t =
+      answered (next white_space) (slip white_space) start (StringShape white_space) Slips string_machine AllFit
+      (λ q v r h. read_fits (next white_space) (slip white_space) Fine AllFit good [] q start v r tt h) fits_no_slip (StringRead white_space) (0x7B ∷ t)
+      (λ v r. (
+        λ read. (F.read_got (run (next white_space) free [] start (0x7B ∷ t)) v r (shape_is_read white_space apart (0x7B ∷ t) [] ∙ read.shape), read.fits),
+        λ (read, fits). record { shape = sym (shape_is_read white_space apart (0x7B ∷ t) []) ∙ ap (λ o. read_whole o) read; fits = fits },
+      ))
+      enough (not_early t)
     where
       enough : Enough (0x7B ∷ t)
       enough = (λ e. (let e' = e in cc), λ e. (let is : ◌≡◌ {A = ℕ} 0x7B 0x5B = cc in absurd (omega (arith, is))))

@@ -1,5 +1,6 @@
 -- Machines that read a text character by character, and what they say of the shapes of a unit.
 use Rattle.std.proofs.Common.{◌≡◌, ℕ, [], ◌∷◌, ◌++◌, Option, Some, None, refl, sym, ap, ◌∙◌, subst, inl, inr, append_assoc, append-nil}
+use Rattle.std.proofs.lemmas.Option.{same_Some}
 use mathlib.Core.Logic.{◌⊎◌}
 use Rattle.uset_grammar.specs.Text.{Text}
 use Rattle.uset_grammar.specs.Outcome.{Kind, unexpected, Outcome, got, faulty, ended}
@@ -31,6 +32,18 @@ module _ {State V : Type 0} where
   Halts None (goes s) = ⊥
   Halts None (whole v) = Unit {0}
   Halts None refuses = Unit {0}
+
+  -- where nothing follows, the machine has read a whole
+  pub whole_from : (p : Text) (c : ℕ) (v : V) (n : Next State V) (go : State → Outcome V) → ((s : State) → go s ≡ ended) → turn None n go p c [] ≡ got v [] → n ≡ whole v
+  whole_from p c v (goes s) go all e = absurd (let f : ended ≡ got v [] = sym (all s) ∙ e in cc)
+  whole_from p c v (whole w) go all e = let f : w ≡ v = cc in ap (λ z. whole z) f
+  whole_from p c v refuses go all e = absurd (let f = e in cc)
+
+  -- what a step leads to is a state of one kind, or a value of another
+  abbrev pub Keeps : (State → Type 0) → (V → Type 0) → Next State V → Type 0
+  Keeps Fine Fits (goes s) = Fine s
+  Keeps Fine Fits (whole v) = Fits v
+  Keeps Fine Fits refuses = Unit {0}
 
 module _ {State V : Type 0} (next : Text → State → ℕ → Next State V) where
   -- the outcome of a text behind p, from a state
@@ -70,11 +83,21 @@ module _ {State V : Type 0} (next : Text → State → ℕ → Next State V) (sl
   run_on_from p t u c e None (whole v) ih h = absurd (let k = h in cc)
   run_on_from p t u c e None refuses ih h = absurd (let k = h in cc)
 
-  same_state : (a b : State) → Some a ≡ Some b → a ≡ b
-  same_state a b h = cc
+  -- each step from a state of a kind leads to such a state, or to a value of a kind: so what is read is one
+  module _ (Fine : State → Type 0) (Fits : V → Type 0) (keeps : (p : Text) (s : State) (c : ℕ) → Fine s → slip p s c ≡ None → Keeps Fine Fits (next p s c)) where
+    fits_from : (p t : Text) (c : ℕ) (v : V) (r : Text) (x : Slip) (n : Next State V) → (x ≡ None → Keeps Fine Fits n) →
+        ((s : State) → Fine s → run next slip (p ++ c ∷ []) s t ≡ got v r → Fits v) → turn x n (λ s. run next slip (p ++ c ∷ []) s t) p c t ≡ got v r → Fits v
+    fits_from p t c v r (Some x) n f ih h = absurd (let e = h in cc)
+    fits_from p t c v r None (goes s) f ih h = ih s (f refl) h
+    fits_from p t c v r None (whole w) f ih h = let e : w ≡ v = cc in subst Fits e (f refl)
+    fits_from p t c v r None refuses f ih h = absurd (let e = h in cc)
+
+    pub read_fits : (p t : Text) (s : State) (v : V) (r : Text) → Fine s → run next slip p s t ≡ got v r → Fits v
+    read_fits p [] s v r f h = absurd (let e = h in cc)
+    read_fits p (c ∷ t) s v r f h = fits_from p t c v r (slip p s c) (next p s c) (keeps p s c f) (λ s' f' k. read_fits (p ++ c ∷ []) t s' v r f' k) h
 
   pub run_on : (p t u : Text) (s e : State) → reach next slip p s t ≡ Some e → run next slip p s (t ++ u) ≡ run next slip (p ++ t) e u
-  run_on p [] u s e h = (λ i. run next slip (sym (append-nil p) i) (same_state s e h i) u)
+  run_on p [] u s e h = (λ i. run next slip (sym (append-nil p) i) (same_Some s e h i) u)
   run_on p (c ∷ t) u s e h = run_on_from p t u c e (slip p s c) (next p s c) (λ s' k. run_on (p ++ c ∷ []) t u s' e k) h
 
   reach_on_from : (p t u : Text) (c : ℕ) (e : State) (x : Slip) (n : Next State V) →
@@ -87,7 +110,7 @@ module _ {State V : Type 0} (next : Text → State → ℕ → Next State V) (sl
   reach_on_from p t u c e None refuses ih h = absurd (let k = h in cc)
 
   pub reach_on : (p t u : Text) (s e : State) → reach next slip p s t ≡ Some e → reach next slip p s (t ++ u) ≡ reach next slip (p ++ t) e u
-  reach_on p [] u s e h = (λ i. reach next slip (sym (append-nil p) i) (same_state s e h i) u)
+  reach_on p [] u s e h = (λ i. reach next slip (sym (append-nil p) i) (same_Some s e h i) u)
   reach_on p (c ∷ t) u s e h = reach_on_from p t u c e (slip p s c) (next p s c) (λ s' k. reach_on (p ++ c ∷ []) t u s' e k) h
 
   -- the machine stops in a text, or not

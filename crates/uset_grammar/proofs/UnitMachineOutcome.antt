@@ -1,8 +1,8 @@
 -- A machine that reads the shapes of a unit answers by its faults.
-use Rattle.std.proofs.Common.{◌≡◌, ℕ, [], ◌∷◌, ◌++◌, Some, None, refl, sym, ap, ◌∙◌, subst, inl, inr, append_assoc, append-nil}
+use Rattle.std.proofs.Common.{◌≡◌, ◌↔◌, ℕ, [], ◌∷◌, ◌++◌, Some, None, refl, sym, ap, ◌∙◌, subst, inl, inr, append_assoc, append-nil}
 use Rattle.uset_grammar.specs.Text.{Text}
-use Rattle.uset_grammar.specs.Outcome.{Kind, unexpected, Outcome, got, faulty, ended, Enough, Begins, NoSlip, Sound, FailsAt, slips, unfit, Faulty}
-use Rattle.uset_grammar.proofs.UnitMachine.{Next, goes, whole, refuses, Slip, turn, Halts, run, reach, Stopped, free, run_on, stop_or, not_both, run_stopped, freely}
+use Rattle.uset_grammar.specs.Outcome.{Kind, unexpected, Outcome, got, faulty, ended, Enough, Begins, NoSlip, Sound, FailsAt, slips, unfit, Faulty, HasOutcome}
+use Rattle.uset_grammar.proofs.UnitMachine.{Next, goes, whole, refuses, Slip, turn, Halts, run, reach, Stopped, free, run_on, stop_or, not_both, run_stopped, freely, got_longer, part_of}
 
 pub record Describes {State V : Type 0} (next : Text → State → ℕ → Next State V) (slip : Text → State → ℕ → Slip) (start : State)
     (Shape : Text → Type 0) (Slips : Text → ℕ → Kind → Text → Type 0) : Type 0 where
@@ -257,3 +257,23 @@ module _ {State V : Type 0} (next : Text → State → ℕ → Next State V) (sl
         (λ s'. run next free (stop.front ++ stop.at ∷ []) s' stop.more) refl stop.halts w.no_slip (sym free_run ∙ w.read)
         (λ s'. run next slip (stop.front ++ stop.at ∷ []) s' (stop.more ++ r))))
   ]
+
+  -- What is read is what is read freely and fits, so that a text in front of which a unit stands has one outcome.
+  module _ (Fits : V → Type 0) (fits : (q : Text) (v : V) (r : Text) → run next slip [] start q ≡ got v r → Fits v) (no_slip : (unit : Text) (v : V) → run next free [] start unit ≡ got v [] → Fits v → NoSlip Slips unit) where
+    read_freely : (q : Text) (v : V) (r : Text) → run next slip [] start q ≡ got v r → run next free [] start q ≡ got v r
+    read_freely q v r h =
+        let unit = got_whole q v r h in
+        ap (λ z. run next free [] start z) unit.parts ∙ got_longer next free [] unit.unit r start v [] unit.read
+
+    fitting_read : (q : Text) (v : V) (r : Text) → run next free [] start q ≡ got v r → Fits v → run next slip [] start q ≡ got v r
+    fitting_read q v r read fits =
+        let part = part_of next free [] q r start v read in
+        whole_got q v r (record { unit = part.part; parts = part.parts; read = part.read; no_slip = no_slip part.part v part.read fits })
+
+    pub answered : (Read : Text → V → Text → Type 0) (q : Text) → ((v : V) (r : Text) → Read q v r ↔ ((run next free [] start q ≡ got v r) × Fits v)) → Enough q → ((stop : Stopped next slip [] start q) → Enough stop.front) →
+        HasOutcome Read Shape Slips q (run next slip [] start q)
+    answered Read q reads enough early = record {
+      reads = λ v r. (λ h. (reads v r).1 (read_freely q v r h, fits q v r h), λ h. let (read, fitting) = (reads v r).0 h in fitting_read q v r read fitting);
+      faults = λ k b. (faulty_faults q k b early, faults_faulty q k b);
+      ends = (ended_sound q enough, sound_ended q);
+    }

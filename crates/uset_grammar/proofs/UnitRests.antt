@@ -2,7 +2,7 @@
 use Rattle.std.proofs.Common.{◌≡◌, arith, ℕ, ◌≤◌, zero, suc, length, nat_le, Bool, true, false, cond, ◌&&◌, List, [], ◌∷◌, ◌++◌, Option, Some, None, refl, sym, ap, ◌∙◌, subst}
 use Rattle.std.specs.Prelude.{◌==◌}
 use Rattle.std.specs.List.{list_all}
-use Rattle.std.proofs.lemmas.Bool.{eqb-true, leb-true}
+use Rattle.std.proofs.lemmas.Bool.{eqb-true, leb-true, and_parts, and_from}
 use Rattle.uset_grammar.specs.Text.{Text, ◌>>=◌, behind_code}
 use Rattle.uset_grammar.specs.Escape.{is_hex, Spelled, named, itself, numbers, digits, value, up_to_brace, words, values, at_least_one, braced, braced_or, escape_by, escape_at, escape_shape, Letter, four, two, six, name, other, letter, codes_of}
 use Rattle.uset_grammar.specs.EscapeSlips.{in_bracket, allowed, fits_in}
@@ -14,11 +14,8 @@ use Rattle.uset_grammar.specs.Item.{Item, chars, text_item, is_several}
 use Rattle.uset_grammar.specs.Language.{Language, stands_for, resolves, lacks}
 use Rattle.uset_grammar.specs.Grammar.{Sort, ItemAt, one_character, variable, unit}
 use Rattle.uset_grammar.specs.Reached.{is_short}
+use Rattle.uset_grammar.proofs.Binding.{bound}
 use Rattle.uset_grammar.proofs.FrontRests.{Behind, Suffix, suffix, more, suffix_of, suffix_then, suffix_behind, single_behind, named_behind}
-
-pub bound : {A B : Type 0} (o : Option A) (f : A → Option B) (v : B) → (o >>= f) ≡ Some v → (u : A) × (o ≡ Some u) × (f u ≡ Some v)
-bound None f v h = absurd (let g = h in cc)
-bound (Some u) f v h = (u, refl, h)
 
 pub behind_is : (m : ℕ) (t u : Text) → behind_code m t ≡ Some u → t ≡ m ∷ u
 behind_is m [] u h = absurd (let g = h in cc)
@@ -182,22 +179,10 @@ module _ (white_space : ℕ → Bool) where
       by false true h = (c, t, refl, perl_behind t n r h)
       by false false h = absurd (let g = h in cc)
 
--- what two codes may do, and what they may not
-left : (x y : Bool) → (x && y) ≡ true → x ≡ true
-left true y h = refl
-left false y h = absurd (let g = h in cc)
-
-right : (x y : Bool) → (x && y) ≡ true → y ≡ true
-right true y h = h
-right false y h = absurd (let g = h in cc)
-
-and_true : (x : Bool) → x ≡ true → (x && true) ≡ true
-and_true x e = ap (λ z. z && true) e
-
 allowed_freely : (v : Spelled) → allowed (in_bracket false) v ≡ true → allowed (in_bracket true) v ≡ true
 allowed_freely named h = h
 allowed_freely (itself c) h = h
-allowed_freely (numbers ns) h = and_true (list_all (fits_in (in_bracket true)) ns) (left (list_all (fits_in (in_bracket false)) ns) (nat_le (length ns) 1) h)
+allowed_freely (numbers ns) h = and_from (list_all (fits_in (in_bracket true)) ns) true (and_parts (list_all (fits_in (in_bracket false)) ns) (nat_le (length ns) 1) h).0 refl
 
 allowed_likewise : (v : Spelled) → allowed (in_bracket true) v ≡ true → is_several (chars (codes_of v)) ≡ false → allowed (in_bracket false) v ≡ true
 allowed_likewise named h e = h
@@ -212,7 +197,7 @@ allowed_single (itself c) h = refl
 allowed_single (numbers []) h = refl
 allowed_single (numbers (n ∷ [])) h = refl
 allowed_single (numbers (n ∷ m ∷ ns)) h =
-    let k : length (n ∷ m ∷ ns) ≤ 1 = leb-true (length (n ∷ m ∷ ns)) 1 (right (list_all (fits_in (in_bracket false)) (n ∷ m ∷ ns)) (nat_le (length (n ∷ m ∷ ns)) 1) h) in
+    let k : length (n ∷ m ∷ ns) ≤ 1 = leb-true (length (n ∷ m ∷ ns)) 1 (and_parts (list_all (fits_in (in_bracket false)) (n ∷ m ∷ ns)) (nat_le (length (n ∷ m ∷ ns)) 1) h).1 in
     absurd (omega arith)
 
 one_text : (t : Text) → is_several (text_item t) ≡ false

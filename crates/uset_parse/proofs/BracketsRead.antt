@@ -7,6 +7,7 @@ use Rattle.std.specs.Str.{IsAscii}
 use Rattle.std.proofs.Math.Bool.{or_assoc, or-false}
 use Rattle.std.proofs.lemmas.List.Elements.{All-head, All-tail}
 use Rattle.std.proofs.lemmas.Str.{chars-IsAscii, IsAscii-append}
+use Rattle.std.proofs.lemmas.Str.Ascii.{IsAscii-cons}
 use Rattle.cp_invlist.specs.Ranges.{in_range, in_ranges}
 use Rattle.cp_invlist.specs.declared.ranges.CodePointRange.{CodePointRange}
 use Rattle.cp_strset.specs.PatternText.{escaped}
@@ -20,7 +21,7 @@ use Rattle.uset_parse.specs.ReadBack.{LeavesEscapes, IsRange, is_written}
 use Rattle.uset_parse.specs.Brackets.{bracket_text, brackets_text, BracketsAreAscii, BracketsAreRead, BracketsAreReadUnder}
 use Rattle.uset_parse.proofs.DatabasePatterns.{leaves_by}
 use Rattle.uset_parse.proofs.EscapedItems.{IsPart, nothing_part, two_part, both_parts}
-use Rattle.uset_parse.proofs.PatternRead.{IsAscii-cons, IsAscii-flat_map, one_ascii, IsAscii-escaped, Opens, plain_opening, backslash_opens, bracket_opens, bracket_opens_inside, bracket_closes}
+use Rattle.uset_parse.proofs.PatternRead.{IsAscii-flat_map, one_ascii, IsAscii-escaped, Opens, plain_opening, backslash_opens, bracket_opens, bracket_opens_inside, bracket_closes}
 
 -- the text is ASCII
 

@@ -4,7 +4,7 @@ use Rattle.std.specs.Prelude.{◌==◌, All}
 use Rattle.std.specs.Fmt.{digits}
 use Rattle.std.specs.List.{list_all, flat_map}
 use Rattle.std.specs.Str.{all_scalars, chars as chars_of}
-use Rattle.std.proofs.lemmas.Bool.{eqb-true}
+use Rattle.std.proofs.lemmas.Bool.{eqb-true, and_parts}
 use Rattle.std.proofs.lemmas.Bool.Decides.{nat_tests}
 use Rattle.std.proofs.lemmas.List.Elements.{All-head, All-tail}
 use Rattle.std.proofs.lemmas.Str.{scalars-chars}
@@ -54,14 +54,10 @@ scalar_fits n h = grind (arith, nat_tests)
 pub scalar_below : (n : ℕ) → scalar n ≡ true → n ≤ 0x10_FFFF
 scalar_below n h = grind (arith, nat_tests)
 
-pub two_parts : (a b : Bool) → (a && b) ≡ true → (a ≡ true) × (b ≡ true)
-two_parts true b h = (refl, h)
-two_parts false b h = absurd (let g = h in cc)
-
 fits_all : (cs : Text) → all_scalars cs ≡ true → list_all (allowed in_string) (single_escapes cs) ≡ true
 fits_all [] h = refl
 fits_all (c ∷ cs) h =
-    let p = two_parts (scalar c) (all_scalars cs) h in
+    let p = and_parts (scalar c) (all_scalars cs) h in
     ap (λ b. ((b && true) && true) && list_all (allowed in_string) (single_escapes cs)) (scalar_fits c p.0) ∙ fits_all cs p.1
 
 not_one_text : (cs : Text) → length cs ≢ 1 → text_item cs ≡ text cs
@@ -138,7 +134,7 @@ module _ (l : Language) (leaves : LeavesEscapes l.white_space) where
   pieces cs more zero h s = absurd (omega (arith, h))
   pieces [] more (suc n) h s = refl
   pieces (c ∷ cs) more (suc n) h s =
-      let p = two_parts (scalar c) (all_scalars cs) s in
+      let p = and_parts (scalar c) (all_scalars cs) s in
       let left = flat_map escaped cs ++ 0x7D ∷ more in
       let parts = append_assoc (escaped c) (flat_map escaped cs) (0x7D ∷ more) in
       let tail : Text = 0x75 ∷ 0x7B ∷ ((digits 16 false c ++ 0x7D ∷ []) ++ left) in

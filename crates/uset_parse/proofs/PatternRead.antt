@@ -11,7 +11,8 @@ use Rattle.std.proofs.lemmas.Bool.Decides.{nat_tests}
 use Rattle.std.proofs.lemmas.Fmt.{digits_is_IsNumeral}
 use Rattle.std.proofs.lemmas.List.Elements.{All-head, All-tail}
 use Rattle.std.proofs.lemmas.Str.{encodes-chars, scalars-chars, chars-IsAscii, IsAscii-append}
-use Rattle.std.proofs.lemmas.Str.Ascii.{IsAscii-nil}
+use Rattle.std.proofs.lemmas.Str.Ascii.{IsAscii-nil, IsAscii-cons}
+use Rattle.std.proofs.lemmas.Bool.{and_parts}
 use lib.Utf8.{scalar}
 use Rattle.cp_invlist.specs.Ranges.{in_range, in_ranges}
 use Rattle.cp_invlist.specs.declared.ranges.CodePointRange.{CodePointRange}
@@ -25,16 +26,9 @@ use Rattle.uset_grammar.specs.Language.{Language}
 use Rattle.uset_grammar.specs.Front.{ahead, sign, header, opening, begins_unit, front, first, of_bracket, of_property}
 use Rattle.uset_grammar.specs.Grammar.{ReadsItems, ends, Reads, a_bracket}
 use Rattle.uset_parse.specs.ReadBack.{LeavesEscapes, IsRange, IsLongText, is_written, EscapesAreRead}
-use Rattle.uset_parse.proofs.EscapedItems.{add_ranges, add_strings, two_parts, scalar_below, ranges_part, strings_part, stays}
+use Rattle.uset_parse.proofs.EscapedItems.{add_ranges, add_strings, scalar_below, ranges_part, strings_part, stays}
 
 -- the text is ASCII
-
-pub IsAscii-cons : (c : ℕ) (t : Text) → c < 128 → IsAscii t → IsAscii (c ∷ t)
-IsAscii-cons c t h k = at
-  where
-    at : (i : ℕ) → slice_index (c ∷ t) i < 128
-    at zero = h
-    at (suc i) = k i
 
 pub IsAscii-flat_map : {X : Type 0} (f : X → Text) (P : X → Type 0) (xs : List X) → ((x : X) → P x → IsAscii (f x)) → All P xs → IsAscii (flat_map f xs)
 IsAscii-flat_map f P [] one h = IsAscii-nil
@@ -73,7 +67,7 @@ IsAscii-range_text r h = by (r.start == r.end)
 IsAscii-escapes : (cs : Text) → all_scalars cs ≡ true → IsAscii (flat_map escaped cs)
 IsAscii-escapes [] h = IsAscii-nil
 IsAscii-escapes (c ∷ cs) h =
-    let p = two_parts (scalar c) (all_scalars cs) h in
+    let p = and_parts (scalar c) (all_scalars cs) h in
     IsAscii-append (escaped c) (flat_map escaped cs) (IsAscii-escaped c (scalar_below c p.0)) (IsAscii-escapes cs p.1)
 
 IsAscii-string_text : (s : List ℕ) → IsLongText s → IsAscii (string_text s)

@@ -192,7 +192,7 @@ abbrev long_step : ℕ → ℕ → ℕ → Text → Bool → Outcome ℕ
 long_step zero n c t h = and_then (cond h (got (n * 16 + digit_value c) t) (faulty (unexpected c) (c ∷ t))) (checked (c ∷ t))
 long_step (suc k) n c t h = and_then (cond h (got (n * 16 + digit_value c) t) (faulty (unexpected c) (c ∷ t))) (long_in k)
 
-further_text : (q p t : Text) (c : ℕ) → q ≡ p ++ c ∷ t → q ≡ (p ++ c ∷ []) ++ t
+pub further_text : (q p t : Text) (c : ℕ) → q ≡ p ++ c ∷ t → q ≡ (p ++ c ∷ []) ++ t
 further_text q p t c h = h ∙ sym (append_assoc p (c ∷ []) t)
 
 module _ (white_space : ℕ → Bool) (apart : Apart white_space) (a : Around) (q : Text) where

@@ -11,7 +11,7 @@ use Rattle.uset_read.specs.declared.property.KeyPart.{KeyPart}
 use Rattle.uset_read.specs.declared.property.KeyPart.TheVariants.{Space, Letter, Ends, Unfit}
 use Rattle.uset_read.specs.Reading.{and_then, char_in}
 use Rattle.uset_read.specs.Queries.{is_nothing, caret_in, posix_front_in, perl_front_in, key_goes, key_in, value_in, ended_key_in, query_in, asked_in, closing_in, close_in}
-use Rattle.uset_read.proofs.EscapeReading.{Placed}
+use Rattle.uset_read.proofs.EscapeReading.{Placed, further_text}
 
 -- a character that is due, or another one
 abbrev char_by : Bool → ℕ → Text → Outcome (Unit {0})
@@ -36,9 +36,6 @@ module _ (white_space : ℕ → Bool) (resolves lacks : Query → Bool) where
     abbrev machine : Text → State → Text → Outcome Query
     machine p s t = run (next white_space) (slip white_space resolves lacks) p s t
 
-    onward : (p t : Text) (c : ℕ) → q ≡ p ++ c ∷ t → q ≡ (p ++ c ∷ []) ++ t
-    onward p t c h = h ∙ sym (append_assoc p (c ∷ []) t)
-
     bracket_by : (n : Query) (p t : Text) (c : ℕ) (b : Bool) → q ≡ p ++ c ∷ t →
         Placed q (and_then (char_by b c t) (λ z. got n)) (turn None (cond b (whole n) refuses) (λ s. machine (p ++ c ∷ []) s t) p c t)
     bracket_by n p t c true h = (refl, refl)
@@ -52,7 +49,7 @@ module _ (white_space : ℕ → Bool) (resolves lacks : Query → Bool) where
         Placed q (cond b (and_then (close_in form (c ∷ t)) (λ z. got n)) (faulty (unresolved white_space resolves lacks n) (c ∷ t)))
         (turn (cond b None (Some (unresolved white_space resolves lacks n, p))) (done form n) (λ s. machine (p ++ c ∷ []) s t) p c t)
     end_by posix n p t c true is h =
-        subst (λ o. Placed q (and_then o (λ z. got n)) (machine (p ++ c ∷ []) (bracket n) t)) (sym (closes_here posix c t is)) (bracket_placed n (p ++ c ∷ []) t (onward p t c h))
+        subst (λ o. Placed q (and_then o (λ z. got n)) (machine (p ++ c ∷ []) (bracket n) t)) (sym (closes_here posix c t is)) (bracket_placed n (p ++ c ∷ []) t (further_text q p t c h))
     end_by perl n p t c true is h = subst (λ o. Placed q (and_then o (λ z. got n)) (got n t)) (sym (closes_here perl c t is)) (refl, refl)
     end_by form n p t c false is h = (refl, h)
 
@@ -75,8 +72,8 @@ module _ (white_space : ℕ → Bool) (resolves lacks : Query → Bool) where
         (turn (slip_by white_space resolves lacks p (value_next form negated d key value c m w)) (value_next form negated d key value c m w) (λ s. machine (p ++ c ∷ []) s t) p c t)
     value_by p t c form negated d key [] true w is ih h = (refl, h)
     value_by p t c form negated d key (v ∷ value) true w is ih h = end_placed form (valued negated (d ∷ key) (v ∷ value)) p t c is h
-    value_by p t c form negated d key value false true is ih h = ih (p ++ c ∷ []) form negated d key value (onward p t c h)
-    value_by p t c form negated d key value false false is ih h = ih (p ++ c ∷ []) form negated d key (value ++ c ∷ []) (onward p t c h)
+    value_by p t c form negated d key value false true is ih h = ih (p ++ c ∷ []) form negated d key value (further_text q p t c h)
+    value_by p t c form negated d key value false false is ih h = ih (p ++ c ∷ []) form negated d key (value ++ c ∷ []) (further_text q p t c h)
 
     value_placed : (t : Text) → ValueReads t
     value_placed [] p form negated d key value h = tt
@@ -99,12 +96,12 @@ module _ (white_space : ℕ → Bool) (resolves lacks : Query → Bool) where
         (turn (slip_by white_space resolves lacks p (key_next form negated key c m w k e u)) (key_next form negated key c m w k e u) (λ s. machine (p ++ c ∷ []) s t) p c t)
     key_by p t c form negated [] true w k e u is ih h = (refl, h)
     key_by p t c form negated (d ∷ key) true w k e u is ih h = end_placed form (record { negated = negated; key = d ∷ key; value = None }) p t c is h
-    key_by p t c form negated key false true k e u is ih h = ih (p ++ c ∷ []) form negated key (onward p t c h)
-    key_by p t c form negated key false false true e u is ih h = ih (p ++ c ∷ []) form negated (key ++ c ∷ []) (onward p t c h)
+    key_by p t c form negated key false true k e u is ih h = ih (p ++ c ∷ []) form negated key (further_text q p t c h)
+    key_by p t c form negated key false false true e u is ih h = ih (p ++ c ∷ []) form negated (key ++ c ∷ []) (further_text q p t c h)
     key_by p t c form negated [] false false false true u is ih h = (refl, h)
-    key_by p t c form negated (d ∷ key) false false false true u is ih h = value_placed t (p ++ c ∷ []) form negated d key [] (onward p t c h)
+    key_by p t c form negated (d ∷ key) false false false true u is ih h = value_placed t (p ++ c ∷ []) form negated d key [] (further_text q p t c h)
     key_by p t c form negated [] false false false false true is ih h = (refl, h)
-    key_by p t c form negated (d ∷ key) false false false false true is ih h = value_placed t (p ++ c ∷ []) form (not negated) d key [] (onward p t c h)
+    key_by p t c form negated (d ∷ key) false false false false true is ih h = value_placed t (p ++ c ∷ []) form (not negated) d key [] (further_text q p t c h)
     key_by p t c form negated key false false false false false is ih h = (refl, h)
 
     key_placed : (t : Text) → KeyReads t
@@ -116,7 +113,7 @@ module _ (white_space : ℕ → Bool) (resolves lacks : Query → Bool) where
         Placed q (and_then (cond b (got true t) (got false (c ∷ t))) (inner posix))
         (turn (slip_by white_space resolves lacks p (cond b (goes (in_key posix true [])) (next_key white_space posix false [] c))) (cond b (goes (in_key posix true [])) (next_key white_space posix false [] c))
         (λ s. machine (p ++ c ∷ []) s t) p c t)
-    caret_by p t c true h = key_placed t (p ++ c ∷ []) posix true [] (onward p t c h)
+    caret_by p t c true h = key_placed t (p ++ c ∷ []) posix true [] (further_text q p t c h)
     caret_by p t c false h = key_placed (c ∷ t) p posix false [] h
 
     caret_placed : (p t : Text) → q ≡ p ++ t → Placed q (and_then (caret_in t) (inner posix)) (machine p caret_due t)
@@ -126,7 +123,7 @@ module _ (white_space : ℕ → Bool) (resolves lacks : Query → Bool) where
     colon_by : (p t : Text) (c : ℕ) (b : Bool) → q ≡ p ++ c ∷ t →
         Placed q (and_then (and_then (char_by b c t) (λ z. caret_in)) (inner posix))
         (turn None (cond b (goes caret_due) refuses) (λ s. machine (p ++ c ∷ []) s t) p c t)
-    colon_by p t c true h = caret_placed (p ++ c ∷ []) t (onward p t c h)
+    colon_by p t c true h = caret_placed (p ++ c ∷ []) t (further_text q p t c h)
     colon_by p t c false h = (refl, h)
 
     colon_placed : (p t : Text) → q ≡ p ++ t → Placed q (and_then (posix_front_in t) (inner posix)) (machine p colon t)
@@ -136,7 +133,7 @@ module _ (white_space : ℕ → Bool) (resolves lacks : Query → Bool) where
     brace_by : (p t : Text) (c : ℕ) (negated b : Bool) → q ≡ p ++ c ∷ t →
         Placed q (and_then (and_then (char_by b c t) (λ z. got negated)) (inner perl))
         (turn None (cond b (goes (in_key perl negated [])) refuses) (λ s. machine (p ++ c ∷ []) s t) p c t)
-    brace_by p t c negated true h = key_placed t (p ++ c ∷ []) perl negated [] (onward p t c h)
+    brace_by p t c negated true h = key_placed t (p ++ c ∷ []) perl negated [] (further_text q p t c h)
     brace_by p t c negated false h = (refl, h)
 
     brace_placed : (p t : Text) (negated : Bool) → q ≡ p ++ t → Placed q (and_then (and_then (char_in 0x7B t) (λ z. got negated)) (inner perl)) (machine p (brace negated) t)
@@ -146,8 +143,8 @@ module _ (white_space : ℕ → Bool) (resolves lacks : Query → Bool) where
     letter_by : (p t : Text) (c : ℕ) (a b : Bool) → q ≡ p ++ c ∷ t →
         Placed q (and_then (cond a (and_then (char_in 0x7B t) (λ z. got false)) (cond b (and_then (char_in 0x7B t) (λ z. got true)) (faulty (unexpected c) (c ∷ t)))) (inner perl))
         (turn None (cond a (goes (brace false)) (cond b (goes (brace true)) refuses)) (λ s. machine (p ++ c ∷ []) s t) p c t)
-    letter_by p t c true b h = brace_placed (p ++ c ∷ []) t false (onward p t c h)
-    letter_by p t c false true h = brace_placed (p ++ c ∷ []) t true (onward p t c h)
+    letter_by p t c true b h = brace_placed (p ++ c ∷ []) t false (further_text q p t c h)
+    letter_by p t c false true h = brace_placed (p ++ c ∷ []) t true (further_text q p t c h)
     letter_by p t c false false h = (refl, h)
 
     letter_placed : (p t : Text) → q ≡ p ++ t → Placed q (and_then (perl_front_in t) (inner perl)) (machine p letter t)

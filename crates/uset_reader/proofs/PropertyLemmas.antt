@@ -39,14 +39,6 @@ use Rattle.uset_reader.specs.declared.item.Operand.TheVariants.{Named, Again}
 use Rattle.uset_reader.specs.Named.{resolved_set, sets_of}
 use Rattle.uset_reader.specs.Units.{OperandIs, OperandIn, OperandStops}
 
-pub if_ok : {A E : Type 0} (result : Result A E) {P Q : A → Type 0} → ((x : A) → P x → Q x) → IfOk result P → IfOk result Q
-if_ok (Ok x) f h = f x h
-if_ok (Err e) f h = tt
-
-pub if_err : {A E : Type 0} (result : Result A E) {P Q : E → Type 0} → ((x : E) → P x → Q x) → IfErr result P → IfErr result Q
-if_err (Ok x) f h = tt
-if_err (Err e) f h = f e h
-
 -- an error that is handed on
 pub answered_err : {A E : Type 0} (result : Result A E) (e : E) (P : E → Type 0) → (IsErr result × IsErrAnd result (λ x. x ≡ e)) → P e → IfErr result P
 answered_err (Ok x) e P (is, same) h = tt

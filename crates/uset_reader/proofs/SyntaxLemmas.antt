@@ -2,6 +2,7 @@
 use Rattle.std.proofs.Common.{◌≡◌, ℕ, Bool, true, false, Option, Some, None, refl, sym, subst, ◌∙◌, arith}
 use Rattle.std.proofs.lemmas.Bool.Decides.{nat_tests}
 use Rattle.std.specs.Char.{is_ascii_graphic}
+use Rattle.std.proofs.lemmas.Bool.{false_from_ne_true, true≢false}
 use Rattle.prop_data.specs.Forbidden.{is_forbidden, IsAllowed, AreAllowed}
 use Rattle.prop_data.specs.Tables.{Tables}
 use Rattle.uset_grammar.specs.Escape.{is_hex, Apart}
@@ -19,17 +20,9 @@ digit_forbidden c h = grind (arith, nat_tests)
 pub visible_forbidden : (c : ℕ) → is_ascii_graphic c ≡ true → is_forbidden 51 c ≡ true
 visible_forbidden c h = grind (arith, nat_tests)
 
-neither : (b : Bool) → (b ≡ true → b ≡ false) → b ≡ false
-neither true h = h refl
-neither false h = refl
-
-other : (b : Bool) → (b ≡ true → true ≡ false) → b ≡ false
-other true h = let e = h refl in cc
-other false h = refl
-
 pub allowed-apart : (members : ℕ → Bool) → IsAllowed 51 members → Apart members
 allowed-apart members allowed = record {
-  no_digit = λ c member. other (is_hex c) (λ digit. sym member ∙ allowed c (digit_forbidden c digit));
+  no_digit = λ c member. false_from_ne_true (is_hex c) (λ digit. true≢false (sym member ∙ allowed c (digit_forbidden c digit)));
   no_brace = allowed _ refl;
   no_backslash = allowed _ refl;
 }

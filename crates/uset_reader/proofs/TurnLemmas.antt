@@ -210,10 +210,6 @@ module _ (places : PlacesAre) (awaited : AwaitedTells) (l : Language) (cursor : 
         subst (λ z. TurnedTo l z outer new result) (sym t.2)
         (h l units of_unit t.0 outer (λ z. (let g = z in cc)) t.1 here (behind.units several (chars text) (chars rest) found.unit unit) o os stands around)
 
--- BRACKETS
-reverse-snoc : (bs : List CodeBracket) (b : CodeBracket) → reverse (bs ++ b ∷ []) ≡ b ∷ reverse bs
-reverse-snoc bs b = reverse-append bs (b ∷ [])
-
 -- nothing was taken off a list
 pub none_popped : (old new : List CodeBracket) (n : ℕ) → old ≡ new ++ [] → new ≡ take (n - 1) old → n ≡ 0 → old ≡ []
 none_popped old new n parts rest none = parts ∙ (append-nil new ∙ (rest ∙ ap (λ m. take (m - 1) old) none))
@@ -235,7 +231,7 @@ opens_inside places cursor outer new_outer b new opening text inner offset at_te
       o ∷ os,
       refl,
       is l (at l units whole (chars text)) (at_text here.before here.is ∙ ap size (sym place)),
-      subst (λ bs. AllStand l bs (o ∷ os)) (sym (ap reverse pushed ∙ reverse-snoc outer b)) (stands, around),
+      subst (λ bs. AllStand l bs (o ∷ os)) (sym (ap reverse pushed ∙ reverse-append outer (b ∷ []))) (stands, around),
     )
 
 -- a `]` that doesn't fit
@@ -270,7 +266,7 @@ pub record BracketAround (l : Language) (around : CodeBracket) (outer : List Cod
   pub around_too : Around l outer further
 
 bracket_around : (l : Language) (outer left : List CodeBracket) (around : CodeBracket) (os : List OpenBracket) → outer ≡ left ++ around ∷ [] → Around l outer os → BracketAround l around left os
-bracket_around l outer left around os is h = by os refl (subst (λ bs. AllStand l bs os) (ap reverse is ∙ reverse-snoc left around) h)
+bracket_around l outer left around os is h = by os refl (subst (λ bs. AllStand l bs os) (ap reverse is ∙ reverse-append left (around ∷ [])) h)
   where
     by : (xs : List OpenBracket) → os ≡ xs → AllStand l (around ∷ reverse left) xs → BracketAround l around left os
     by [] e h = absurd h

@@ -1,7 +1,7 @@
 -- Units that are read.
 use Rattle.std.proofs.Common.{zero, suc, length, Option, Some, None, inl, inr, ◌≡◌, ◌≤◌, ℕ, Bool, true, false, ◌&&◌, not, nat_lt, All, Box, List, [], ◌∷◌, refl, sym, ap, ◌∙◌, subst, arith}
 use Rattle.std.specs.Prelude.{◌==◌, is_some}
-use Rattle.std.proofs.lemmas.Bool.{eqb-true}
+use Rattle.std.proofs.lemmas.Bool.{eqb-true, and_parts}
 use Rattle.std.proofs.lemmas.Bool.Decides.{nat_tests}
 use Rattle.std.specs.Global.{Global}
 use Rattle.std.specs.declared.string.String.{String}
@@ -9,6 +9,7 @@ use Rattle.cp_strset.specs.StringList.{sole_of}
 use Rattle.std.specs.List.{list_all}
 use Rattle.std.specs.Str.{chars}
 use Rattle.std.specs.String.{string_bytes}
+use Rattle.std.proofs.lemmas.List.{nil_from_length}
 use Rattle.uset_grammar.specs.Text.{Text}
 use Rattle.uset_grammar.specs.Outcome.{Outcome, got, faulty, ended, meaning}
 use Rattle.uset_grammar.specs.Escape.{Spelled, is_above}
@@ -60,15 +61,6 @@ stops_lift f Is IsUnit lift q (Fault kind rest) h = (h.0, h.1, lift (faulty _ h.
 stops_lift f Is IsUnit lift q Ended h = lift ended h
 stops_lift f Is IsUnit lift q NoMemory h = tt
 
--- NUMBERS OF ESCAPES
-and_first : (a b : Bool) → (a && b) ≡ true → a ≡ true
-and_first true b h = refl
-and_first false b h = h
-
-and_second : (a b : Bool) → (a && b) ≡ true → b ≡ true
-and_second true b h = h
-and_second false b h = absurd (let g : false ≡ true = h in cc)
-
 not_above : (n : ℕ) → not (is_above n) ≡ true → n ≤ 0x10FFFF
 unfolding is_above
 not_above n h = by (nat_lt 0x10FFFF n) refl h
@@ -79,12 +71,12 @@ not_above n h = by (nat_lt 0x10FFFF n) refl h
 
 all_within : (several : Bool) (ns : List ℕ) → list_all (fits_in (in_bracket several)) ns ≡ true → All (λ n. n ≤ 0x10FFFF) ns
 all_within several [] h i d below = absurd (omega (arith, below))
-all_within several (n ∷ ns) h zero d below = not_above n (and_first (not (is_above n)) (list_all (fits_in (in_bracket several)) ns) h)
-all_within several (n ∷ ns) h (suc i) d below = all_within several ns (and_second (not (is_above n)) (list_all (fits_in (in_bracket several)) ns) h) i d (omega (arith, below))
+all_within several (n ∷ ns) h zero d below = not_above n (and_parts (not (is_above n)) (list_all (fits_in (in_bracket several)) ns) h).0
+all_within several (n ∷ ns) h (suc i) d below = all_within several ns (and_parts (not (is_above n)) (list_all (fits_in (in_bracket several)) ns) h).1 i d (omega (arith, below))
 
 allowed_within : (several : Bool) (spelled : CodeSpelled) → allowed (in_bracket several) (spelled_seen spelled) ≡ true → AreCodePoints spelled
 allowed_within several (Itself c) h = tt
-allowed_within several (Numbers first more) h = all_within several (first ∷ more.items) (and_first (list_all (fits_in (in_bracket several)) (first ∷ more.items)) (so_many (in_bracket several) (first ∷ more.items)) h)
+allowed_within several (Numbers first more) h = all_within several (first ∷ more.items) (and_parts (list_all (fits_in (in_bracket several)) (first ∷ more.items)) (so_many (in_bracket several) (first ∷ more.items)) h).0
 
 -- ITEMS
 pub single_item : (l : Language) (g : Gathering) (c : CodePoint) (n : ℕ) → number_of c ≡ n → IsItem l g (Single c) (item_chars (n ∷ []))
@@ -96,12 +88,8 @@ one_item l g c n more e none = subst (λ ns. IsItem l g (Single c) (item_chars (
 pub several_item : (l : Language) (g : Gathering) (codes : Codes) → IsItem l g (Several codes) (item_chars (codes.first ∷ codes.more.items))
 several_item l g codes = record { tree = no_tree; same = tt; is = refl }
 
-empty_is : {A : Type 0} (xs : List A) → length xs ≡ 0 → xs ≡ []
-empty_is [] h = refl
-empty_is (x ∷ xs) h = absurd (omega (arith, h))
-
 pub none_left : (xs ys : List ℕ) (b : Bool) → ys ≡ xs → b ≡ (length ys == 0) → b ≡ true → xs ≡ []
-none_left xs ys b same is h = empty_is xs (eqb-true (length xs) 0 (sym (is ∙ ap (λ zs. length zs == 0) same) ∙ h))
+none_left xs ys b same is h = nil_from_length xs (eqb-true (length xs) 0 (sym (is ∙ ap (λ zs. length zs == 0) same) ∙ h))
 
 sole_text : (t : Text) (c : ℕ) → sole_of t ≡ Some c → text_item t ≡ item_chars (c ∷ [])
 sole_text [] c h = absurd (let g = h in cc)

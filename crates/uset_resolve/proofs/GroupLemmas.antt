@@ -2,6 +2,7 @@
 use Rattle.std.proofs.Common.{◌≡◌, ℕ, ◌+◌, ◌<◌, ◌≤◌, Bool, true, false, cond, ◌==◌, ◌&&◌, ◌||◌, nat_lt, List, [], ◌∷◌, Option, Some, None, refl, sym, ap, ap₂, ◌∙◌, inl, inr, arith}
 use Rattle.std.proofs.lemmas.Bool.{cases_lt}
 use Rattle.std.proofs.lemmas.Bool.Decides.{nat_tests}
+use Rattle.std.proofs.Math.Bool.{or-false}
 use Rattle.cp_invlist.specs.InversionList.{is_code_point}
 use Rattle.cp_invlist.specs.Ranges.{in_range, in_code_points}
 use Rattle.cp_trie.specs.Runs.{AreRunsFrom}
@@ -17,14 +18,6 @@ passing test (r ∷ rs) c = (in_code_points r.range c && test r.value) || passin
 -- two numbers are equal
 abbrev pub same_number : ℕ → ℕ → Bool
 same_number x y = x == y
-
-pub or_assoc : (a b d : Bool) → ((a || b) || d) ≡ (a || (b || d))
-or_assoc true b d = refl
-or_assoc false b d = refl
-
-or_false : (b : Bool) → (b || false) ≡ b
-or_false true = refl
-or_false false = refl
 
 module _ (eq : ℕ → ℕ → Bool) (exact : (x y : ℕ) → eq x y ≡ true → x ≡ y) (test : ℕ → Bool) (at : ℕ → ℕ) where
   passing-before : (n : ℕ) (rs : List (CodePointMapRange ℕ)) (c : ℕ) → AreRunsFrom eq at n rs → c < n → passing test rs c ≡ false
@@ -45,7 +38,7 @@ module _ (eq : ℕ → ℕ → Bool) (exact : (x y : ℕ) → eq x y ≡ true �
         let point : is_code_point c ≡ true = grind (arith, nat_tests) in
         let same : r.value ≡ at c = runs.3 ∙ exact _ _ (runs.4 c from within) in
         (λ i. ((inside i && point i) && test (same i)) || passing-before (r.range.end + 1) rs c runs.6 (omega arith) i)
-        ∙ (or_false (test (at c)) ∙ sym (ap (λ p. p && test (at c)) point))
+        ∙ (or-false (test (at c)) ∙ sym (ap (λ p. p && test (at c)) point))
   ]
 
 -- a number of 16 bits unpacks to the group of its bits

@@ -13,15 +13,15 @@ use Rattle.std.specs.Map.{lookup}
 use Rattle.std.proofs.Math.Utf8.{encodes}
 use Rattle.std.proofs.lemmas.Str.{encodes-chars, IsUtf8-string_bytes}
 use Rattle.std.specs.Cmp.{tied_then}
-use Rattle.std.proofs.lemmas.Bool.{cases_Bool, cond-true, cond-false}
+use Rattle.std.proofs.lemmas.Bool.{cases_Bool, cond-true, cond-false, and_parts}
 use Rattle.std.proofs.lemmas.Map.Text.{is_eq-slice_cmp, btree_map_updates_text}
 use Rattle.std.proofs.lemmas.Slice.Eq.{bytes_eq-Decides}
+use Rattle.std.proofs.lemmas.Option.{same_Some, none-some}
 use Rattle.uset_read.specs.declared.property.Query.{Query}
 use Rattle.uset_read.specs.Queries.{query_seen}
 use Rattle.uset_steps.specs.declared.places.Places.{Places}
 use Rattle.uset_steps.specs.Names.{Name, variable, property}
 use Rattle.uset_steps.specs.Places.{query_cmp, IsPlaceIn, HasNoPlace, Adds}
-use Rattle.uset_steps.proofs.StepsLemmas.{both}
 
 -- strings with the same characters have the same bytes
 same_bytes : (s t : String Global) → chars (string_bytes s) ≡ chars (string_bytes t) → string_bytes s ≡ string_bytes t
@@ -32,10 +32,7 @@ same_values None None k h = refl
 same_values None (Some t) k h = absurd (let e = h in cc)
 same_values (Some s) None k h = absurd (let e = h in cc)
 same_values (Some s) (Some t) None h = refl
-same_values (Some s) (Some t) (Some k) h = ap (λ bs. slice_cmp nat_cmp bs (string_bytes k)) (same_bytes s t (some_same (chars (string_bytes s)) (chars (string_bytes t)) h))
-  where
-    some_same : (x y : List ℕ) → Some x ≡ Some y → x ≡ y
-    some_same x y g = cc
+same_values (Some s) (Some t) (Some k) h = ap (λ bs. slice_cmp nat_cmp bs (string_bytes k)) (same_bytes s t (same_Some (chars (string_bytes s)) (chars (string_bytes t)) h))
 
 -- queries that ask the same compare alike
 compared : (asked other k : Query) → query_seen asked ≡ query_seen other → query_cmp asked k ≡ query_cmp other k
@@ -67,16 +64,13 @@ asks_same query asked h =
     let values = option_cmp string_cmp query.value asked.value in
     let texts = slice_cmp nat_cmp (string_bytes query.key) (string_bytes asked.key) in
     let flags = bool_cmp query.negated asked.negated in
-    let all = both (is_eq flags) (is_eq (ordering_then texts values)) (tied_then flags (ordering_then texts values) ∙ h) in
-    let rest = both (is_eq texts) (is_eq values) (tied_then texts values ∙ all.1) in
+    let all = and_parts (is_eq flags) (is_eq (ordering_then texts values)) (tied_then flags (ordering_then texts values) ∙ h) in
+    let rest = and_parts (is_eq texts) (is_eq values) (tied_then texts values ∙ all.1) in
     λ i. record {
       negated = flags_equal query.negated asked.negated all.0 i;
       key = chars (bytes_equal (string_bytes query.key) (string_bytes asked.key) rest.0 i);
       value = values_equal query.value asked.value rest.1 i;
     }
-
-some_is : (x y : ℕ) → Some x ≡ Some y → y ≡ x
-some_is x y h = cc
 
 -- what a look-up finds is the place of what the query asks, and where it finds none there is none
 pub found_place : (places : Places) (query : Query) (found : Option ℕ) → found ≡ get query_cmp places.properties query → IfSome found (IsPlaceIn places (property (query_seen query)))
@@ -85,10 +79,7 @@ found_place places query (Some place) is = (query, refl, sym is)
 
 pub found_none : (places : Places) (query : Query) (found : Option ℕ) → found ≡ get query_cmp places.properties query → IfNone found (HasNoPlace places (property (query_seen query)))
 found_none places query (Some place) is = tt
-found_none places query None is = λ place (asked, same, there). none_some place (is ∙ (sym (found_alike places.properties asked query same) ∙ there))
-  where
-    none_some : (place : ℕ) → None ≡ Some place → ⊥
-    none_some place h = absurd (let e = h in cc)
+found_none places query None is = λ place (asked, same, there). none-some place (is ∙ (sym (found_alike places.properties asked query same) ∙ there))
 
 -- a variable is given its place
 pub adds_variable : (bytes : List ℕ) (place : ℕ) (old new : Places) → UpdatesBy string_cmp (λ k. slice_cmp nat_cmp bytes (string_bytes k)) old.variables new.variables (Some place) → new.properties ≡ old.properties →
@@ -101,7 +92,7 @@ adds_variable bytes place old new updates same = record { placed = updates.1; ot
     others : (other : Name) (at : ℕ) → IsPlaceIn new other at → IsPlaceIn old other at ⊎ ((other ≡ variable bytes) × (at ≡ place))
     others (property query) at (asked, asks, there) = inl (asked, asks, ap (λ m. get query_cmp m asked) (sym same) ∙ there)
     others (variable name) at there = elim (cases_Bool (bytes_eq bytes name)) [
-      | inl it ↦ inr (ap variable (sym ((bytes_eq-Decides bytes name).0 it)), some_is place at (sym (cond-true (bytes_eq bytes name) (Some place) (get_by_text old.variables name) it) ∙ (sym (after name) ∙ there)))
+      | inl it ↦ inr (ap variable (sym ((bytes_eq-Decides bytes name).0 it)), sym (same_Some place at (sym (cond-true (bytes_eq bytes name) (Some place) (get_by_text old.variables name) it) ∙ (sym (after name) ∙ there))))
       | inr it ↦ inl (sym (cond-false (bytes_eq bytes name) (Some place) (get_by_text old.variables name) it) ∙ (sym (after name) ∙ there))
     ]
 
@@ -115,7 +106,7 @@ adds_property query place old new updates same = record { placed = (query, refl,
     others (property q) at (asked, asks, there) = elim (cases_Bool (is_eq (query_cmp query asked))) [
       | inl it ↦ inr (
         ap property (sym asks ∙ sym (asks_same query asked it)),
-        some_is place at (sym (cond-true (is_eq (query_cmp query asked)) (Some place) (get query_cmp old.properties asked) it) ∙ (sym (updates.0 asked) ∙ there)),
+        sym (same_Some place at (sym (cond-true (is_eq (query_cmp query asked)) (Some place) (get query_cmp old.properties asked) it) ∙ (sym (updates.0 asked) ∙ there))),
       )
       | inr it ↦ inl (asked, asks, sym (cond-false (is_eq (query_cmp query asked)) (Some place) (get query_cmp old.properties asked) it) ∙ (sym (updates.0 asked) ∙ there))
     ]

@@ -1,7 +1,7 @@
 -- Steps, one behind another, and those that have no effect.
 use Rattle.std.proofs.Common.{◌≡◌, ℕ, Bool, true, false, not, ◌&&◌, ◌||◌, ◌==◌, ◌⊎◌, inl, inr, if◌then◌else◌, List, [], ◌∷◌, ◌++◌, reverse, Option, Some, None, refl, sym, ap, ◌∙◌, subst}
 use Rattle.std.specs.Prelude.{slice_get}
-use Rattle.std.proofs.lemmas.Bool.{cases_Bool, eqb-true}
+use Rattle.std.proofs.lemmas.Bool.{cases_Bool, eqb-true, and_parts, or_cases}
 use Rattle.std.proofs.lemmas.List.{reverse-append}
 use Rattle.uset_grammar.specs.Tree.{Member}
 use Rattle.uset_steps.specs.declared.named_set.NamedSet.{NamedSet}
@@ -72,15 +72,6 @@ decides Retain true false false false side h = refl
 decides Retain true true b c side h = absurd (let e = h in cc)
 decides Retain false has b c side h = absurd (let e = side in cc)
 
-pub both : (a b : Bool) → (a && b) ≡ true → (a ≡ true) × (b ≡ true)
-both true true h = (refl, refl)
-both true false h = absurd (let e = h in cc)
-both false b h = absurd (let e = h in cc)
-
-either : (a b : Bool) → (a || b) ≡ true → (a ≡ true) ⊎ (b ≡ true)
-either true b h = inl refl
-either false b h = inr h
-
 -- a step is about one set, on one side
 one_side : (outside other b : Bool) → is_side outside b ≡ true → is_side other b ≡ true → outside ≡ other
 one_side true true b h k = refl
@@ -92,8 +83,8 @@ one_side false true false h k = absurd (let e = k in cc)
 
 pub about_one : (s : Step) (outside other : Bool) (place elsewhere : ℕ) → is_about outside place s ≡ true → is_about other elsewhere s ≡ true → (outside ≡ other) × (place ≡ elsewhere)
 about_one (Named operation p) outside other place elsewhere h k =
-    let x = both (is_side outside (retains operation)) (p == place) h in
-    let y = both (is_side other (retains operation)) (p == elsewhere) k in
+    let x = and_parts (is_side outside (retains operation)) (p == place) h in
+    let y = and_parts (is_side other (retains operation)) (p == elsewhere) k in
     (one_side outside other (retains operation) x.0 y.0, sym (eqb-true p place x.1) ∙ eqb-true p elsewhere y.1)
 about_one (Range span) outside other place elsewhere h k = absurd (let e = h in cc)
 about_one (Text spelled) outside other place elsewhere h k = absurd (let e = h in cc)
@@ -107,7 +98,7 @@ record Acts (sets : List NamedSet) (s : Step) (outside : Bool) (place : ℕ) : T
 
 acts : (sets : List NamedSet) (s : Step) (outside : Bool) (place : ℕ) → is_about outside place s ≡ true → Acts sets s outside place
 acts sets (Named operation p) outside place h =
-    let x = both (is_side outside (retains operation)) (p == place) h in record {
+    let x = and_parts (is_side outside (retains operation)) (p == place) h in record {
       operation = operation;
       side = x.0;
       does = λ m b. ap (λ i. with_kept operation (slice_get sets i) m b) (eqb-true p place x.1);
@@ -123,7 +114,7 @@ module _ (sets : List NamedSet) (outside : Bool) (place : ℕ) (m : Member) (set
   -- where a step behind decides, all that stands before is alike
   all_alike : (ss : List Step) → touched outside (named_in set m) ≡ true → occurs outside place ss ≡ true → (b c : Bool) → steps_done sets ss m b ≡ steps_done sets ss m c
   all_alike [] h there b c = absurd (let e = there in cc)
-  all_alike (s ∷ ss) h there b c = elim (either (is_about outside place s) (occurs outside place ss) there) [
+  all_alike (s ∷ ss) h there b c = elim (or_cases (is_about outside place s) (occurs outside place ss) there) [
     | inl here ↦ (
         let a = acts sets s outside place here in
         ap (steps_done sets ss m)

@@ -51,7 +51,3 @@ last_refused old rest whole plain spelled so_far =
 -- nothing behind `str`
 pub empty_string : (text string : List ℕ) → text ≡ [] → string ≡ [] → Some (chars string) ≡ string_of text
 empty_string text string text_is string_is = ap (λ s. Some (chars s)) string_is ∙ (ap Some chars-nil ∙ ap string_of (sym text_is))
-
-pub none_of_no_length : (xs : List ℕ) → length xs ≡ 0 → xs ≡ []
-none_of_no_length [] h = refl
-none_of_no_length (x ∷ xs) h = absurd (omega arith)

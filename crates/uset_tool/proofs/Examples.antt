@@ -99,27 +99,27 @@ tables_is_known : is_known (codes "tables" ∷ []) ≡ true
 tables_is_known = refl
 
 gen_is_known : is_known (codes "gen" ∷ codes "1" ∷ []) ≡ true
-unfolding count_of
+unfolding count_of spelled
 gen_is_known = refl
 
 gen_is_known_up_to_ten_thousand : command_of (codes "gen" ∷ codes "10000" ∷ []) ≡ Some (generate 10000)
-unfolding count_of
+unfolding count_of spelled
 gen_is_known_up_to_ten_thousand = refl
 
 nothing_is_generated : is_known (codes "gen" ∷ codes "0" ∷ []) ≡ false
-unfolding count_of
+unfolding count_of spelled
 nothing_is_generated = refl
 
 no_leading_zero : is_known (codes "gen" ∷ codes "01" ∷ []) ≡ false
-unfolding count_of
+unfolding count_of spelled
 no_leading_zero = refl
 
 one_too_many : is_known (codes "gen" ∷ codes "10001" ∷ []) ≡ false
-unfolding count_of
+unfolding count_of spelled
 one_too_many = refl
 
 no_sign : is_known (codes "gen" ∷ codes "+1" ∷ []) ≡ false
-unfolding count_of
+unfolding count_of spelled
 no_sign = refl
 
 no_number : is_known (codes "gen" ∷ []) ≡ false
@@ -175,11 +175,11 @@ absent_tables =
 
 -- lines that bind names
 character_line : script_line (codes "let a char 61") ≡ binding (codes "a") (character 0x61)
-unfolding script_line character_of
+unfolding script_line spelled
 character_line = refl
 
 string_line : script_line (codes "let ab str 61 20AC") ≡ binding (codes "ab") (string (0x61 ∷ 0x20AC ∷ []))
-unfolding script_line character_of
+unfolding script_line spelled
 string_line = refl
 
 empty_string_line : script_line (codes "let a str") ≡ binding (codes "a") (string [])
@@ -195,15 +195,15 @@ unfolding script_line
 empty_set_line = refl
 
 surrogate_line : script_line (codes "let a char D800") ≡ bad
-unfolding script_line character_of
+unfolding script_line spelled
 surrogate_line = refl
 
 long_number_line : script_line (codes "let a char 0000061") ≡ bad
-unfolding script_line character_of
+unfolding script_line spelled
 long_number_line = refl
 
 two_spaces_line : script_line (codes "let a str  61") ≡ bad
-unfolding script_line character_of
+unfolding script_line spelled
 two_spaces_line = refl
 
 nameless_line : script_line (codes "let  char 61") ≡ bad
@@ -221,7 +221,7 @@ unfolding digits
 text_behind = refl
 
 names_are_bound : Evaluates (codes "end\nlet a char 61\nlet a str\n") (codes "bound a\nerr a is bound\n") SomeErr
-unfolding lacks_some_list is_sole line_of_one line_of_two is_header_word script_line character_of chars encode
+unfolding lacks_some_list is_sole line_of_one line_of_two is_header_word script_line spelled chars encode
 names_are_bound =
     script refl (codes "bound a\nerr a is bound\n") true (answers (codes "bound a\n") (codes "err a is bound\n") false true (free refl a_character)
     (answers (codes "err a is bound\n") [] true false (bound_earlier refl) ends))

@@ -1,7 +1,7 @@
 -- Each input has an answer.
 use mathlib.Core.Logic.{◌⊎◌}
 use Rattle.std.proofs.Common.{inl, inr, ◌≡◌, ℕ, ◌+◌, ◌<◌, ◌≤◌, Bool, true, false, cond, ◌&&◌, ◌||◌, ◌==◌, nat_lt, nat_le, List, [], ◌∷◌, ◌++◌, length, encode_utf8_all, codes, option_map, option_and_then, is_some, Option, Some, None, refl, sym, ap, ◌∙◌, subst, arith}
-use Rattle.std.proofs.lemmas.Bool.{cases_Bool, cases_lt, eqb-true}
+use Rattle.std.proofs.lemmas.Bool.{cases_Bool, cases_lt, eqb-true, and_parts}
 use Rattle.std.proofs.lemmas.Bool.Decides.{nat_tests}
 use Rattle.std.proofs.lemmas.List.{length-append}
 use Rattle.std.proofs.lemmas.Str.{encodes-append, encodes-chars, scalars-chars, IsUtf8-from_is_utf8, IsUtf8-from_ascii}
@@ -9,6 +9,7 @@ use Rattle.std.specs.List.{list_all}
 use Rattle.std.specs.Str.{IsUtf8, is_utf8, chars, all_scalars, bytes_eq}
 use lib.Utf8.{scalar}
 use Rattle.text_lines.specs.Lines.{lines}
+use Rattle.text_lines.specs.Numbers.{hex}
 use Rattle.prop_data.specs.declared.error.TableError.{TableError}
 use Rattle.prop_data.specs.Forbidden.{AreAllowed}
 use Rattle.prop_data.specs.Tables.{Tables}
@@ -21,7 +22,7 @@ use Rattle.uset_grammar.specs.Language.{Value, character, set as set_value, Lang
 use Rattle.uset_grammar.specs.Answers.{Answer, read as reading, refused, ReadsUnder, under, IsAnswer}
 use Rattle.uset_resolve.specs.Laws.{SourcesAreBounded}
 use Rattle.uset_reader.specs.Syntaxes.{language_by, language_of}
-use Rattle.uset_tool.specs.Script.{stripped, at_space, onto_front, as_character, hex_onto, character_of, spaced, both, characters_of, string_of, Definition, character as character_definition, string as string_definition, set as set_definition, definition_by, definition_of, ScriptLine, silent, pattern, binding, bad, binding_or_bad, named, let_or_bad, pattern_or, is_silent, script_line}
+use Rattle.uset_tool.specs.Script.{stripped, at_space, onto_front, as_character, character_of, spaced, both, characters_of, string_of, Definition, character as character_definition, string as string_definition, set as set_definition, definition_by, definition_of, ScriptLine, silent, pattern, binding, bad, binding_or_bad, named, let_or_bad, pattern_or, is_silent, script_line}
 use Rattle.uset_tool.specs.Answer.{Variables, with_binding, string_or_character, PatternAnswer, read, fault, read_text, fault_text, bound_text, is_bound_text, text_after_text, bad_line_text, DefinitionAnswer, a_character, a_string, a_set, text_after, no_set, bound_before, free, LineAnswer, ScriptAnswer, ends, answers}
 use Rattle.uset_variables.specs.Variables.{no_variables}
 use Rattle.uset_tool.specs.declared.status.Status.{Status}
@@ -33,6 +34,7 @@ use Rattle.uset_tool.specs.Words.{Command, evaluate, count_tables, generate, com
 use Rattle.uset_tool.specs.Run.{table_lines, script_lines, Evaluates, faulty_tables, script, Counts, faulty_text, counted, Generates, faulty_database, generated, Results, Answers, usage, too_long, not_text, evaluates}
 use Rattle.uset_tool.proofs.Once.{RunLaws}
 use Rattle.uset_tool.proofs.GeneratedPatterns.{pattern_is_ascii}
+use Rattle.uset_tool.proofs.LineLemmas.{stripped-is}
 use Rattle.uset_tool.proofs.Listing.{maximal_ranges, strings_in_order}
 use Rattle.uset_tool.proofs.TextLines.{behind_ascii, parted, AreTexts, lines_are_texts, past_are_texts}
 
@@ -126,27 +128,14 @@ sizes_answer {source} (fault {kind} {offset} h) = (fault_text kind offset source
 
 -- What a line of a script holds is text.
 
-pub stripped_is : (word line rest : List ℕ) → stripped word line ≡ Some rest → line ≡ word ++ rest
-stripped_is [] line rest h = let e : line ≡ rest = cc in e
-stripped_is (c ∷ word) [] rest h = absurd (let g = h in cc)
-stripped_is (c ∷ word) (d ∷ line) rest h = by (d == c) refl h (λ g. stripped_is word line rest g)
-  where
-    by : (x : Bool) → (d == c) ≡ x → cond x (stripped word line) None ≡ Some rest → (stripped word line ≡ Some rest → line ≡ word ++ rest) → d ∷ line ≡ c ∷ (word ++ rest)
-    by true e g more = ap (λ z. z ∷ line) (eqb-true d c e) ∙ ap (λ z. c ∷ z) (more g)
-    by false e g more = absurd (let k = g in cc)
-
 behind_word : (word rest : List ℕ) → list_all (λ c. nat_lt c 128) word ≡ true → IsUtf8 (word ++ rest) → IsUtf8 rest
 behind_word [] rest low u = u
 behind_word (c ∷ word) rest low u =
-    let p = two_parts (nat_lt c 128) (list_all (λ c. nat_lt c 128) word) low in
+    let p = and_parts (nat_lt c 128) (list_all (λ c. nat_lt c 128) word) low in
     behind_word word rest p.1 (behind_ascii c (word ++ rest) (grind (arith, nat_tests, p.0)) u)
-  where
-    two_parts : (a b : Bool) → (a && b) ≡ true → (a ≡ true) × (b ≡ true)
-    two_parts true b h = (refl, h)
-    two_parts false b h = absurd (let g = h in cc)
 
 stripped_text : (word line rest : List ℕ) → list_all (λ c. nat_lt c 128) word ≡ true → IsUtf8 line → stripped word line ≡ Some rest → IsUtf8 rest
-stripped_text word line rest low u h = behind_word word rest low (subst IsUtf8 (stripped_is word line rest h) u)
+stripped_text word line rest low u h = behind_word word rest low (subst IsUtf8 (stripped-is word line rest h) u)
 
 at_space_is : (text front behind : List ℕ) → at_space text ≡ Some (front, behind) → text ≡ front ++ 0x20 ∷ behind
 at_space_is [] front behind h = absurd (let g = h in cc)
@@ -173,13 +162,11 @@ character_scalar n c h = by (nat_lt n 0xD800 || (nat_le 0xE000 n && nat_le n 0x1
     by false e g = absurd (let k = g in cc)
 
 field_scalar : (field : List ℕ) (c : ℕ) → character_of field ≡ Some c → scalar c ≡ true
-unfolding character_of
-field_scalar field c h = by (nat_le 1 (length field) && nat_le (length field) 6) (hex_onto 0 field) h
+field_scalar field c h = by (hex field) h
   where
-    by : (x : Bool) (o : Option ℕ) → cond x (option_and_then as_character o) None ≡ Some c → scalar c ≡ true
-    by true None g = absurd (let k = g in cc)
-    by true (Some n) g = character_scalar n c g
-    by false o g = absurd (let k = g in cc)
+    by : (o : Option ℕ) → option_and_then as_character o ≡ Some c → scalar c ≡ true
+    by None g = absurd (let k = g in cc)
+    by (Some n) g = character_scalar n c g
 
 fields_scalars : (fields : List (List ℕ)) (t : Text) → characters_of fields ≡ Some t → all_scalars t ≡ true
 fields_scalars [] t h = subst (λ z. all_scalars z ≡ true) (let is : ◌≡◌ {A = Text} [] t = cc in is) refl

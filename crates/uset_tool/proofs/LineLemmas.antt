@@ -2,7 +2,8 @@
 use Rattle.std.proofs.Common.{◌≡◌, ◌≢◌, ℕ, suc, ◌<◌, ◌==◌, Bool, true, false, List, [], ◌∷◌, ◌++◌, length, get_or, Option, Some, None, option_map, MatchOption, Bor, cond, drop, ◌+◌, refl, sym, ap, ap₂, ◌∙◌, arith}
 use Rattle.std.proofs.lemmas.Bool.{cond-false, ne_eqb, eqb-true, eq-eqb}
 use Rattle.std.specs.Str.Pattern.{LacksTextAt, FindsTextPrefix}
-use Rattle.uset_tool.specs.Script.{stripped, onto_front, at_space, onto_field, spaced}
+use Rattle.text_lines.specs.Lines.{onto_first}
+use Rattle.uset_tool.specs.Script.{stripped, onto_front, at_space, spaced}
 
 -- no space stands in the text
 abbrev pub HasNoSpace : List ℕ → Type 0
@@ -21,11 +22,11 @@ at_space-none (x ∷ xs) h = cond-false (x == 0x20) _ _ (ne_eqb x 0x20 (h 0 (ome
 
 pub spaced-some : (xs ys : List ℕ) → HasNoSpace xs → spaced (xs ++ 0x20 ∷ ys) ≡ xs ∷ spaced ys
 spaced-some [] ys h = refl
-spaced-some (x ∷ xs) ys h = cond-false (x == 0x20) _ _ (ne_eqb x 0x20 (h 0 (omega arith))) ∙ ap (onto_field x) (spaced-some xs ys (HasNoSpace-tail x xs h))
+spaced-some (x ∷ xs) ys h = cond-false (x == 0x20) _ _ (ne_eqb x 0x20 (h 0 (omega arith))) ∙ ap (onto_first x) (spaced-some xs ys (HasNoSpace-tail x xs h))
 
 pub spaced-none : (xs : List ℕ) → HasNoSpace xs → spaced xs ≡ xs ∷ []
 spaced-none [] h = refl
-spaced-none (x ∷ xs) h = cond-false (x == 0x20) _ _ (ne_eqb x 0x20 (h 0 (omega arith))) ∙ ap (onto_field x) (spaced-none xs (HasNoSpace-tail x xs h))
+spaced-none (x ∷ xs) h = cond-false (x == 0x20) _ _ (ne_eqb x 0x20 (h 0 (omega arith))) ∙ ap (onto_first x) (spaced-none xs (HasNoSpace-tail x xs h))
 
 -- the two parts of a text, where there are two
 pub at_space_cut : (text : List ℕ) (r : Option (Bor (List ℕ) × Bor (List ℕ))) →
@@ -37,7 +38,7 @@ stripped-some : (text rest : List ℕ) → stripped text (text ++ rest) ≡ Some
 stripped-some [] rest = refl
 stripped-some (c ∷ text) rest = ap (λ b. cond b (stripped text (text ++ rest)) None) (eq-eqb c c refl) ∙ stripped-some text rest
 
-stripped-is : (text line rest : List ℕ) → stripped text line ≡ Some rest → line ≡ text ++ rest
+pub stripped-is : (text line rest : List ℕ) → stripped text line ≡ Some rest → line ≡ text ++ rest
 stripped-is [] line rest h = cc
 stripped-is (c ∷ text) [] rest h = cc
 stripped-is (c ∷ text) (d ∷ line) rest h = by_test (d == c) refl h (stripped-is text line rest)

@@ -16,6 +16,7 @@ use Rattle.std.specs.BTreeSet.{insert_key}
 use Rattle.std.specs.Cmp.Lexicographic.{slice_cmp}
 use Rattle.std.specs.List.{AllPairs, list_any}
 use Rattle.std.specs.Str.{chars, bytes_eq}
+use Rattle.std.proofs.Math.Bool.{or_self_left, and-false}
 use Rattle.cp_invlist.specs.declared.ranges.CodePointRange.{CodePointRange}
 use Rattle.cp_invlist.specs.Ranges.{AreRangesFrom, AreMaximalRanges}
 use Rattle.cp_strset.specs.StringList.{holds, AreCanonical}
@@ -113,10 +114,6 @@ insert_ascends (t ∷ ss) s h = by (slice_cmp nat_cmp s t) refl (insert_ascends 
         AllPairs-cons IsBelow t (insert_key (slice_cmp nat_cmp) ss s)
         (All-insert_key (slice_cmp nat_cmp) s (IsBelow t) ss (ascend_head t ss h) (nat_list_cmp_total.antisymm t s ∙ ap ordering_reverse e)) more
 
-twice : (a b : Bool) → (a || b) ≡ (a || (a || b))
-twice true b = refl
-twice false b = refl
-
 turned : (a b c : Bool) → (a || (b || c)) ≡ (b || (a || c))
 turned true true c = refl
 turned true false c = refl
@@ -129,16 +126,12 @@ insert_holds (t ∷ ss) s bytes = by (slice_cmp nat_cmp s t) refl (insert_holds 
     by : (o : Ordering) → slice_cmp nat_cmp s t ≡ o → holds (insert_key (slice_cmp nat_cmp) ss s) bytes ≡ (bytes_eq s bytes || holds ss bytes) →
         holds (match_ordering o (s ∷ t ∷ ss) (t ∷ ss) (t ∷ insert_key (slice_cmp nat_cmp) ss s)) bytes ≡ (bytes_eq s bytes || (bytes_eq t bytes || holds ss bytes))
     by Less e more = refl
-    by Equal e more = twice (bytes_eq t bytes) (holds ss bytes) ∙ ap (λ u. bytes_eq u bytes || (bytes_eq t bytes || holds ss bytes)) (sym (same_where_equal s t e))
+    by Equal e more = sym (or_self_left (bytes_eq t bytes) (holds ss bytes)) ∙ ap (λ u. bytes_eq u bytes || (bytes_eq t bytes || holds ss bytes)) (sym (same_where_equal s t e))
     by Greater e more = ap (λ b. bytes_eq t bytes || b) more ∙ turned (bytes_eq t bytes) (bytes_eq s bytes) (holds ss bytes)
 
 -- The strings of a set, where each is one of some texts.
 abbrev Strings : (List ℕ → Bool) → List Text → Type 0
 Strings m ts = (ss : List (List ℕ)) × AreCanonical ss × ((bytes : List ℕ) → holds ss bytes ≡ (m bytes && list_any (λ t. bytes_eq (encode_utf8_all t) bytes) ts))
-
-none : (b : Bool) → false ≡ (b && false)
-none true = refl
-none false = refl
 
 -- one more text, of which the set tells whether it has it
 with_one : (b x y : Bool) → (x ≡ true → b ≡ true) → (x || (b && y)) ≡ (b && (x || y))
@@ -152,7 +145,7 @@ without true false y h = refl
 without false x y h = refl
 
 strings_of : (m : List ℕ → Bool) (ts : List Text) → All IsString ts → Strings m ts
-strings_of m [] h = ([], record { ascending = λ i j d below within. absurd (omega (arith, below, within)); none_of_one = All-nil (λ s. length (chars s) ≢ 1) }, λ bytes. none (m bytes))
+strings_of m [] h = ([], record { ascending = λ i j d below within. absurd (omega (arith, below, within)); none_of_one = All-nil (λ s. length (chars s) ≢ 1) }, λ bytes. sym (and-false (m bytes)))
 strings_of m (t ∷ ts) h = by (cases_Bool (m (encode_utf8_all t))) (strings_of m ts (All-tail IsString t ts h))
   where
     same : (bytes : List ℕ) → bytes_eq (encode_utf8_all t) bytes ≡ true → m (encode_utf8_all t) ≡ m bytes

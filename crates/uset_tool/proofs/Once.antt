@@ -2,6 +2,7 @@
 use Rattle.std.proofs.Common.{◌≡◌, ℕ, Bool, true, false, ◌||◌, List, [], ◌∷◌, ◌++◌, refl, sym, ap, ap₂, ◌∙◌, subst, append_assoc, append-nil, length-append, Option, None, Some, IfSome, Ok, Err, arith}
 use Rattle.std.proofs.lemmas.Bool.{both_ways}
 use Rattle.std.specs.Str.{chars}
+use Rattle.std.proofs.Math.Bool.{or_assoc, or-false}
 use Rattle.cp_invlist.specs.declared.ranges.CodePointRange.{CodePointRange}
 use Rattle.cp_invlist.specs.Ranges.{AreMaximalRanges}
 use Rattle.cp_strset.specs.StringList.{holds, AreCanonical}
@@ -159,14 +160,6 @@ pub record SoFar (tables : Tables) (before : Variables) (all : List (List ℕ)) 
 pub begins : (tables : Tables) (before : Variables) (all : List (List ℕ)) → SoFar tables before all before all [] false
 begins tables before all = record { joins = λ more e h. h; splits = λ whole e h. (whole, e, h, refl) }
 
-or-false : (b : Bool) → (b || false) ≡ b
-or-false true = refl
-or-false false = refl
-
-or_assoc : (x y z : Bool) → (x || (y || z)) ≡ ((x || y) || z)
-or_assoc true y z = refl
-or_assoc false y z = refl
-
 -- what the answers to a line and to the lines behind it are made of
 line_parts : {tables : Tables} → Laws tables → (variables new : Variables) (line : List ℕ) (lines : List (List ℕ)) (first whole : List ℕ) (err errs : Bool) →
     LineAnswer tables variables (script_line line) first err new → ScriptAnswer tables variables (line ∷ lines) whole errs →
@@ -182,7 +175,7 @@ goes_on {tables} laws before variables new all lines rest line text first errs e
   joins = λ more e k.
       let whole = at.joins (first ++ more) (err || e) (subst (λ ls. ScriptAnswer tables variables ls (first ++ more) (err || e)) (sym parts) (answers first more err e h k)) in
       let same_text = append_assoc text first more in
-      let same_errs = or_assoc errs err e in
+      let same_errs = sym (or_assoc errs err e) in
       subst (λ t. ScriptAnswer tables before all t ((errs || err) || e)) (sym same_text) (subst (λ b. ScriptAnswer tables before all (text ++ (first ++ more)) b) same_errs whole);
   splits = λ whole e k.
       let (more, more_errs, more_is, whole_is) = at.splits whole e k in

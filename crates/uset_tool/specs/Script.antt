@@ -1,6 +1,7 @@
 -- The lines of a script.
-use Rattle.std.specs.Prelude.{ℕ, ◌+◌, ◌*◌, Bool, true, ◌&&◌, ◌||◌, nat_lt, nat_le, ◌==◌, List, [], ◌∷◌, length, Option, Some, None, option_map, option_and_then, codes, if◌then◌else◌}
-use Rattle.std.specs.Char.{digit_value}
+use Rattle.std.specs.Prelude.{ℕ, Bool, true, ◌||◌, nat_lt, nat_le, ◌==◌, List, [], ◌∷◌, Option, Some, None, option_map, option_and_then, codes, if◌then◌else◌}
+use Rattle.text_lines.specs.Lines.{onto_first}
+use Rattle.text_lines.specs.Numbers.{hex}
 
 -- What a name is to be bound to.
 pub data Definition : Type 0 where
@@ -41,28 +42,18 @@ abbrev pub at_space : List ℕ → Option (List ℕ × List ℕ)
 at_space [] = None
 at_space (c ∷ text) = if c == 0x20 then Some ([], text) else option_map (onto_front c) (at_space text)
 
--- hexadecimal digits, read on from a number
-abbrev pub hex_onto : ℕ → List ℕ → Option ℕ
-hex_onto n [] = Some n
-hex_onto n (d ∷ digits) = if nat_lt (digit_value d) 16 then hex_onto (n * 16 + digit_value d) digits else None
-
 -- the number is that of a character: a code point, and no surrogate
 abbrev pub as_character : ℕ → Option ℕ
 as_character n = if nat_lt n 0xD800 || (nat_le 0xE000 n && nat_le n 0x10_FFFF) then Some n else None
 
 -- one to six hexadecimal digits, as the character of their number
-unfoldable pub character_of : List ℕ → Option ℕ
-character_of field = if nat_le 1 (length field) && nat_le (length field) 6 then option_and_then as_character (hex_onto 0 field) else None
-
--- a byte in front of the first field
-abbrev pub onto_field : ℕ → List (List ℕ) → List (List ℕ)
-onto_field c [] = (c ∷ []) ∷ []
-onto_field c (field ∷ fields) = (c ∷ field) ∷ fields
+abbrev pub character_of : List ℕ → Option ℕ
+character_of field = option_and_then as_character (hex field)
 
 -- the fields of a text, between which one space stands
 abbrev pub spaced : List ℕ → List (List ℕ)
 spaced [] = [] ∷ []
-spaced (c ∷ text) = if c == 0x20 then [] ∷ spaced text else onto_field c (spaced text)
+spaced (c ∷ text) = if c == 0x20 then [] ∷ spaced text else onto_first c (spaced text)
 
 abbrev pub both : Option ℕ → Option (List ℕ) → Option (List ℕ)
 both None cs = None

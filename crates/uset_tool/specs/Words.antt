@@ -3,7 +3,7 @@ use Rattle.std.specs.Prelude.{ℕ, Bool, ◌&&◌, ◌||◌, ◌==◌, nat_lt, n
 use Rattle.std.specs.Str.{bytes_eq}
 use Prim.Native.Char.{code}
 use Rattle.prop_data.specs.declared.error.TableError.{TableError}
-use Rattle.prop_data.specs.Numbers.{number_onto}
+use Rattle.text_lines.specs.Numbers.{decimal_number}
 use Rattle.prop_data.specs.TableErrorKind.{kind_name}
 
 -- What the words ask for.
@@ -24,7 +24,7 @@ unfoldable pub count_of : List ℕ → Option ℕ
 count_of [] = None
 count_of (d ∷ digits) =
     if d == code "0" || nat_lt 5 (length (d ∷ digits)) then None
-    else option_and_then as_count (number_onto 10 0 (d ∷ digits))
+    else option_and_then as_count (decimal_number (d ∷ digits))
 
 -- the one word is that of a command
 abbrev pub command_named : List ℕ → Option Command

@@ -1,13 +1,13 @@
 //! The lines of a script, as they are written.
-ghost use Rattle.std.specs.Prelude.{◌≡◌, ◌≤◌, ◌<◌, nat_lt, length, Some, None, IfOk, IfSome, option_map, if◌then◌else◌};
-ghost use Rattle.std.specs.Char.{digit_value};
+ghost use Rattle.std.specs.Prelude.{◌≡◌, IfOk, option_map};
 ghost use Rattle.std.specs.Str.{chars};
 ghost use Rattle.std.specs.String.{string_bytes};
-ghost use Rattle.uset_tool.specs.Script.{character, string, script_line, stripped, is_silent, at_space, hex_onto, as_character, character_of, spaced, characters_of, string_of, definition_of, let_or_bad, binding_or_bad, named};
+ghost use Rattle.uset_tool.specs.Script.{character, string, script_line, stripped, is_silent, at_space, as_character, character_of, spaced, characters_of, string_of, definition_of, let_or_bad, binding_or_bad, named};
 ghost use Rattle.uset_tool.specs.Lines.{line_seen, definition_seen};
 
 use cp_invlist::NoMemory;
 use std::alloc::Global;
+use text_lines::hex;
 
 /// What a name is to be bound to.
 #[derive(Drop)]
@@ -52,25 +52,6 @@ fn split_at_space(text: &str) -> Option<(&str, &str)>
     text.split_once(' ')
 }
 
-fn hex_digit(byte: u8) -> Option<u32>
-    ensures value { result ≡ (if nat_lt (digit_value byte) 16 then Some (digit_value byte) else None) }
-    ensures small { IfSome result (λ value. value < 16) }
-{
-    char::from(byte).to_digit(16)
-}
-
-/// The number of hexadecimal digits, of which there are six at most.
-fn hex(digits: &[u8]) -> Option<u32>
-    requires { length digits.now ≤ 6 }
-    ensures { result ≡ hex_onto 0 digits.now }
-{
-    let mut number = 0;
-    for digit in digits {
-        number = number * 16 + hex_digit(*digit)?;
-    }
-    Some(number)
-}
-
 /// The character of a number.
 fn as_character(number: u32) -> Option<char>
     ensures { result ≡ as_character number }
@@ -79,15 +60,10 @@ fn as_character(number: u32) -> Option<char>
 }
 
 /// The character whose number one to six hexadecimal digits spell.
-#[tactic(auto, unfolding(crate::specs::Script::character_of))]
 fn character_of(field: &str) -> Option<char>
     ensures { result ≡ character_of field.now }
 {
-    let digits = field.as_bytes();
-    if digits.is_empty() || digits.len() > 6 {
-        return None;
-    }
-    as_character(hex(digits)?)
+    as_character(hex(field.as_bytes())?)
 }
 
 /// The characters of fields between which one space stands. `None` where one isn't the number of a character.

@@ -9,13 +9,13 @@ use crate::database::PropertyDatabase;
 use crate::error::{LoadError, TableErrorKind, fault};
 use crate::line::Row;
 use crate::load::OpenTable;
-use crate::numbers::decimal_number;
 use crate::row::is_behind;
 use crate::scripts::ListedScripts;
 use crate::value::accepted_script;
 use cp_invlist::NoMemory;
 use prop_values::Script;
 use std::alloc::Global;
+use text_lines::decimal_number;
 
 /// The last index of a list.
 const LAST_LIST: u64 = 1023;

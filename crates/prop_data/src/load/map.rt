@@ -8,12 +8,13 @@ use crate::error::{LoadError, TableErrorKind, fault};
 use crate::line::Row;
 use crate::load::OpenTable;
 use crate::load::map_builder::MapBuilder;
-use crate::numbers::{decimal_number, range};
+use crate::numbers::range;
 use crate::row::range_fault;
 use crate::value::accepted;
 use cp_invlist::NoMemory;
 use prop_values::MapTable;
 use std::alloc::Global;
+use text_lines::decimal_number;
 
 #[derive(Drop)]
 pub(crate) struct OpenMap {

@@ -8,12 +8,12 @@ use crate::error::{LoadError, TableErrorKind, fault};
 use crate::line::Row;
 use crate::load::OpenTable;
 use crate::name::is_name;
-use crate::numbers::decimal_number;
 use crate::value::accepted_name;
 use cp_invlist::NoMemory;
 use prop_names::{NamesBuilder, ascii_text, stored_folding};
 use prop_values::NamesTable;
 use std::alloc::Global;
+use text_lines::decimal_number;
 
 /// Whether there is a value, and it is another one.
 fn is_other(other: Option<u16>, value: u16) -> bool

@@ -7,12 +7,13 @@ use crate::error::{LoadError, TableErrorKind, fault};
 use crate::line::Row;
 use crate::load::OpenTable;
 use crate::load::map_builder::MapBuilder;
-use crate::numbers::{decimal_number, range};
+use crate::numbers::range;
 use crate::row::range_fault;
 use crate::value::accepted_script;
 use cp_invlist::NoMemory;
 use prop_values::ScriptWithExt;
 use std::alloc::Global;
+use text_lines::decimal_number;
 
 /// Adds the number to the list.
 fn push_number(numbers: &mut Vec<u16>, number: u16) -> Result<(), NoMemory>

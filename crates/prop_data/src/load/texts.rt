@@ -9,12 +9,12 @@ use crate::error::{LoadError, TableErrorKind, fault};
 use crate::line::Row;
 use crate::load::OpenTable;
 use crate::name::kept_name;
-use crate::numbers::decimal_number;
 use crate::value::accepted;
 use cp_invlist::NoMemory;
 use prop_names::NamesByNumber;
 use prop_values::MapTable;
 use std::alloc::Global;
+use text_lines::decimal_number;
 
 /// Which names of values a table has.
 #[derive(Clone, Copy, Debug, PartialEq, Eq)]

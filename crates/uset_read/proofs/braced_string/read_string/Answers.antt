@@ -1,6 +1,7 @@
-use Rattle.std.proofs.Common.{suc, length, sym, subst, Result, Ok, Err, IfOk, IfErr, arith}
+use Rattle.std.proofs.Common.{suc, length, sym, subst, arith}
 use Rattle.std.specs.Str.{chars}
 use Rattle.std.specs.String.{string_bytes}
+use Rattle.std.proofs.lemmas.Result.{IfOk-weaker, IfErr-weaker}
 use Rattle.cp_invlist.specs.InversionList.{contains}
 use Rattle.uset_grammar.specs.Outcome.{got}
 use Rattle.uset_grammar.specs.BracedString.{StringOutcome}
@@ -10,17 +11,9 @@ use Rattle.uset_read.proofs.FirstCharacter.{begins_with}
 use Rattle.uset_read.proofs.StringRead.{string_got, string_stops}
 use Rattle.uset_read.proofs.braced_string.read_string.Goals as goal
 
-if_ok : {A E : Type 0} (r : Result A E) (P Q : A → Type 0) → ((x : A) → P x → Q x) → IfOk r P → IfOk r Q
-if_ok (Ok x) P Q f h = f x h
-if_ok (Err e) P Q f h = tt
-
-if_err : {A E : Type 0} (r : Result A E) (S T : E → Type 0) → ((e : E) → S e → T e) → IfErr r S → IfErr r T
-if_err (Ok x) S T f h = tt
-if_err (Err e) S T f h = f e h
-
 pub returns-clause-read : goal.returns-clause-read
 returns-clause-read c =
-    if_ok c.read_pieces.result (λ p. PiecesAre c.args.white_space.now c.in_ok-inner.inner.now (string_bytes p.0) p.1.now) (λ p. StringIs c.args.white_space.now c.args.text.now (string_bytes p.0) p.1.now)
+    IfOk-weaker c.read_pieces.result (λ p. PiecesAre c.args.white_space.now c.in_ok-inner.inner.now (string_bytes p.0) p.1.now) (λ p. StringIs c.args.white_space.now c.args.text.now (string_bytes p.0) p.1.now)
     (λ p h apart inner e.
     let parts = begins_with (chars c.args.text.now) (chars c.in_ok-inner.inner.now) inner c.in_ok-inner.field-0-0 0x7B c.in_ok-inner.ensures.parts e in
     let few = h.few in (
@@ -32,7 +25,7 @@ returns-clause-read c =
 
 pub returns-clause-stopped : goal.returns-clause-stopped
 returns-clause-stopped c =
-    if_err c.read_pieces.result (PiecesStop c.args.white_space.now c.in_ok-inner.inner.now) (StringStops c.args.white_space.now c.args.text.now)
+    IfErr-weaker c.read_pieces.result (PiecesStop c.args.white_space.now c.in_ok-inner.inner.now) (StringStops c.args.white_space.now c.args.text.now)
     (λ stop h apart inner e.
     let parts = begins_with (chars c.args.text.now) (chars c.in_ok-inner.inner.now) inner c.in_ok-inner.field-0-0 0x7B c.in_ok-inner.ensures.parts e in
     let few = (h apart).1 in

@@ -3,7 +3,8 @@ use Rattle.uset_read.specs.Stops.{left_at}
 use Rattle.uset_reader.specs.Syntaxes.{language_seen}
 use Rattle.uset_reader.specs.Units.{OperandStops}
 use Rattle.std.proofs.Common.{◌≤◌, length}
-use Rattle.uset_reader.proofs.PropertyLemmas.{answered_err, if_err, if_ok, stops_too}
+use Rattle.std.proofs.lemmas.Result.{IfOk-weaker, IfErr-weaker}
+use Rattle.uset_reader.proofs.PropertyLemmas.{answered_err, stops_too}
 use Rattle.uset_reader.proofs.property.read_named.Goals as goal
 
 pub returns-in_err-form-clause-stopped : goal.returns-in_err-form-clause-stopped
@@ -17,13 +18,13 @@ returns-in_err-form-clause-place c =
     answered_err c.from_residual.result c.in_err-form.field-0.0 (λ stop. left_at stop ≤ length c.args.text.now) c.from_residual.ensures c.in_err-form.ensures.place
 
 pub returns-clause-read : goal.returns-clause-read
-returns-clause-read c = if_ok c.resolve_named.result (λ p h. h c.args.text.now c.in_ok-form.ensures.read) c.resolve_named.ensures.read
+returns-clause-read c = IfOk-weaker c.resolve_named.result _ _ (λ p h. h c.args.text.now c.in_ok-form.ensures.read) c.resolve_named.ensures.read
 
 pub returns-clause-stopped : goal.returns-clause-stopped
-returns-clause-stopped c = if_err c.resolve_named.result (λ stop h. h c.args.text.now c.in_ok-form.ensures.read) c.resolve_named.ensures.stopped
+returns-clause-stopped c = IfErr-weaker c.resolve_named.result _ _ (λ stop h. h c.args.text.now c.in_ok-form.ensures.read) c.resolve_named.ensures.stopped
 
 pub returns-clause-place : goal.returns-clause-place
-returns-clause-place c = if_err c.resolve_named.result (λ stop le. omega (arith, le, c.in_ok-form.ensures.shorter)) c.resolve_named.ensures.place
+returns-clause-place c = IfErr-weaker c.resolve_named.result _ _ (λ stop le. omega (arith, le, c.in_ok-form.ensures.shorter)) c.resolve_named.ensures.place
 
 pub returns-clause-shorter : goal.returns-clause-shorter
-returns-clause-shorter c = if_ok c.resolve_named.result (λ p lt. omega (arith, lt, c.in_ok-form.ensures.shorter)) c.resolve_named.ensures.shorter
+returns-clause-shorter c = IfOk-weaker c.resolve_named.result _ _ (λ p lt. omega (arith, lt, c.in_ok-form.ensures.shorter)) c.resolve_named.ensures.shorter

@@ -1,4 +1,5 @@
 use Rattle.std.proofs.Common.{◌≡◌, ℕ, Bool, ◌+◌, ◌≤◌, ◌&&◌, ◌||◌, ◌∷◌, sym, ap, ◌∙◌, subst, arith}
+use Rattle.std.proofs.Math.Bool.{or_assoc}
 use Rattle.cp_invlist.specs.InversionList.{contains, is_code_point}
 use Rattle.cp_invlist.specs.Ranges.{in_code_points}
 use Rattle.cp_trie.specs.Map.{value_at}
@@ -7,7 +8,7 @@ use Rattle.cp_trie.specs.ValueLaws.{nat_eq-same}
 use Rattle.prop_values.specs.Category.{category_of}
 use Rattle.uset_resolve.specs.Joining.{is_held, Touches, EndsBefore}
 use Rattle.uset_resolve.specs.Resolution.{is_in}
-use Rattle.uset_resolve.proofs.GroupLemmas.{passing, passing-value, same_number, or_assoc}
+use Rattle.uset_resolve.proofs.GroupLemmas.{passing, passing-value, same_number}
 use Rattle.uset_resolve.proofs.group.set_of_group.Goals as goal
 
 pub loop-run-init : goal.loop-run-init

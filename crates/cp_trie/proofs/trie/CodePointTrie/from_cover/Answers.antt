@@ -1,12 +1,7 @@
-use Rattle.std.specs.Prelude.{Result, Ok, Err, IfOk}
+use Rattle.std.proofs.lemmas.Result.{IfOk-weaker}
 use Rattle.cp_trie.proofs.CoverLemmas.{IsCover-from_no_fault}
 use Rattle.cp_trie.proofs.RunsLemmas.{runs-of_joined, value_at-joined}
 use Rattle.cp_trie.proofs.trie.CodePointTrie.from_cover.Goals as goal
-
--- what follows from a fact about a result at Ok holds at Ok
-if_ok_weaker : {X E : Type 0} {P Q : X → Type 0} (r : Result X E) → ((x : X) → P x → Q x) → IfOk r P → IfOk r Q
-if_ok_weaker (Ok x) f p = f x p
-if_ok_weaker (Err e) f p = tt
 
 pub from_joined-requires : goal.from_joined-requires
 from_joined-requires g c =
@@ -14,6 +9,6 @@ from_joined-requires g c =
 
 pub returns-clause-values : goal.returns-clause-values
 returns-clause-values g c =
-    if_ok_weaker c.from_joined.result (
+    IfOk-weaker c.from_joined.result _ _ (
     λ map same n. value_at-joined g.T.PartialEq.eq (λ x y. (g.met.T.TrieValue.eq_is_same x y).0) map c.in_ok-runs.runs c.args.runs.items c.args.error_value n same c.in_ok-runs.ensures (IsCover-from_no_fault 0 0 c.args.runs.items c.requires)
     ) c.from_joined.ensures

@@ -1,9 +1,9 @@
 use Rattle.std.proofs.Common.{◌≡◌, ◌||◌, length, rules, sym, ap, ◌∙◌}
 use Rattle.std.proofs.lemmas.List.{nil_from_length}
 use Rattle.std.proofs.lemmas.List.Sorted.{list_any-IsPermutation}
+use Rattle.std.proofs.lemmas.Result.{IfOk-weaker}
 use Rattle.cp_invlist.specs.InversionList.{contains}
 use Rattle.cp_invlist.specs.Ranges.{in_code_points}
-use Rattle.uset_gather.proofs.GatheredLemmas.{if_ok}
 use Rattle.uset_gather.proofs.RangesLemmas.{gathered_in_run, none_aside}
 use Rattle.uset_gather.proofs.run.Run.into_builder.Goals as goal
 
@@ -14,7 +14,7 @@ returns-then-is_empty c =
 
 pub returns-then-get_inversion_list-len : goal.returns-then-get_inversion_list-len
 returns-then-get_inversion_list-len c =
-    if_ok c.sorted_union.result (λ set h d.
+    IfOk-weaker c.sorted_union.result _ _ (λ set h d.
     gathered_in_run c.args.self c.build-front.result set d c.build-front.ensures
     (h d ∙ c.in_ok-put_aside.ensures d
     ∙ ap (λ b. b || contains c.build-front.result d)

@@ -1,9 +1,9 @@
 use Rattle.std.proofs.Common.{ℕ, Option, option_map, ◌||◌, refl, ap, sym, ◌∙◌}
 use Rattle.cp_invlist.specs.InversionList.{contains}
 use Rattle.std.specs.BTreeSet.{contains_text}
+use Rattle.std.proofs.Math.Bool.{or-false}
 use Rattle.prop_data.specs.LineFault.{emoji_range_fault}
 use Rattle.prop_data.specs.Rows.{or_else, holds}
-use Rattle.prop_data.proofs.EmojiLemmas.{or_none}
 use Rattle.prop_data.proofs.RowLemmas.{range_fault-none, in_code_points-holds}
 use Rattle.prop_data.proofs.load.emoji.OpenEmoji.add_range.Goals as goal
 
@@ -18,5 +18,5 @@ returns c =
       λ d.
           c.in_ok-add_range32.ensures.ok d
           ∙ ap (λ b. contains old.builder d || b) (in_code_points-holds _ _ d (range_fault-none _ _ range_fine).within ∙ ap (λ s. holds s d) is),
-      λ bytes. or_none (contains_text old.strings bytes),
+      λ bytes. sym (or-false (contains_text old.strings bytes)),
     )

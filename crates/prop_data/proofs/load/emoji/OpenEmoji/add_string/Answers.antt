@@ -3,11 +3,12 @@ use Rattle.cp_invlist.specs.InversionList.{contains}
 use Rattle.std.specs.BTreeSet.{contains_text}
 use Rattle.std.specs.List.{list_any}
 use Rattle.std.specs.String.{string_bytes}
+use Rattle.std.proofs.Math.Bool.{or-false}
 use Rattle.prop_data.specs.Loading.{emoji_read}
 use Rattle.prop_data.specs.LineFault.{emoji_string_fault}
 use Rattle.prop_data.specs.Strings.{is_surrogate, is_text, spelled_numbers, string_numbers, text_of_numbers, text_spelled}
 use Rattle.prop_data.specs.TableText.{at_line}
-use Rattle.prop_data.proofs.EmojiLemmas.{or_none, string_numbers-spelled, string_fault-large, is_string, string_fault-string, sole_of-string}
+use Rattle.prop_data.proofs.EmojiLemmas.{string_numbers-spelled, string_fault-large, is_string, string_fault-string, sole_of-string}
 use Rattle.prop_data.proofs.load.emoji.OpenEmoji.add_string.Goals as goal
 
 pub returns-in_default-2 : goal.returns-in_default-2
@@ -59,7 +60,7 @@ returns c =
       ap (emoji_string_fault (emoji_read c.args.self.now)) numbers_are ∙ string_fault-string (emoji_read c.args.self.now) ns text _ string (there ∙ c.if-contains.false),
       refl,
       refl,
-      λ d. or_none (contains c.args.self.now.builder d),
+      λ d. sym (or-false (contains c.args.self.now.builder d)),
       λ bytes.
           c.in_ok-insert.ensures.ok bytes
           ∙ ap (λ (o : Option (List ℕ)). contains_text c.args.self.now.strings bytes || is_text o bytes) (sym text_told),

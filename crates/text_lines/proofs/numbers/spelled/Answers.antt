@@ -1,6 +1,6 @@
 use Rattle.std.proofs.Common.{◌≤◌, arith, lit<}
 use Rattle.std.proofs.Math.Nat.{pow-le-pow_right, mul-le-mul_left}
-use Rattle.prop_data.proofs.numbers.spelled.Goals as goal
+use Rattle.text_lines.proofs.numbers.spelled.Goals as goal
 
 pub overflow_mul-value : goal.overflow_mul-value
 overflow_mul-value c =

@@ -1,6 +1,6 @@
 use Rattle.std.proofs.Common.{◌≡◌, ◌<◌, ◌^◌, drop}
-use Rattle.prop_data.specs.Numbers.{number_onto}
-use Rattle.prop_data.proofs.numbers.spelled.Given as goal
+use Rattle.text_lines.specs.Numbers.{number_onto}
+use Rattle.text_lines.proofs.numbers.spelled.Given as goal
 
 abbrev pub invariant-loop-byte : goal.invariant-loop-byte
 invariant-loop-byte l = record {
