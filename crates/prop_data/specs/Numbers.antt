@@ -1,7 +1,8 @@
 -- Numbers and ranges of code points as they are spelled.
 use Rattle.std.specs.Prelude.{ℕ, ◌+◌, Bool, ◌==◌, List, take, drop, Option, Some, None, option_map}
 use Rattle.std.specs.List.{position}
-pub use Rattle.text_lines.specs.Numbers.{spelled, hex, decimal_number}
+unfoldable pub use Rattle.text_lines.specs.Numbers.{spelled}
+pub use Rattle.text_lines.specs.Numbers.{hex, decimal_number}
 
 abbrev pub is_hyphen : ℕ → Bool
 is_hyphen c = c == 0x2D
