@@ -94,6 +94,9 @@ const NUMBERS: &[(&[u8], Option<u32>, Option<u64>)] = &[
 #[test]
 fn digits_spell_numbers(rt: HostRuntime) {
     for (digits, hexadecimal, decimal) in NUMBERS {
-        assert!(rt; hex(digits) == *hexadecimal && decimal_number(digits) == *decimal, "at {digits:?}");
+        assert!(rt;
+            hex(digits) == *hexadecimal && decimal_number(digits) == *decimal,
+            "at {digits:?}"
+        );
     }
 }

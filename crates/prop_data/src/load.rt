@@ -30,8 +30,8 @@ use prop_values::{MapTable, NamesTable};
 use scripts::OpenScripts;
 use set::OpenSet;
 use std::alloc::Global;
-pub(crate) use texts::Length;
 use text_lines::decimal_number;
+pub(crate) use texts::Length;
 use texts::{OpenTexts, text_table};
 
 /// A table whose rows are being read.
