@@ -1,5 +1,5 @@
 -- A binary search among names in order.
-use Rattle.std.proofs.Common.{◌≡◌, ℕ, zero, suc, ◌+◌, ◌<◌, ◌≤◌, true, false, Some, None, Err, List, [], ◌∷◌, length, get_or, refl, sym, ap, ◌∙◌, arith, nat_cmp, inl, inr}
+use Rattle.std.proofs.Common.{◌≡◌, ℕ, zero, suc, ◌+◌, ◌<◌, true, false, Some, None, Err, List, [], ◌∷◌, length, get_or, refl, sym, ap, ◌∙◌, arith, nat_cmp, inl, inr}
 use Rattle.std.specs.declared.cmp.Ordering.{Ordering}
 use Rattle.std.specs.declared.cmp.Ordering.TheVariants.{Less, Equal, Greater}
 use Rattle.std.specs.Cmp.Lexicographic.{slice_cmp}

@@ -34,7 +34,7 @@ fn spelled(digits: &[u8], base: u32, most: usize) -> Option<u64>
     Some(value)
 }
 
-/// The number that one to six hexadecimal digits spell.
+/// The number that one to six hexadecimal digits spell, `None` where the bytes are anything else.
 pub fn hex(digits: &[u8]) -> Option<u32>
     ensures { result ≡ hex digits.now }
 {
@@ -42,7 +42,7 @@ pub fn hex(digits: &[u8]) -> Option<u32>
     Some(number as u32)
 }
 
-/// The number that one to ten decimal digits spell.
+/// The number that one to ten decimal digits spell, `None` where the bytes are anything else.
 pub fn decimal_number(digits: &[u8]) -> Option<u64>
     ensures { result ≡ decimal_number digits.now }
 {

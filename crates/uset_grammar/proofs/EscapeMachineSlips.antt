@@ -1,15 +1,14 @@
 -- The slips of the machine of escapes: the kind and the text before the place, at each state.
-use Rattle.std.proofs.Common.{◌≡◌, ℕ, zero, suc, ◌+◌, Bool, true, false, ◌&&◌, cond, List, [], ◌∷◌, ◌++◌, length, Some, None, refl, sym, ap, ◌∙◌, subst, inl, inr, append_assoc, append-nil, arith}
+use Rattle.std.proofs.Common.{◌≡◌, ℕ, zero, suc, ◌+◌, Bool, true, false, cond, List, [], ◌∷◌, ◌++◌, length, Some, None, refl, sym, ap, ◌∙◌, subst, inl, inr, append_assoc, arith}
 use mathlib.Core.Logic.{◌⊎◌}
 use Rattle.std.specs.Prelude.{◌==◌, if◌then◌else◌}
 use Rattle.std.specs.List.{list_all}
 use Rattle.std.proofs.lemmas.Bool.{eqb-true}
-use Rattle.std.proofs.lemmas.List.Folds.{list_all-append}
 use Rattle.uset_grammar.specs.Text.{Text}
 use Rattle.uset_grammar.specs.Outcome.{unexpected, unimplemented, invalid_escape}
 use Rattle.uset_grammar.specs.Escape.{Apart, is_hex, value, Spelled, named, itself, numbers, Letter, four, two, six, name, other, letter, is_above, is_surrogate}
 use Rattle.uset_grammar.specs.EscapeSlips.{Around, in_string, in_bracket, BeforeNumber, first, further}
-use Rattle.uset_grammar.proofs.UnitMachine.{Next, goes, whole, refuses, Slip, onward, reach, free}
+use Rattle.uset_grammar.proofs.UnitMachine.{Next, goes, whole, refuses, Slip, reach, free, holds_at}
 use Rattle.uset_grammar.proofs.EscapeMachine.{State, start, letters, brace_or, zero_first, zero_second, fixed, awaits, number, at_letter, next_fixed, next_digit, close_or, next, Sort, digit, brace, white, stray, sort, Digits, one_digit, more_digits, digits_number, length_snoc, all_snoc}
 
 abbrev pub or_else : Slip → Slip → Slip
@@ -187,13 +186,5 @@ module _ (white_space : ℕ → Bool) (apart : Apart white_space) (a : Around) w
   at_on p (awaits ns) c at = awaits_on p ns c (sort white_space apart c) at
   at_on p (number ns m w before) c at = number_on p ns m w before c (sort white_space apart c) at
 
-  walk_by : (p t : Text) (c : ℕ) (e : State) (n : Next State Spelled) → Onward white_space a p c n →
-      ((s : State) → At white_space a s (p ++ c ∷ []) → reach (next white_space) free (p ++ c ∷ []) s t ≡ Some e → At white_space a e ((p ++ c ∷ []) ++ t)) →
-      onward None n (λ s. reach (next white_space) free (p ++ c ∷ []) s t) ≡ Some e → At white_space a e (p ++ c ∷ t)
-  walk_by p t c e (goes s) on ih h = subst (At white_space a e) (append_assoc p (c ∷ []) t) (ih s on h)
-  walk_by p t c e (whole v) on ih h = absurd (let k = h in cc)
-  walk_by p t c e refuses on ih h = absurd (let k = h in cc)
-
   pub walk : (p t : Text) (s e : State) → At white_space a s p → reach (next white_space) free p s t ≡ Some e → At white_space a e (p ++ t)
-  walk p [] s e at h = subst (λ z. At white_space a z (p ++ [])) (let k : Some s ≡ Some e = h in cc) (subst (At white_space a s) (sym (append-nil p)) at)
-  walk p (c ∷ t) s e at h = walk_by p t c e (next white_space p s c) (at_on p s c at) (λ s' at' k. walk (p ++ c ∷ []) t s' e at' k) h
+  walk = holds_at (next white_space) free (At white_space a) (λ p s e c at _ n. subst (Onward white_space a p c) n (at_on p s c at))

@@ -4,15 +4,14 @@ use Rattle.std.specs.Prelude.{◌==◌, nat_le}
 use Rattle.std.specs.List.{list_all}
 use Rattle.std.proofs.lemmas.Bool.{cases_Bool, and_parts, and_right}
 use Rattle.std.proofs.lemmas.Bool.Decides.{nat_tests}
-use Rattle.std.proofs.lemmas.List.Folds.{list_all-append}
 use Rattle.std.specs.Char.{digit_value}
 use Rattle.std.proofs.Math.Nat.{lt_of_lt_of_le, mul-le-mul_right, mul_assoc, mul_right_comm, one-mul, pow-suc, pow-le-pow_right}
-use Rattle.uset_grammar.specs.Text.{Text, ◌>>=◌}
+use Rattle.uset_grammar.specs.Text.{Text}
 use Rattle.uset_grammar.specs.Outcome.{HasOutcome, Kind, invalid_escape, Outcome, got, Enough, NoSlip}
 use Rattle.uset_grammar.specs.Escape.{Apart, is_hex, value, Spelled, named, itself, numbers, up_to_brace, words, values, at_least_one, plain, Letter, four, two, six, name, other, letter, is_above, is_surrogate, onto}
 use Rattle.uset_grammar.specs.EscapeSlips.{EscapeShape, EscapeRead, Around, fits_in, so_many, in_string, in_bracket, allowed, EscapeSlips}
 use Rattle.uset_grammar.proofs.Binding.{bound}
-use Rattle.uset_grammar.proofs.UnitMachine.{Next, goes, whole, refuses, Slip, turn, Halts, run, reach, Stopped, free, run_on, got_longer, part_of, Keeps, read_fits}
+use Rattle.uset_grammar.proofs.UnitMachine.{Next, goes, whole, refuses, Slip, turn, Halts, run, reach, Stopped, free, run_on, Keeps, read_fits}
 use Rattle.uset_grammar.proofs.EscapeMachine.{State, start, letters, brace_or, zero_first, zero_second, fixed, awaits, number, at_letter, next_fixed, next_digit, close_or, next, read_whole, Sort, digit, brace, white, stray, sort, Digits, one_digit, more_digits, shape_is_read, braces_read, inner, finish, length_snoc, all_snoc}
 use Rattle.uset_grammar.proofs.UnitMachineOutcome.{Describes, answered}
 use Rattle.uset_grammar.proofs.EscapeMachineSlips.{or_else, letter_slip, second, later, sixth, shorter, fixed_slip, within, end_slip, slip}

@@ -4,10 +4,10 @@ use mathlib.Core.Logic.{◌⊎◌}
 use Rattle.std.specs.Prelude.{◌==◌, not, if◌then◌else◌}
 use Rattle.std.proofs.lemmas.Bool.{eqb-true}
 use Rattle.uset_grammar.specs.Text.{Text, ◌>>=◌, behind_code}
-use Rattle.uset_grammar.specs.Outcome.{HasOutcome, Kind, Outcome, got, ended, Enough, NoSlip}
+use Rattle.uset_grammar.specs.Outcome.{HasOutcome, Kind, Outcome, got, Enough, NoSlip}
 use Rattle.uset_grammar.proofs.Binding.{bind_assoc, bind_none}
 use Rattle.uset_grammar.proofs.UnitMachineOutcome.{Describes, goes_within, answered}
-use Rattle.uset_grammar.proofs.UnitMachine.{Next, goes, whole, refuses, Slip, turn, Halts, run, reach, Stopped, free, run_on, got_longer, part_of, whole_from, Keeps, read_fits}
+use Rattle.uset_grammar.proofs.UnitMachine.{Next, goes, whole, refuses, Slip, turn, Halts, run, reach, Stopped, free, run_on, whole_from, Keeps, read_fits}
 use Rattle.uset_grammar.specs.Property.{is_key, Query, Form, posix, perl, mark, up_to, no_value, with_value, query, closed, without_white, inner, caret_or, perl_shape, property_shape, PropertyShape, unresolved, PropertyRead, PropertySlips, posix_mark, perl_mark}
 use Rattle.uset_grammar.proofs.EscapeMachine.{read_whole}
 use Rattle.uset_grammar.proofs.EscapeMachineMeaning.{read_got}

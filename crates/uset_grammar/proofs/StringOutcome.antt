@@ -6,12 +6,12 @@ use Rattle.std.proofs.lemmas.Bool.{eqb-true, and_parts}
 use Rattle.std.proofs.lemmas.List.Folds.{list_all-append}
 use Rattle.std.proofs.lemmas.List.Folds.{list_all-append}
 use Rattle.uset_grammar.specs.Text.{Text}
-use Rattle.uset_grammar.specs.Outcome.{HasOutcome, Kind, Outcome, got, ended, Enough, NoSlip}
+use Rattle.uset_grammar.specs.Outcome.{HasOutcome, Kind, Outcome, got, Enough, NoSlip}
 use Rattle.uset_grammar.specs.EscapeSlips.{in_string, allowed}
 use Rattle.uset_grammar.proofs.UnitMachineOutcome.{Describes, goes_within, answered}
 use Rattle.uset_grammar.specs.Escape.{Apart, Spelled, itself}
 use Rattle.uset_grammar.specs.BracedString.{StringShape, StringRead, StringSlips, in_escape}
-use Rattle.uset_grammar.proofs.UnitMachine.{Next, goes, whole, refuses, Slip, turn, onward, Halts, run, reach, Stopped, free, run_on, reach_on, got_longer, part_of, whole_from, Keeps, read_fits}
+use Rattle.uset_grammar.proofs.UnitMachine.{Next, goes, whole, refuses, Slip, turn, onward, Halts, run, reach, Stopped, free, run_on, reach_on, whole_from, Keeps, read_fits, holds_at}
 use Rattle.uset_grammar.proofs.EscapeMachine as E
 use Rattle.uset_grammar.proofs.EscapeMachine.{read_whole}
 use Rattle.uset_grammar.proofs.EscapeMachineSlips as S
@@ -97,17 +97,9 @@ module _ (white_space : ℕ → Bool) where
   on p (pieces ps) c at = pieces_on p c ps (c == 0x7D) (white_space c) (c == 0x5C) refl at.0
   on p (inside ps b q e) c at = lift_on p b q c ps e (E.next white_space q e c) refl at.1
 
-  walk_by : (p t : Text) (c : ℕ) (s e : State) (n : Next State (List Spelled)) → next white_space p s c ≡ n → At s p → Onward p c n →
-      ((s' : State) → At s' (p ++ c ∷ []) → reach (next white_space) free (p ++ c ∷ []) s' t ≡ Some e → At e ((p ++ c ∷ []) ++ t)) →
-      onward None n (λ s'. reach (next white_space) free (p ++ c ∷ []) s' t) ≡ Some e → At e (p ++ c ∷ t)
-  walk_by p t c s e (goes d) en at x ih h = subst (At e) (append_assoc p (c ∷ []) t)
-      (ih d (reach_on (next white_space) free [] p (c ∷ []) start s at.0 ∙ ap (λ m. onward None m (λ (s' : State). Some s')) en, x) h)
-  walk_by p t c s e (whole v) en at x ih h = absurd (let k = h in cc)
-  walk_by p t c s e refuses en at x ih h = absurd (let k = h in cc)
-
   walk : (p t : Text) (s e : State) → At s p → reach (next white_space) free p s t ≡ Some e → At e (p ++ t)
-  walk p [] s e at h = subst (λ z. At z (p ++ [])) (let k : Some s ≡ Some e = h in cc) (subst (At s) (sym (append-nil p)) at)
-  walk p (c ∷ t) s e at h = walk_by p t c s e (next white_space p s c) refl at (on p s c at) (λ s' at' k. walk (p ++ c ∷ []) t s' e at' k) h
+  walk = holds_at (next white_space) free At (λ p s e c at _ n.
+      (reach_on (next white_space) free [] p (c ∷ []) start s at.0 ∙ ap (λ m. onward None m (λ (s' : State). Some s')) n, subst (Onward p c) n (on p s c at)))
 
   -- what a state that is reached says
   pub at_state : (p : Text) (s : State) → reach (next white_space) free [] start p ≡ Some s → At s p

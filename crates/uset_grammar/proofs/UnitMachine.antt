@@ -96,6 +96,20 @@ module _ {State V : Type 0} (next : Text → State → ℕ → Next State V) (sl
     read_fits p [] s v r f h = absurd (let e = h in cc)
     read_fits p (c ∷ t) s v r f h = fits_from p t c v r (slip p s c) (next p s c) (keeps p s c f) (λ s' f' k. read_fits (p ++ c ∷ []) t s' v r f' k) h
 
+  -- what holds at a state with the text in front of it, and is kept by each step, holds at each state that is reached
+  module _ (At : State → Text → Type 0) (kept : (p : Text) (s e : State) (c : ℕ) → At s p → slip p s c ≡ None → next p s c ≡ goes e → At e (p ++ c ∷ [])) where
+    holds_from : (p t : Text) (c : ℕ) (e : State) (x : Slip) (n : Next State V) → ((s : State) → x ≡ None → n ≡ goes s → At s (p ++ c ∷ [])) →
+        ((s : State) → At s (p ++ c ∷ []) → reach next slip (p ++ c ∷ []) s t ≡ Some e → At e ((p ++ c ∷ []) ++ t)) →
+        onward x n (λ s. reach next slip (p ++ c ∷ []) s t) ≡ Some e → At e (p ++ c ∷ t)
+    holds_from p t c e (Some x) n at ih h = absurd (let k = h in cc)
+    holds_from p t c e None (goes s) at ih h = subst (At e) (one_more p t c) (ih s (at s refl refl) h)
+    holds_from p t c e None (whole v) at ih h = absurd (let k = h in cc)
+    holds_from p t c e None refuses at ih h = absurd (let k = h in cc)
+
+    pub holds_at : (p t : Text) (s e : State) → At s p → reach next slip p s t ≡ Some e → At e (p ++ t)
+    holds_at p [] s e at h = subst (λ z. At z (p ++ [])) (same_Some s e h) (subst (At s) (sym (append-nil p)) at)
+    holds_at p (c ∷ t) s e at h = holds_from p t c e (slip p s c) (next p s c) (λ s' x n. kept p s s' c at x n) (λ s' at' k. holds_at (p ++ c ∷ []) t s' e at' k) h
+
   pub run_on : (p t u : Text) (s e : State) → reach next slip p s t ≡ Some e → run next slip p s (t ++ u) ≡ run next slip (p ++ t) e u
   run_on p [] u s e h = (λ i. run next slip (sym (append-nil p) i) (same_Some s e h i) u)
   run_on p (c ∷ t) u s e h = run_on_from p t u c e (slip p s c) (next p s c) (λ s' k. run_on (p ++ c ∷ []) t u s' e k) h

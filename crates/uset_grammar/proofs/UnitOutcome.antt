@@ -5,7 +5,7 @@ use Rattle.std.specs.Prelude.{◌==◌}
 use Rattle.std.proofs.lemmas.Bool.{eqb-true}
 use Rattle.uset_grammar.specs.Text.{Text, ◌>>=◌, behind_code}
 use Rattle.uset_grammar.specs.Outcome.{Kind, Outcome, got, faulty, ended, Enough, Begins, NoSlip, Sound, FailsAt, slips, unfit, Faulty, HasOutcome, meaning}
-use Rattle.uset_grammar.specs.Escape.{Spelled, Apart, itself, plain, escape_at, Letter, four, two, six, name, other, letter}
+use Rattle.uset_grammar.specs.Escape.{Spelled, Apart, itself, plain, Letter, four, two, six, name, other, letter}
 use Rattle.uset_grammar.specs.EscapeSlips.{in_bracket, EscapeShape, EscapeSlips, EscapeRead}
 use Rattle.uset_grammar.specs.BracedString.{StringShape, StringSlips, StringRead, pieces_shape, in_escape}
 use Rattle.uset_grammar.specs.Property.{Query, PropertyShape, PropertySlips, PropertyRead, property_shape, posix_mark, perl_mark, perl, perl_shape, caret_or, inner, is_key}

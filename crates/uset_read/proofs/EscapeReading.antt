@@ -6,7 +6,7 @@ use Rattle.std.proofs.lemmas.Bool.{cases_Bool, eqb-true}
 use Rattle.std.specs.Char.{digit_value}
 use Rattle.uset_grammar.specs.Text.{Text, skip}
 use Rattle.uset_grammar.specs.Outcome.{unexpected, invalid_escape, Outcome, got, faulty, ended}
-use Rattle.uset_grammar.specs.Escape.{Apart, onto, is_hex, value, plain, Spelled, named, itself, numbers, Letter, four, two, six, name, other, letter, is_above, is_surrogate}
+use Rattle.uset_grammar.specs.Escape.{Apart, onto, is_hex, value, plain, Spelled, itself, numbers, Letter, four, two, six, name, other, letter, is_above, is_surrogate}
 use Rattle.uset_grammar.specs.EscapeSlips.{Around, in_string, in_bracket}
 use Rattle.uset_read.specs.Reading.{and_then, digit_in, two_digits_in, four_digits_in, six_digits_in, last_digit_in, checked, sole_in, is_later, all_in, second_in, number_at, behind_number, number_or, numbers_in, braced_in, zero_in, long_escape, letter_in, letters_in}
 use Rattle.uset_read.specs.Reading as R

@@ -1,6 +1,6 @@
 -- Properties that are read and resolved.
 use mathlib.Core.Bool.{beq}
-use Rattle.std.proofs.Common.{◌≡◌, ℕ, List, ◌++◌, Option, Some, None, option_map, Box, Result, Ok, Err, IfOk, IfErr, Bool, true, false, cond, is_some, refl, sym, ap, ap₂, ◌∙◌, subst, encode_utf8_all}
+use Rattle.std.proofs.Common.{◌≡◌, ℕ, List, ◌++◌, Option, Some, None, option_map, Box, Result, Ok, Err, IfErr, Bool, true, false, cond, is_some, refl, sym, ap, ap₂, ◌∙◌, subst, encode_utf8_all}
 use Rattle.std.specs.Borrow.{Bor}
 use Rattle.std.specs.Result.{IsErr, IsErrAnd}
 use Rattle.std.specs.Global.{Global}

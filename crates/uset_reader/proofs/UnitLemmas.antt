@@ -1,5 +1,5 @@
 -- Units that are read.
-use Rattle.std.proofs.Common.{zero, suc, length, Option, Some, None, inl, inr, ◌≡◌, ◌≤◌, ℕ, Bool, true, false, ◌&&◌, not, nat_lt, All, Box, List, [], ◌∷◌, refl, sym, ap, ◌∙◌, subst, arith}
+use Rattle.std.proofs.Common.{zero, suc, length, Option, Some, None, inl, inr, ◌≡◌, ◌≤◌, ℕ, Bool, true, false, not, nat_lt, All, Box, List, [], ◌∷◌, refl, sym, ap, ◌∙◌, subst, arith}
 use Rattle.std.specs.Prelude.{◌==◌, is_some}
 use Rattle.std.proofs.lemmas.Bool.{eqb-true, and_parts}
 use Rattle.std.proofs.lemmas.Bool.Decides.{nat_tests}

@@ -17,7 +17,7 @@ use lib.Utf8.{encode}
 use Rattle.uset_grammar.specs.Outcome.{unexpected, internal}
 use Rattle.uset_grammar.specs.Answers.{absent}
 use Rattle.uset_tool.specs.Answer.{range_text, string_text, read_text, fault_text, bad_line_text, bound_text, is_bound_text, text_after_text, fault, a_character, free, bound_before as bound_earlier, ends, answers}
-use Rattle.uset_tool.specs.Script.{silent, pattern, binding, bad, script_line, character_of, character, string, set}
+use Rattle.uset_tool.specs.Script.{silent, pattern, binding, bad, script_line, character, string, set}
 use Rattle.uset_tool.specs.Generated.{pattern_of, sizes_text, unread}
 use Rattle.uset_tool.specs.Words.{generate, count_of, command_of, is_known, table_fault_text}
 use Rattle.uset_tool.specs.Run.{table_lines, script_lines, Answers, usage, Evaluates, faulty_tables, script, Generates, generated}

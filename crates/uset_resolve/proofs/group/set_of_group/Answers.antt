@@ -1,4 +1,4 @@
-use Rattle.std.proofs.Common.{◌≡◌, ℕ, Bool, ◌+◌, ◌≤◌, ◌&&◌, ◌||◌, ◌∷◌, sym, ap, ◌∙◌, subst, arith}
+use Rattle.std.proofs.Common.{ℕ, Bool, ◌+◌, ◌≤◌, ◌&&◌, ◌||◌, ◌∷◌, sym, ap, ◌∙◌, subst, arith}
 use Rattle.std.proofs.Math.Bool.{or_assoc}
 use Rattle.cp_invlist.specs.InversionList.{contains, is_code_point}
 use Rattle.cp_invlist.specs.Ranges.{in_code_points}
