@@ -7,15 +7,18 @@ use Rattle.cp_trie.specs.Mapped.{TakesEach, TakesEachValue, IsFunctionOnEach, Is
 use Rattle.cp_trie.specs.declared.ranges.CodePointMapRange.{CodePointMapRange}
 use Rattle.cp_trie.proofs.CoverLemmas.{IsCover, Spells}
 
+-- an answer at a run is one at its place
+pub answers_here : {T U : Type 0} (post : T → U → Type 0) (test : U → Bool) (b : Bool) (rs : List (CodePointMapRange T)) (i : ℕ) (r : CodePointMapRange T) (u : U) → i < length rs → r ≡ get_or rs i r → post r.value u → test u ≡ b → (d : CodePointMapRange T) → AnswersWith post test b (get_or rs i d).value
+answers_here {T} post test b rs i r u within read answers passes d =
+    let P : CodePointMapRange T → Type 0 = λ x. AnswersWith post test b x.value in
+    subst P (get_or_read rs i r within read d) (u, answers, passes)
+
 -- what holds of the answers at the runs before one holds with its own
 pub more_answers : {T U : Type 0} (post : T → U → Type 0) (test : U → Bool) (b : Bool) (rs : List (CodePointMapRange T)) (i : ℕ) (r : CodePointMapRange T) (u : U) → ((k : ℕ) (d : CodePointMapRange T) → k < i → AnswersWith post test b (get_or rs k d).value) → i < length rs → r ≡ get_or rs i r → post r.value u → test u ≡ b → (k : ℕ) (d : CodePointMapRange T) → k < i + 1 → AnswersWith post test b (get_or rs k d).value
 more_answers {T} post test b rs i r u before within read answers passes k d h =
     elim (cases_lt k i) as (λ _. AnswersWith post test b (get_or rs k d).value) [
       | inl below ↦ before k d below
-      | inr at_least ↦
-          let same : k ≡ i = omega arith in
-          let P : CodePointMapRange T → Type 0 = λ x. AnswersWith post test b x.value in
-          rw same (subst P (get_or_read rs i r within read d) (u, answers, passes))
+      | inr at_least ↦ let same : k ≡ i = omega arith in rw same (answers_here post test b rs i r u within read answers passes d)
     ]
 
 -- a mapping that may be called on the value of each run may be called on those behind some of them
@@ -29,6 +32,11 @@ pub TakesEach-tail : {T : Type 0} (pre : T → Type 0) (r : CodePointMapRange T)
 TakesEach-tail {T} pre r rs rest split takes k d h =
     let P : List (CodePointMapRange T) → Type 0 = λ xs. TakesEach pre xs in
     (subst P split takes) (suc k) d (omega arith)
+
+pub TakesEach-first : {T : Type 0} (pre : T → Type 0) (r : CodePointMapRange T) (rs rest : List (CodePointMapRange T)) → rs ≡ r ∷ rest → TakesEach pre rs → pre r.value
+TakesEach-first {T} pre r rs rest split takes =
+    let P : List (CodePointMapRange T) → Type 0 = λ xs. TakesEach pre xs in
+    (subst P split takes) 0 r (omega arith)
 
 -- what a part of a list from an index on is
 pub part-from : {X : Type 0} (rs : List X) (n : ℕ) → take (length rs - n) (drop n rs) ≡ drop n rs

@@ -1,12 +1,14 @@
 -- Where page tables lead.
-use Rattle.std.proofs.Common.{◌≡◌, ℕ, zero, suc, ◌+◌, ◌*◌, ◌-◌, ◌/◌, ◌%◌, ◌<◌, ◌≤◌, Option, Some, List, [], ◌∷◌, ◌++◌, length, take, drop, replicate, get_or, refl, sym, ap, subst, ◌∙◌, append_assoc, inl, inr, arith, length-append}
-use Rattle.std.specs.Prelude.{option_and_then, option_map}
+use Rattle.std.proofs.Common.{◌≡◌, ℕ, zero, suc, ◌+◌, ◌*◌, ◌-◌, ◌/◌, ◌%◌, ◌<◌, ◌≤◌, Option, Some, None, List, [], ◌∷◌, ◌++◌, length, take, drop, replicate, get_or, refl, sym, ap, subst, ◌∙◌, append_assoc, inl, inr, arith, length-append}
+use Rattle.std.specs.Prelude.{IsSome, option_and_then, option_map}
 use Rattle.std.specs.List.{slice_get}
 use Rattle.std.proofs.lemmas.Bool.{cases_lt}
 use Rattle.std.proofs.lemmas.List.{drop_more, length-replicate}
+use Rattle.std.proofs.lemmas.Option.{slice_get_past}
 use Rattle.cp_trie.specs.Rows.{row_of, AreWhole, rows_of, spelled}
 use Rattle.cp_trie.specs.PageTables.{PageTables}
-use Rattle.cp_trie.specs.Pages.{values_of, page_of, value_by, PlacesStandFor}
+use Rattle.cp_trie.specs.Pages.{values_of, page_of, value_by, PlacesStandFor, StandFor}
+use Rattle.cp_trie.specs.declared.pages.Pages.TheVariants.{One}
 use Rattle.cp_trie.specs.Runs.{run_at}
 use Rattle.cp_trie.specs.declared.ranges.CodePointMapRange.{CodePointMapRange}
 use Rattle.cp_trie.specs.declared.rows.Repeated.{Repeated}
@@ -129,6 +131,33 @@ stand_for {V} pages numbers blocks outer rs whole whole_blocks values same cover
     ∙ (ap (λ (l : List V). slice_get l c) values
     ∙ slice_get-values_of 0 rs c c cover (omega arith) h))
 
+within_from_some : {X : Type 0} (xs : List X) (k : ℕ) → IsSome (slice_get xs k) → k < length xs
+within_from_some xs k some =
+    elim (cases_lt k (length xs)) as (λ _. k < length xs) [
+      | inl below ↦ below
+      | inr past ↦ absurd (let none = rw (slice_get_past xs k past) at some in cc)
+    ]
+
+some_before : {X Y : Type 0} (f : X → Option Y) (o : Option X) → IsSome (option_and_then f o) → IsSome o
+some_before f None some = some
+some_before f (Some x) some = refl
+
+-- where tables lead from a number to a value, each of the three places is within its table
+pub outer_within : {V : Type 0} (t : PageTables V) (c : ℕ) → IsSome (value_by t c) → c / 4096 < length t.outer
+outer_within t c leads = within_from_some t.outer (c / 4096) (some_before _ _ (some_before _ (page_of t c) leads))
+
+pub blocks_within : {V : Type 0} (t : PageTables V) (c block : ℕ) → IsSome (value_by t c) → slice_get t.outer (c / 4096) ≡ Some block → block * 64 + c / 64 % 64 < length t.blocks
+blocks_within t c block leads first = within_from_some t.blocks (block * 64 + c / 64 % 64) (rw first at (some_before _ (page_of t c) leads))
+
+pub values_within : {V : Type 0} (t : PageTables V) (c block page : ℕ) → IsSome (value_by t c) → slice_get t.outer (c / 4096) ≡ Some block → slice_get t.blocks (block * 64 + c / 64 % 64) ≡ Some page → page * 64 + c % 64 < length t.values
+values_within t c block page leads first second = within_from_some t.values (page * 64 + c % 64) (rw (first, second) at leads)
+
 -- three reads give the value that tables lead to
 pub value_by-reads : {V : Type 0} (t : PageTables V) (c block page : ℕ) (v : V) → slice_get t.outer (c / 4096) ≡ Some block → slice_get t.blocks (block * 64 + c / 64 % 64) ≡ Some page → slice_get t.values (page * 64 + c % 64) ≡ Some v → value_by t c ≡ Some v
 value_by-reads t c block page v first second third = rw (first, second) third
+
+-- the value of one run that covers all is that of each code point
+pub one_stands : {V : Type 0} (rs : List (CodePointMapRange V)) (r : CodePointMapRange V) → IsCover 0 rs → length rs < 2 → r ≡ get_or rs 0 r → StandFor (One r.value) rs
+one_stands [] r cover short read c small = absurd (omega arith)
+one_stands (x ∷ []) r cover short read c small = ap (λ y. Some y.value) read ∙ sym (ap (option_map (λ y. y.value)) (run_at-within x [] c (omega arith) (omega arith)))
+one_stands (x ∷ y ∷ rs) r cover short read c small = absurd (omega arith)

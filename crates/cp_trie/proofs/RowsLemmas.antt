@@ -145,6 +145,10 @@ take-patched xs part more i k within size =
 pub take-written : {V : Type 0} (xs more : List V) (k n : ℕ) → k ≤ n → k ≤ length xs → take k (take n (xs ++ more)) ≡ take k xs
 take-written xs more k n fits within = take-take k n (xs ++ more) fits ∙ take-append-le k xs more within
 
+-- a list whose front was written is as long as before
+pub length-written : {V : Type 0} (new old : List V) (n : ℕ) → n ≡ length old → length new ≤ length old → length (take n (new ++ drop (length new) old)) ≡ length old
+length-written new old n whole fits = length-take-le n (new ++ drop (length new) old) (omega (arith, length-append new (drop (length new) old), length-drop (length new) old)) ∙ whole
+
 -- a second fill that begins where the first ends
 pub take-filled_on : {V : Type 0} (xs ys zs : List V) (i n j m k : ℕ) (x : V) → take (i + n) ys ≡ take i xs ++ replicate n x → take (j + m) zs ≡ take j ys ++ replicate m x → j ≡ i + n → n + m ≡ k → take (i + k) zs ≡ take i xs ++ replicate k x
 take-filled_on xs ys zs i n j m k x first second seam sum =

@@ -1,4 +1,4 @@
-use Rattle.std.proofs.Common.{ap, arith}
+use Rattle.std.proofs.Common.{refl, ap, arith}
 use Rattle.std.proofs.lemmas.List.{drop_all}
 use Rattle.cp_trie.specs.Rows.{spelled, taken}
 use Rattle.cp_trie.proofs.PagesLemmas.{room_for_repeated, spelled-next}
@@ -27,3 +27,11 @@ loop-page-preserved c =
           let e = w.in_ok-begun.ensures in
           record { cut = rw w.blocks-is e.cut; begun = rw w.begun-is e.begun; all = next (rw (w.blocks-is, w.begun-is) e.taken) }
     ]
+
+pub overflow_add-begun : goal.overflow_add-begun
+overflow_add-begun c =
+    omega (arith, c.requires.few, room_for_repeated (taken c.loop-page.blocks c.loop-page.begun.len) c.args.pages.now c.loop-page.page-index (record { number = 0; count = 0 }) c.loop-page-test.true c.loop-page.invariant.all)
+
+pub loop-page-init : goal.loop-page-init
+loop-page-init c =
+    record { cut = c.in_ok-blocks.ensures.cut; begun = omega arith; all = rw c.in_ok-blocks.ensures.none refl }

@@ -1,3 +1,5 @@
+use Rattle.std.proofs.Common.{refl}
+use Rattle.std.proofs.lemmas.List.{nil_from_length}
 use Rattle.cp_trie.proofs.RunsLemmas.{joined_from-equal, joined_from-other, joined_from-last}
 use Rattle.cp_trie.proofs.runs.joined_list.Goals as goal
 use Rattle.cp_trie.proofs.runs.joined_list.Goals.{then-eq, else-eq+in_ok-push}
@@ -16,3 +18,10 @@ pub returns : goal.returns
 returns g c =
     let l = c.loop-run in
     rw c.in_ok-push-2.ensures.items (joined_from-last g.T.PartialEq.eq l.joined.items _ c.in-Some.rest.now l.run-index (record { range = l.range; value = l.value }) c.loop-run-test.false l.invariant)
+
+pub loop-run-init : goal.loop-run-init
+loop-run-init g c = rw (c.in_ok-joined.ensures.items, c.in-Some.ensures.cases.0) refl
+
+pub returns-in_default : goal.returns-in_default
+returns-in_default g c =
+    rw (c.in_ok-joined.ensures.items, nil_from_length c.args.runs.now c.in_default.ensures.cases) refl

@@ -1,0 +1,4 @@
+use Rattle.cp_trie.proofs.trie.CodePointTrie.copy.Goals as goal
+
+pub invariant_of-result : goal.invariant_of-result
+invariant_of-result g c = rw (c.in_ok-copy.ensures, c.in_ok-copy-2.ensures) c.self.invariant
