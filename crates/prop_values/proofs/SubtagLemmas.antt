@@ -1,5 +1,5 @@
 -- The letters of a subtag are text.
-use Rattle.std.proofs.Common.{◌≡◌, ℕ, ◌<◌, Bool, true, List, ◌&&◌, [], ◌∷◌, Result, Ok, Err, refl, sym, ap, ap₂, ◌∙◌, arith}
+use Rattle.std.proofs.Common.{◌≡◌, ℕ, ◌<◌, ◌≤◌, Bool, true, List, ◌&&◌, [], ◌∷◌, length, get_or, Result, Ok, Err, refl, sym, ap, ap₂, ◌∙◌, arith}
 use Rattle.std.specs.Prelude.{IsOk, MatchResult}
 use Rattle.std.specs.Char.{is_ascii_alphabetic, to_ascii_uppercase, to_ascii_lowercase}
 use Rattle.std.specs.Str.{IsAscii, IsUtf8}
@@ -50,3 +50,12 @@ cased_again a b c d a' b' c' d' x y z w =
     let upper : to_ascii_uppercase a' ≡ a' = ap to_ascii_uppercase x ∙ (uppercase-uppercase a ∙ sym x) in
     let lower : (l l' : ℕ) → l' ≡ to_ascii_lowercase l → to_ascii_lowercase l' ≡ l' = λ l l' e. ap to_ascii_lowercase e ∙ (lowercase-lowercase l ∙ sym e) in
     ap₂ (λ p q. p ∷ q) upper (ap₂ (λ p q. p ∷ q) (lower b b' y) (ap₂ (λ p q. p ∷ q) (lower c c' z) (ap (λ p. p ∷ []) (lower d d' w))))
+
+-- four bytes are those at their places
+pub four_bytes : (bs : List ℕ) → 4 ≤ length bs → length bs < 5 → bs ≡ (get_or bs 0 0 ∷ get_or bs 1 0 ∷ get_or bs 2 0 ∷ get_or bs 3 0 ∷ [])
+four_bytes [] low high = absurd (omega arith)
+four_bytes (a ∷ []) low high = absurd (omega arith)
+four_bytes (a ∷ b ∷ []) low high = absurd (omega arith)
+four_bytes (a ∷ b ∷ c ∷ []) low high = absurd (omega arith)
+four_bytes (a ∷ b ∷ c ∷ d ∷ []) low high = refl
+four_bytes (a ∷ b ∷ c ∷ d ∷ e ∷ rest) low high = absurd (omega arith)
