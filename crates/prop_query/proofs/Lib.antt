@@ -1,4 +1,5 @@
 mod AnswersLemmas
+mod GatheredLemmas
 mod PassingLemmas
 mod ScriptLemmas
 mod UnpackedLemmas
