@@ -1,8 +1,4 @@
 //! An open bracket.
-ghost use Rattle.std.specs.Prelude.{◌≡◌, IfOk};
-ghost use Rattle.uset_grammar.specs.Tree.{Member, leading_hyphen};
-ghost use Rattle.uset_steps.specs.Names.{Sets};
-ghost use Rattle.uset_steps.specs.Gathering.{gathering_in, Fits};
 
 use crate::arrange::{Awaits, arranged_behind};
 use crate::code_point::CodePoint;
@@ -66,27 +62,14 @@ pub(crate) enum Taken {
     Unfit,
 }
 
-/// What a bracket has gathered in front of its items: a hyphen, where one is its first member.
-fn first_gathered<'a>(alloc: Global, leading: bool) -> Result<Gathering<'a>, NoMemory>
-    ensures members { IfOk result (λ g. (m : Member) → gathering_in g m ≡ leading_hyphen leading m) }
-    ensures names { IfOk result (λ g. (sets : Sets) → Fits sets g) }
-{
-    let mut gathered = Gathering::new(alloc);
-    if !leading {
-        return Ok(gathered);
-    }
-    gathered.add_range(HYPHEN)?;
-    Ok(gathered)
-}
-
 impl<'a> OpenBracket<'a> {
-    ghost use Rattle.std.specs.Prelude.{◌≡◌, ◌≤◌, ℕ, ◌∷◌, [], All, IfOk, IfSome, OnOk};
+    ghost use Rattle.std.specs.Prelude.{◌≡◌, ◌≤◌, ◌∷◌, [], All, IfOk, IfSome, OnOk};
     ghost use Rattle.uset_grammar.specs.Tree.{Tree, add};
     ghost use Rattle.uset_grammar.specs.Body.{add_each};
     ghost use Rattle.uset_grammar.specs.Arranging.{went, next, ending};
     ghost use Rattle.uset_grammar.specs.Turn.{two};
-    ghost use Rattle.uset_reader.specs.Items.{number_of, awaits_seen, item_seen, range_steps, IsProper};
-    ghost use Rattle.uset_reader.specs.Brackets.{Becomes, GathersItem, GathersSet, IsBegun, Takes, Closes, Refuses, KeepsFrame, EndedAs};
+    ghost use Rattle.uset_reader.specs.Items.{awaits_seen, item_seen, range_steps, IsProper};
+    ghost use Rattle.uset_reader.specs.Brackets.{Becomes, GathersItem, IsBegun, Takes, Closes, Refuses, KeepsFrame, EndedAs};
 
     /// A bracket behind what it begins with.
     pub(crate) fn open(
@@ -96,8 +79,12 @@ impl<'a> OpenBracket<'a> {
     ) -> Result<OpenBracket<'a>, NoMemory>
         ensures { IfOk result (IsBegun opening before) }
     {
+        let mut gathered = Gathering::new(alloc);
+        if opening.leading {
+            gathered.add_range(HYPHEN)?;
+        }
         Ok(OpenBracket {
-            gathered: first_gathered(alloc, opening.leading)?,
+            gathered,
             opening,
             awaits: Awaits::Element,
             before,
@@ -165,27 +152,13 @@ impl<'a> OpenBracket<'a> {
         match item {
             Item::Several(codes) => self.add_each(codes.first, &codes.more),
             Item::Text(text) => self.gathered.add_text(alloc, text),
-            Item::Set(operand) => self.gather_set(alloc, operation, operand),
-            Item::Minus | Item::Ampersand | Item::Dollar | Item::Single(_) => Ok(()),
-        }
-    }
-
-    fn gather_set(
-        &mut self,
-        alloc: Global,
-        operation: Operation,
-        operand: Operand<'a>,
-    ) -> Result<(), NoMemory>
-        ensures becomes { OnOk result (GathersSet operation operand.entry self.old.gathered self.new.gathered) }
-        ensures same { KeepsFrame self.old self.new }
-    {
-        match operand {
-            Operand::Inner(set) => self.gathered.gather(alloc, operation, set),
-            Operand::Named(named) => {
+            Item::Set(Operand::Inner(set)) => self.gathered.gather(alloc, operation, set),
+            Item::Set(Operand::Named(named)) => {
                 let named = Box::into_inner(named);
                 self.gathered.gather_named(alloc, operation, named)
             }
-            Operand::Again(place) => self.gathered.gather_again(operation, place),
+            Item::Set(Operand::Again(place)) => self.gathered.gather_again(operation, place),
+            Item::Minus | Item::Ampersand | Item::Dollar | Item::Single(_) => Ok(()),
         }
     }
 
@@ -213,30 +186,24 @@ impl<'a> OpenBracket<'a> {
         })
     }
 
-    fn add_single(&mut self, c: CodePoint) -> Result<(), NoMemory>
-        ensures becomes { OnOk result (Becomes self.old.gathered (add (number_of c) (number_of c)) self.new.gathered) }
-        ensures same { KeepsFrame self.old self.new }
-    {
-        self.add(c.number(), c.number())
-    }
-
     /// Adds what is left standing for itself in front of a `]`. The answer says whether a `]` fits.
     fn add_last(&mut self) -> Result<bool, NoMemory>
         ensures ended { IfOk result
             (EndedAs (ending (awaits_seen self.old.awaits)) self.old.gathered self.new.gathered) }
         ensures same { KeepsFrame self.old self.new }
     {
-        match self.awaits {
-            Awaits::Element | Awaits::AfterSet => {}
-            Awaits::AfterSingle(first) => self.add_single(first)?,
+        let last = match self.awaits {
+            Awaits::Element | Awaits::AfterSet => return Ok(true),
+            Awaits::AfterSingle(only) => only.range(),
             Awaits::RangeEnd(first) => {
-                self.add_single(first)?;
-                self.gathered.add_range(HYPHEN)?;
+                self.gathered.add_range(first.range())?;
+                HYPHEN
             }
-            Awaits::End | Awaits::RemoveOrEnd => self.gathered.add_range(HYPHEN)?,
-            Awaits::AnchorEnd => self.gathered.add_range(ANCHOR)?,
+            Awaits::End | Awaits::RemoveOrEnd => HYPHEN,
+            Awaits::AnchorEnd => ANCHOR,
             Awaits::Keep => return Ok(false),
-        }
+        };
+        self.gathered.add_range(last)?;
         Ok(true)
     }
 

@@ -1,6 +1,8 @@
 //! Code points, surrogates among them.
 ghost use Rattle.std.specs.Prelude.{◌≤◌};
 
+use cp_invlist::CodePointRange;
+
 /// A code point.
 #[derive(Clone, Copy)]
 pub(crate) struct CodePoint {
@@ -34,6 +36,18 @@ impl CodePoint {
         ensures bound { result ≤ 0x10_FFFF }
     {
         self.number
+    }
+
+    /// The range of the code point alone.
+    pub(crate) fn range(self) -> CodePointRange
+        ensures start { result.start ≡ number_of self }
+        ensures end { result.end ≡ number_of self }
+        ensures bound { result.end ≤ 0x10_FFFF }
+    {
+        CodePointRange {
+            start: self.number,
+            end: self.number,
+        }
     }
 
     /// The code point as a character, U+FFFD for a surrogate.

@@ -82,13 +82,6 @@ pub(crate) fn read_named<'v, 'a>(
     resolve_named(alloc, syntax, form, query, mark)
 }
 
-/// The set in a place of its own.
-fn boxed<'v>(alloc: Global, named: Named<'v>) -> Result<Box<Named<'v>>, NoMemory>
-    ensures { IfOk result (λ b. b.value ≡ named.entry) }
-{
-    Ok(Box::new(alloc, named)?)
-}
-
 /// The same in a bracket. A property that the bracket keeps is not resolved again.
 pub(crate) fn read_operand<'v, 'a>(
     alloc: Global,
@@ -107,5 +100,6 @@ pub(crate) fn read_operand<'v, 'a>(
         return Ok((Operand::Again(place), rest));
     }
     let (named, rest) = resolve_named(alloc, syntax, form, query, mark)?;
-    Ok((Operand::Named(boxed(alloc, named)?), rest))
+    let set = Box::new(alloc, named)?;
+    Ok((Operand::Named(set), rest))
 }

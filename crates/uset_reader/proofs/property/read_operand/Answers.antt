@@ -34,5 +34,5 @@ returns-in_err-named-clause-stopped c =
 
 pub returns-clause-read : goal.returns-clause-read
 returns-clause-read c = λ fits.
-    in_bracket c.args.syntax.now c.args.text.now c.in_ok-boxed.field-0 c.args.gathered.now c.in_ok-named.rest.now
-    (rw (← c.in_ok-boxed.ensures) at (c.in_ok-named.ensures.read c.args.text.now c.in_ok-form.ensures.read))
+    in_bracket c.args.syntax.now c.args.text.now c.in_ok-set.set c.args.gathered.now c.in_ok-named.rest.now
+    (rw (← c.in_ok-set.ensures.ok) at (c.in_ok-named.ensures.read c.args.text.now c.in_ok-form.ensures.read))
