@@ -25,12 +25,9 @@ use Rattle.uset_parse.proofs.PatternRead.{escapes_are_read}
 sign_forbidden : (c : ℕ) → c ∈ "[]{}\\u-" ≡ true → is_forbidden 51 c ≡ true
 sign_forbidden c h = grind (arith, nat_tests, h)
 
-digit_forbidden : (c : ℕ) → is_hex c ≡ true → is_forbidden 51 c ≡ true
-unfolding is_hex
-digit_forbidden c h = grind (arith, nat_tests)
-
 pub leaves_by : (tables : Tables) → AreAllowed tables → (variable : Text → Option Value) (white_space start continue : Option (ℕ → Bool)) → tables.sets 51 ≡ white_space → (l : Language) →
     (white_space >>= λ w. start >>= λ s. continue >>= λ c. Some (language_by w s c variable tables)) ≡ Some l → LeavesEscapes l.white_space
+unfolding is_hex
 leaves_by tables allows variable None start continue there l h = cc
 leaves_by tables allows variable (Some w) None continue there l h = cc
 leaves_by tables allows variable (Some w) (Some s) None there l h = cc
@@ -38,7 +35,7 @@ leaves_by tables allows variable (Some w) (Some s) (Some c) there l h =
     let is : language_by w s c variable tables ≡ l = cc in
     subst (λ k. LeavesEscapes k.white_space) is (record {
       no_sign = λ d sign. allows 51 w there d (sign_forbidden d sign);
-      no_digit = λ d digit. allows 51 w there d (digit_forbidden d digit);
+      no_digit = λ d digit. allows 51 w there d (grind (arith, nat_tests, digit));
     })
 
 -- maximal ranges of code points

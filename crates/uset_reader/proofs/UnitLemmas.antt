@@ -48,12 +48,6 @@ use Rattle.uset_reader.specs.Brackets.{IsItem}
 use Rattle.uset_reader.specs.Syntaxes.{language_seen}
 use Rattle.uset_reader.specs.Units.{begins_with, AreCodePoints, chars_of, IsString, IsEscape, IsProperty, OperandIn, OperandStops, UnitIs, UnitStops}
 
-heads : {c d : ℕ} {t u : Text} → c ∷ t ≡ d ∷ u → c ≡ d
-heads h = cc
-
-tails : {c d : ℕ} {t u : Text} → c ∷ t ≡ d ∷ u → t ≡ u
-tails h = cc
-
 -- a stop of one kind of unit is a stop of the unit
 stops_lift : {V : Type 0} (f : V → Meaning) (Is : Outcome V → Type 0) (IsUnit : Outcome Meaning → Type 0) → ((o : Outcome V) → Is o → IsUnit (meaning f o)) → (q : Text) (stop : Stop) →
     StopsAt Is q stop → StopsAt IsUnit q stop
@@ -155,9 +149,9 @@ module _ (s : Syntax) (kinds : KindsTell) (several : Bool) (text : List ℕ) whe
   letter_of inner e other b = by (chars text) refl b
     where
       by : (q : Text) → chars text ≡ q → UnitBegins q → (d : ℕ) × (t : Text) × (chars text ≡ 0x5C ∷ d ∷ t) × (begins_property d ≡ false)
-      by _ is brace_begins = absurd (let g : ◌≡◌ {A = ℕ} 0x7B 0x5C = heads (sym is ∙ e) in omega (arith, g))
-      by _ is posix_begins = absurd (let g : ◌≡◌ {A = ℕ} 0x5B 0x5C = heads (sym is ∙ e) in omega (arith, g))
-      by _ is (backslash_begins {d} {t}) = (d, t, is, ap (begins_with begins_property) (tails (sym is ∙ e)) ∙ other)
+      by _ is brace_begins = absurd (let g : ◌≡◌ {A = ℕ} 0x7B 0x5C = (let h = sym is ∙ e in cc) in omega (arith, g))
+      by _ is posix_begins = absurd (let g : ◌≡◌ {A = ℕ} 0x5B 0x5C = (let h = sym is ∙ e in cc) in omega (arith, g))
+      by _ is (backslash_begins {d} {t}) = (d, t, is, let behind : d ∷ t ≡ inner = (let h = sym is ∙ e in cc) in ap (begins_with begins_property) behind ∙ other)
 
   of_escape : (d : ℕ) (t : Text) → chars text ≡ 0x5C ∷ d ∷ t → begins_property d ≡ false → (o : Outcome Spelled) → EscapeOutcome l.white_space (in_bracket several) (chars text) o →
       Outcomes (chars text) (meaning an_escape o)

@@ -5,6 +5,7 @@ use Rattle.std.proofs.lemmas.Str.{encodes-chars, length-le-encodes}
 use Rattle.std.specs.Option.{option_copied}
 use Rattle.std.specs.Str.{IsUtf8, chars, bytes_eq}
 use Rattle.std.specs.String.{string_bytes}
+use Rattle.std.proofs.lemmas.List.{nil_from_length}
 use Rattle.cp_strset.specs.StringList.{sole_of}
 use Rattle.cp_strset.specs.StringSet.{StringSet}
 use Rattle.prop_data.specs.Tables.{Tables}
@@ -68,15 +69,11 @@ pub string_answer : (tables : Tables) (old new : Variables) (name bytes : List �
 string_answer tables old new name bytes answer is =
     definition_at tables old new _ name _ (bound_text name) false answer is.text is.err (is.bound ∙ ap (λ v. with_binding name v old) (kept_string bytes)) a_string
 
-nothing_behind : (rest : Text) → size rest ≤ 0 → rest ≡ []
-nothing_behind [] h = refl
-nothing_behind (c ∷ t) h = absurd (omega (arith, h, length-le-encodes (c ∷ t)))
-
 -- the pattern is the whole source
 pub set_answer : (tables : Tables) (old new : Variables) (name source : List ℕ) (s : StringSet) (n : ℕ) (answer : Answer) → IsRead (language_of old tables) source s n → length source ≤ n →
     IsBound name (set (in_set s)) old new answer → DefinitionAnswer tables old name (set_definition source) (string_bytes answer.text) answer.is_err new
 set_answer tables old new name source s n answer h whole is =
-    let none : h.rest ≡ [] = nothing_behind h.rest (omega (arith, h.place, whole)) in
+    let none : h.rest ≡ [] = nil_from_length h.rest (omega (arith, h.place, whole, length-le-encodes h.rest)) in
     let same : in_set s ≡ has h.tree = fun_ext h.members in
     definition_at tables old new _ name _ (bound_text name) false answer is.text is.err (is.bound ∙ ap (λ m. with_binding name (set m) old) same)
     (a_set (subst (λ r. ReadsUnder (chars source) h.tree r (language_of old tables)) none h.reads))

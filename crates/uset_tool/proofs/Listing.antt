@@ -96,9 +96,6 @@ ascend_head s ss h = λ k d below. h zero (suc k) d (omega arith) (omega (arith,
 ascend_tail : (s : List ℕ) (ss : List (List ℕ)) → Ascend (s ∷ ss) → Ascend ss
 ascend_tail s ss h = λ i j d below within. h (suc i) (suc j) d (omega (arith, below)) (omega (arith, within))
 
-same_where_equal : (a b : List ℕ) → slice_cmp nat_cmp a b ≡ Equal → a ≡ b
-same_where_equal a b h = (bytes_eq-Decides a b).0 (sym (is_eq-slice_cmp a b) ∙ ap is_eq h)
-
 all_below : (s t : List ℕ) (ss : List (List ℕ)) → IsBelow s t → All (IsBelow t) ss → All (IsBelow s) ss
 all_below s t ss first more = λ k d within. nat_list_cmp_total.trans s t _ first (more k d within)
 
@@ -126,7 +123,7 @@ insert_holds (t ∷ ss) s bytes = by (slice_cmp nat_cmp s t) refl (insert_holds 
     by : (o : Ordering) → slice_cmp nat_cmp s t ≡ o → holds (insert_key (slice_cmp nat_cmp) ss s) bytes ≡ (bytes_eq s bytes || holds ss bytes) →
         holds (match_ordering o (s ∷ t ∷ ss) (t ∷ ss) (t ∷ insert_key (slice_cmp nat_cmp) ss s)) bytes ≡ (bytes_eq s bytes || (bytes_eq t bytes || holds ss bytes))
     by Less e more = refl
-    by Equal e more = sym (or_self_left (bytes_eq t bytes) (holds ss bytes)) ∙ ap (λ u. bytes_eq u bytes || (bytes_eq t bytes || holds ss bytes)) (sym (same_where_equal s t e))
+    by Equal e more = sym (or_self_left (bytes_eq t bytes) (holds ss bytes)) ∙ ap (λ u. bytes_eq u bytes || (bytes_eq t bytes || holds ss bytes)) (sym ((bytes_eq-Decides s t).0 (sym (is_eq-slice_cmp s t) ∙ ap is_eq e)))
     by Greater e more = ap (λ b. bytes_eq t bytes || b) more ∙ turned (bytes_eq t bytes) (bytes_eq s bytes) (holds ss bytes)
 
 -- The strings of a set, where each is one of some texts.
