@@ -21,7 +21,7 @@ fn asked(alloc: Global, negated: bool, key: &str, value: Option<&str>) -> Result
     })
 }
 
-/// Forty code points, every second one from U+0100 on. With the string `xy` they are the large set.
+/// Forty code points, every second one from U+0100 on, as an inversion list. With the string `xy` they are the large set.
 const LARGE: &[u32] = &[
     0x100, 0x101, 0x102, 0x103, 0x104, 0x105, 0x106, 0x107, 0x108, 0x109, 0x10A, 0x10B, 0x10C,
     0x10D, 0x10E, 0x10F, 0x110, 0x111, 0x112, 0x113, 0x114, 0x115, 0x116, 0x117, 0x118, 0x119,

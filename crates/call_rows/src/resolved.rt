@@ -4,7 +4,7 @@ use prop_data::PropertyDatabase;
 use std::alloc::Global;
 use uset_resolve::{Resolution, resolve};
 
-/// The digits as a set and as a general category, and names of blocks without their map.
+/// The hexadecimal digits as a set, the decimal ones as a general category, and names of blocks without their map.
 const TABLES: &str = "set ASCII_Hex_Digit\n30-39\n41-46\n61-66\n\
     map General_Category 0\n30-39 9\n\
     names General_Category_Mask\n9 Nd\n\

@@ -1,15 +1,16 @@
 -- Where a list is cut by a number: the parts before and behind the place that a binary search finds.
-use Rattle.std.proofs.Common.{◌≡◌, ℕ, zero, suc, ◌+◌, ◌-◌, ◌%◌, ◌<◌, ◌≤◌, Bool, true, false, not, ◌==◌, nat_le, nat_lt, List, [], ◌∷◌, length, take, drop, get_or, All, refl, sym, ap, ◌∙◌, arith, leb-true, ◌⊎◌, inl, inr}
-use Rattle.std.specs.List.{AllWithin}
+use Rattle.std.proofs.Common.{◌≡◌, ℕ, zero, suc, ◌+◌, ◌-◌, ◌%◌, ◌<◌, ◌≤◌, Bool, true, false, not, ◌==◌, nat_le, nat_lt, List, [], ◌∷◌, Some, length, take, drop, get_or, All, refl, sym, ap, ◌∙◌, arith, leb-true, ◌⊎◌, inl, inr}
+use Rattle.std.specs.List.{AllWithin, slice_get}
 use Rattle.std.specs.List.Sorted.{IsPartitionPoint, IsPartitionedBy}
 use Rattle.std.proofs.lemmas.Bool.{leb-false, ltb-true, ltb-false, cases_lt, cases_eq, not-false, not-true}
 use Rattle.std.proofs.lemmas.Bool.Decides.{nat_tests}
 use Rattle.std.proofs.lemmas.List.{get_or-take, get_or-drop, length-take, length-drop, take-append-drop, length-take-le}
 use Rattle.std.proofs.lemmas.List.Elements.{All-take}
+use Rattle.std.proofs.lemmas.Option.{get_or_from_slice_get}
 use Rattle.std.proofs.lemmas.List.Sorted.{IsPartitionedBy-leb, IsPartitionedBy-ltb}
-use Rattle.cp_invlist.specs.InversionList.{differ, contains, ascends_from, has_even_length}
+use Rattle.cp_invlist.specs.InversionList.{differ, contains, ascends_from, has_even_length, IsInversionList}
 use Rattle.cp_invlist.specs.Cuts.{CutAfter, CutBefore}
-use Rattle.cp_invlist.proofs.Lists.{ascends_from-parts, contains-append, contains-all_at_most, contains-all_above}
+use Rattle.cp_invlist.proofs.Lists.{ascends_from-parts, IsInversionList-parts, contains-append, contains-all_at_most, contains-all_above}
 
 -- an ascending list is non-decreasing, element by element
 ascends_from-at : (n k d : ℕ) (xs : List ℕ) → ascends_from n xs ≡ true → k < length xs → n ≤ get_or xs k d
@@ -88,6 +89,13 @@ All-above_last n start xs h last k d lt =
     let at_last = last (omega arith) d in
     let ordered = IsNonDecreasingBy-ascends n xs h k (length xs - 1) d (omega arith) (omega arith) in
     omega arith
+
+-- no number from the last element on is a member
+pub none_from_last : (xs : List ℕ) (last c : ℕ) → IsInversionList xs → slice_get xs (length xs - 1) ≡ Some last → last ≤ c → contains xs c ≡ false
+none_from_last xs last c list is le =
+    let parts = IsInversionList-parts xs list in
+    let below = All-above_last 0 (suc c) xs parts.0 (λ some d. omega (arith, le, get_or_from_slice_get xs (length xs - 1) last d is)) in
+    contains-all_at_most c xs (λ k d lt. omega (arith, below k d lt)) ∙ ap not parts.1
 
 -- where the first number is below the second, so are the cuts
 pub cuts_ordered : (xs : List ℕ) (start past low high : ℕ) → low ≤ length xs → start < past → CutBefore start xs low → CutAfter past xs high → low ≤ high

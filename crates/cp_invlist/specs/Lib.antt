@@ -5,3 +5,4 @@ pub mod Size
 pub mod Fault
 pub mod Gap
 pub mod Merge
+pub mod Laws

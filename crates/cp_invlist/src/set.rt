@@ -42,7 +42,8 @@ impl CodePointInversionList {
     /// The set whose list this is.
     ///
     /// It answers `Invalid` where the list is no inversion list: with the first index whose element isn't above the one
-    /// before it or is above 110000, else with the length where that is odd.
+    /// before it or is above 0x110000, else with the length where that is odd. `NoMemory` says that a request for memory was
+    /// refused.
     pub fn try_from_inversion_list(
         alloc: Global,
         list: &[u32],

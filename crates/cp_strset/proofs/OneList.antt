@@ -12,7 +12,8 @@ use Rattle.std.specs.List.{AllPairs}
 use Rattle.std.specs.List.Sorted.{IsStrictlySortedBy}
 use Rattle.std.specs.Ordering.{is_eq}
 use Rattle.std.specs.Str.{bytes_eq}
-use Rattle.cp_strset.specs.StringList.{holds, AreCanonical}
+use Rattle.cp_strset.specs.Laws.{OneListOfStrings}
+use Rattle.cp_strset.specs.StringList.{holds}
 use Rattle.cp_strset.proofs.Canonical.{IsBelow}
 
 sorted_strings : (ss : List (List ℕ)) → AllPairs IsBelow ss → IsStrictlySortedBy (slice_cmp nat_cmp) ss
@@ -35,7 +36,7 @@ contains_holds (s ∷ ss) bytes =
 same_where_equal : (a b : List ℕ) → slice_cmp nat_cmp a b ≡ Equal → a ≡ b
 same_where_equal a b h = (bytes_eq-Decides a b).0 (sym (is_eq-slice_cmp a b) ∙ ap is_eq h)
 
-pub one_list_law : (a b : List (List ℕ)) → AreCanonical a → AreCanonical b → ((bytes : List ℕ) → holds a bytes ≡ holds b bytes) → a ≡ b
+pub one_list_law : OneListOfStrings
 one_list_law a b first second same =
     btree_set_from_contains nat_list_cmp_total (as_set a) (as_set b) (sorted_strings a first.ascending) (sorted_strings b second.ascending)
     (λ bytes. contains_holds a bytes ∙ (same bytes ∙ sym (contains_holds b bytes))) same_where_equal

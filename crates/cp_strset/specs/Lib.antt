@@ -1,3 +1,4 @@
 pub mod StringSet
 pub mod StringList
 pub mod PatternText
+pub mod Laws

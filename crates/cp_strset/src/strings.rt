@@ -129,8 +129,8 @@ impl Strings {
     /// Adds a copy of each string of the list.
     fn insert_each(&mut self, alloc: Global, strings: &[String]) -> Result<(), NoMemory>
         requires { AreCanonical (map string_bytes strings.now) }
-        ensures { OnOk result ((bytes : List ℕ) →
-            contains_text self.new bytes ≡ (contains_text self.old bytes || holds (map string_bytes strings.now) bytes)) }
+        ensures { OnOk result ((bytes : List ℕ) → contains_text self.new bytes ≡
+            (contains_text self.old bytes || holds (map string_bytes strings.now) bytes)) }
     {
         for text in strings {
             self.insert(String::from_str(alloc, text.as_str())?)?;

@@ -21,7 +21,7 @@ refused_from convert error index (r ∷ rs) =
 abbrev pub first_refused : {V W : Type 0} → (V → Option W) → V → List (CodePointMapRange V) → Option ℕ
 first_refused convert error rs = refused_from convert error 0 rs
 
--- a refusal names the first value that does not convert
+-- a refusal names the first value that does not convert, or says that memory was refused
 abbrev pub NamesRefused : ConvertError → Option ℕ → Type 0
 NamesRefused (Value index) refused = refused ≡ Some index
 NamesRefused NoMemory refused = Unit {0}
@@ -30,8 +30,8 @@ NamesRefused NoMemory refused = Unit {0}
 abbrev pub ConvertsTo : {V W : Type 0} → (V → Option W) → CodePointMap V → CodePointMap W → Type 0
 ConvertsTo convert old new = (c : ℕ) → convert (value_at old c) ≡ Some (value_at new c)
 
--- The answer is a map only where each value of the map converts, and else it names the first that does not, counted along the
--- maximal runs.
+-- The answer is a map only where each value of the map converts, the error value too; a refusal names the first that does not,
+-- counted along the maximal runs, or says that memory was refused.
 abbrev pub NamesFirstRefused : {V W M : Type 0} → (V → V → Bool) → (V → Option W) → CodePointMap V → Result M ConvertError → Type 0
 NamesFirstRefused {V} eq convert m result =
     (rs : List (CodePointMapRange V)) → AreMaximalRuns eq (value_at m) rs →

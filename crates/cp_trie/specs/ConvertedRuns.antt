@@ -5,7 +5,7 @@ use Rattle.cp_trie.specs.Conversion.{refused_from, first_refused, NamesRefused}
 use Rattle.cp_trie.specs.declared.ranges.CodePointMapRange.{CodePointMapRange}
 use Rattle.cp_trie.specs.declared.error.ConvertError.{ConvertError}
 
--- a run with the value, if there is one, before others
+-- a run with the value before others, or no run at all where there is no value
 abbrev pub with_run : {W : Type 0} → CodePointRange → Option W → List (CodePointMapRange W) → List (CodePointMapRange W)
 with_run range None rs = []
 with_run range (Some w) rs = record { range = range; value = w } ∷ rs

@@ -27,7 +27,7 @@ IsFunctionOnValues {T} {U} post at = (c : ℕ) (u w : U) → c ≤ 0x10_FFFF →
 abbrev pub AnswersWith : {T U : Type 0} → (T → U → Type 0) → (U → Bool) → Bool → T → Type 0
 AnswersWith {T} {U} post test b v = (u : U) × post v u × (test u ≡ b)
 
--- so many runs at the front have answers that pass the test, and the run behind them, if there is one, has not
+-- so many runs at the front may have answers that pass the test, and the run behind them, if there is one, one that fails it
 abbrev pub IsPassingFront : {T U : Type 0} → (T → U → Type 0) → (U → Bool) → List (CodePointMapRange T) → ℕ → Type 0
 IsPassingFront {T} post test rs n =
     (n ≤ length rs)

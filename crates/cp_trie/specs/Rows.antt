@@ -42,7 +42,8 @@ laid s = rows_of s.shelf.values.items (spelled s.numbers.items)
 abbrev pub taken : {V : Type 0} → Rows V → ℕ → List V
 taken s n = laid s ++ take n s.row
 
--- the shelf has whole rows alone, no more than numbers, and the rows of all numbers, and the row that is begun has all its places
+-- the shelf has whole rows alone, no more than numbers, and the rows of all numbers; the row that is begun has 64 places, and as
+-- many behind them
 pub record IsCut {V : Type 0} (s : Rows V) : Type 0 where
   pub places : length s.row ≡ 128
   pub whole : length s.shelf.values.items % 64 ≡ 0

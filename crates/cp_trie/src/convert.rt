@@ -12,7 +12,7 @@ use std::alloc::Global;
 impl<T: TrieValue> CodePointTrie<T> {
     /// The map whose values are those that the numbers of this map's values unpack to, the error value's too.
     /// `Value` names the first maximal run whose value does not convert, or the number of maximal runs where the
-    /// error value alone does not.
+    /// error value alone does not. `NoMemory` says that a request for memory was refused.
     pub fn try_into_converted<P: TrieValue>(
         self,
         alloc: Global,

@@ -56,7 +56,8 @@ impl<T: TrieValue> CodePointTrie<T> {
     /// The map of these runs, which cover 0 to 10FFFF in order, with this value past the end. Neighbours may have the
     /// same value. The runs are tested in order, and the first fault is named: `Gap` where a run does not start one
     /// past the end of the run before it, the first at 0; else `Order` where its end is below its start or above
-    /// 10FFFF; after all runs `Gap` with their number where they do not reach 10FFFF.
+    /// 10FFFF; after all runs `Gap` with their number where they do not reach 10FFFF. `NoMemory` says that a request for memory
+    /// was refused.
     pub fn try_from_runs(
         alloc: Global,
         runs: Vec<CodePointMapRange<T>>,

@@ -1,5 +1,5 @@
 -- The names of the binary properties that ECMA-262 has (its table "Binary Unicode property aliases and their canonical property
--- names"), other than Any, ASCII and Assigned. White_Space has the short name WSpace.
+-- names"), other than Any, ASCII and Assigned. White_Space has the short name WSpace of UAX 44 and not the alias space.
 use Rattle.std.specs.Prelude.{◌≡◌, ℕ, Bool, true, ◌&&◌, ◌||◌, Option, Some, IfSome, List, slice_get}
 use Rattle.std.specs.List.{position}
 use Rattle.std.specs.Str.{bytes_eq}

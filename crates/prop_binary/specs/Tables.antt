@@ -80,7 +80,7 @@ properties =
 abbrev pub set_table_names : List (List ℕ)
 set_table_names = map (λ property. property.0) properties
 
--- the long name of the property of each emoji table, by the number of the table (UTS 51, section 1.4.9)
+-- the long name of the property of each emoji table, by the number of the table (UTS 51, section 1.4.6)
 abbrev pub emoji_table_names : List (List ℕ)
 emoji_table_names = codes "Basic_Emoji" ∷ []
 

@@ -3,7 +3,7 @@ ghost use Rattle.std.specs.Prelude.{ℕ};
 
 use crate::table::EmojiTable;
 
-/// A set of emoji characters and sequences (UTS 51, section 1.4.9).
+/// A set of emoji characters and sequences (UTS 51, section 1.4.6).
 pub trait EmojiSet {
     /// The number of the table.
     ghost TABLE: { ℕ };

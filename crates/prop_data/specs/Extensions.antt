@@ -1,4 +1,4 @@
--- The scripts with extensions: a map, and lists of scripts by index.
+-- The scripts with extensions (UAX 24, section 2.8): a map, and lists of scripts by index.
 use Rattle.std.specs.Prelude.{ℕ, Option, option_map}
 use Rattle.std.specs.Ordering.{nat_cmp}
 use Rattle.std.specs.BTreeMap.{BTreeMap, get}

@@ -20,9 +20,13 @@ use Rattle.prop_data.specs.Tables.{EmojiMembers, ExtensionList, ScriptNumbers, T
 
 -- what the tests of a line look at above it
 pub record Above : Type 0 where
+  -- whether `end` stands there
   pub closed : Bool
+  -- the table whose rows stand there
   pub table : Option Table
+  -- the last code point, or the script, of its last row
   pub last : Option ℕ
+  -- what the tables there mean so far
   pub tables : Tables
 
 -- nothing behind `end`
@@ -48,7 +52,7 @@ forbidden t =
 abbrev pub overlaps : ℕ × ℕ → ℕ × ℕ → Bool
 overlaps r s = nat_le r.0 s.1 && nat_le s.0 r.1
 
--- the row's first code point is not above the last of the row before it
+-- the row's first code point, or its script, is not above the last of the row before it
 abbrev pub is_behind : Option ℕ → ℕ → Bool
 is_behind None start = false
 is_behind (Some last) start = nat_le start last

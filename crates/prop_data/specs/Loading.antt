@@ -77,7 +77,7 @@ table_seen (Emoji o) = emoji_table o.table
 table_seen (Scripts o) = scx_table o.builder.default
 table_seen (Listed o) = ext_table o.index o.script
 
--- the last code point of its row above
+-- the last code point of its row above, or the script of a row of an extension list
 abbrev pub last_seen : OpenTable → Option ℕ
 last_seen (Set o) = o.last
 last_seen (Map o) = o.builder.last

@@ -101,7 +101,7 @@ abbrev pub is_there : {A : Type 0} → (ℕ → Option A) → Option ℕ → Boo
 is_there tables None = false
 is_there tables (Some t) = is_some (tables t)
 
--- TableTwice: an earlier header has the same word and name, or an equal index
+-- TableTwice: an earlier header has the same word and name, or an equal index; of `scx` there is one
 abbrev pub is_twice : Above → Said → Bool
 is_twice seen (set_begins t) = is_there seen.tables.sets t
 is_twice seen (map_begins t n) = is_there seen.tables.maps t
@@ -238,7 +238,7 @@ is_said_twice seen (emoji_string t None) = false
 is_said_twice seen (emoji_string t (Some ns)) = (unwrap_or (seen.tables.emoji t) no_emoji).strings (text_of_numbers ns)
 is_said_twice seen s = false
 
--- ExtensionMissing: at `end`, a number of the scripts with extensions has no list
+-- ExtensionMissing: at `end`, a number of the scripts with extensions has no list of its kind at its index
 abbrev pub is_missing : Above → Said → Bool
 is_missing seen ending = lacks_some_list seen.tables
 is_missing seen s = false

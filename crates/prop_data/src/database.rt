@@ -43,7 +43,8 @@ pub struct PropertyDatabase {
     /// The extension lists, as long as there are no scripts with extensions, which have them then.
     pub(crate) lists: BTreeMap<u64, ListedScripts>,
     ghost allowed: { (table : ℕ) (set : List ℕ) → get nat_cmp sets table ≡ Some set → IsAllowed table (contains set) },
-    ghost accepted: { (table : ℕ) (map : CodePointMap ℕ) → get nat_cmp maps table ≡ Some map → AreAccepted table (value_at map) },
+    ghost accepted: { (table : ℕ) (map : CodePointMap ℕ) →
+        get nat_cmp maps table ≡ Some map → AreAccepted table (value_at map) },
 }
 
 // By hand, so that letting a value go is one call in each proof.

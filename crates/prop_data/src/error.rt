@@ -14,9 +14,9 @@ pub enum TableErrorKind {
     UnknownLine,
     /// The header names no table of its kind.
     UnknownTable,
-    /// An earlier header has the same word and name.
+    /// An earlier header has the same word and name, or as `ext` an equal index.
     TableTwice,
-    /// A number, range or string isn't spelled as it must be.
+    /// A number, range or string isn't spelled as it must be, or a number of a string is a surrogate.
     BadNumber,
     /// A code point is above 10FFFF, or an index above 1023.
     TooLarge,
@@ -24,9 +24,9 @@ pub enum TableErrorKind {
     RangeOrder,
     /// A value isn't accepted by its type.
     ValueOutOfType,
-    /// A name holds a character that no name has.
+    /// A name has another character than ASCII letters, digits, `_` and `-`, or as a short name of a script is no four letters.
     BadName,
-    /// An earlier row has another value under an equal name, or the same value.
+    /// In `names`, an earlier row has another value for a name that folds alike; in `long` and `short`, one has the same value.
     NamesClash,
     /// A syntax table holds an ASCII character that the pattern syntax needs.
     SyntaxAscii,
@@ -36,11 +36,11 @@ pub enum TableErrorKind {
     StringOfOne,
     /// An earlier row of the emoji table is the same string.
     StringTwice,
-    /// A value of the script table has no extension list.
+    /// At `end`, a number of `scx` has no list of its kind at its index.
     ExtensionMissing,
     /// No line is `end`.
     NoEnd,
-    /// A line with fields stands after `end`.
+    /// A header or another `end` stands behind `end`.
     AfterEnd,
 }
 

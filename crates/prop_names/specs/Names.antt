@@ -1,4 +1,4 @@
--- Names with the numbers of values, in the order of the names' bytes.
+-- Names with the numbers of values (UAX 44, section 5.8.2, property value aliases), in the order of the names' bytes.
 use Rattle.std.specs.Prelude.{◌≡◌, ℕ, Bool, true, ◌&&◌, List, [], ◌∷◌, Option, Some}
 use Rattle.std.specs.Cmp.Lexicographic.{slice_cmp}
 use Rattle.std.specs.Map.{lookup}

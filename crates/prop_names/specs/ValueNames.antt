@@ -1,4 +1,4 @@
--- The names of values by the values' numbers.
+-- The names of values by the values' numbers (UAX 44, section 5.8.2, property value aliases).
 use Rattle.std.specs.Prelude.{ℕ, List, [], ◌∷◌, Option, Some, None, option_and_then, slice_get, if◌then◌else◌}
 use Rattle.prop_values.specs.Subtag.{is_four_letters, in_subtag_case}
 

@@ -1,5 +1,5 @@
 //! Names that are being read.
-ghost use Rattle.std.specs.Prelude.{◌≡◌, [], IfSome, IfOk, OnOk};
+ghost use Rattle.std.specs.Prelude.{◌≡◌, [], IfSome, IfOk, OnOk, OnErr};
 ghost use Rattle.std.specs.String.{string_bytes};
 ghost use Rattle.prop_names.specs.Folding.{stored_folding};
 ghost use Rattle.prop_names.specs.Names.{value_of_folding, with_name};
@@ -34,6 +34,7 @@ impl Model for NamesBuilder {
 }
 
 impl NamesBuilder {
+    /// No names.
     pub fn new(alloc: Global) -> NamesBuilder
         ensures { result ≡ [] }
     {
@@ -56,6 +57,7 @@ impl NamesBuilder {
         requires folds { string_bytes folding ≡ stored_folding (string_bytes name) }
         requires agrees { IfSome (value_of_folding self.old (string_bytes folding)) (λ other. other ≡ value) }
         ensures ok { OnOk result (self.new ≡ with_name self.old (string_bytes name) value) }
+        ensures err { OnErr result (self.new ≡ []) }
     {
         let builder = replace(self, NamesBuilder::new(self.alloc));
         *self = builder.with(name, folding, value)?;

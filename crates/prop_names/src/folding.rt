@@ -41,7 +41,7 @@ pub fn ascii_text(alloc: Global, name: &[u8]) -> Result<String, NoMemory>
     Ok(text)
 }
 
-/// The order of a folded name that is stored and the folding of a query: in lower case, without white space, `_` and
+/// The order of a folded name that is stored and the folding of a query: in lower case, without ASCII white space, `_` and
 /// hyphens. The query is folded as it is compared.
 pub(crate) fn compare_folded(stored: &[u8], query: &[u8]) -> Ordering
     ensures { result ≡ slice_cmp nat_cmp stored.now (query_folding query.now) }

@@ -65,7 +65,7 @@ impl PropertyValueNameToEnumMap {
     }
 
     /// The number of the value of the least name that folds as this one (UAX 44, section 5.9): in lower case and without
-    /// white space, `_` and hyphens, where a name that is kept loses its `_` alone.
+    /// ASCII white space, `_` and hyphens, where a name that is kept loses its `_` alone. A prefix `is` is kept.
     pub fn get_loose_u16(&self, name: &[u8]) -> Option<u16>
         ensures value { result ≡ loose self.now name.now }
         ensures strictly { LacksSpacesAndHyphens name.now →

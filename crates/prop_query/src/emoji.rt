@@ -15,7 +15,7 @@ use prop_data::{DataError, PropertyDatabase, TableName};
 use std::alloc::Global;
 use std::marker::Model;
 
-/// A set of emoji characters and sequences (UTS 51, section 1.4.9). A contract sees it as its code points and strings.
+/// A set of emoji characters and sequences (UTS 51, section 1.4.6). A contract sees it as its code points and strings.
 #[derive(Drop)]
 pub struct EmojiSetData {
     set: CodePointInversionListAndStringList,

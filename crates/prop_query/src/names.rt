@@ -154,7 +154,7 @@ impl<T: TrieValue> PropertyParserBorrowed<'_, T> {
     }
 
     /// The number of the value of the least name that folds as this one (UAX 44, section 5.9): in lower case and
-    /// without white space, `_` and hyphens, where a name that is kept loses its `_` alone.
+    /// without ASCII white space, `_` and hyphens, where a name that is kept loses its `_` alone. A prefix `is` is kept.
     pub fn get_loose_u16(self, name: &str) -> Option<u16>
         ensures { result ≡ loose (names_in self.entry) name.now }
     {

@@ -20,7 +20,7 @@ use prop_values::{Script, ScriptWithExt};
 pub use ranges::ScriptExtensionsRanges;
 use std::alloc::Global;
 
-/// The numbers from here on count the kind of a number of scripts with extensions.
+/// The low ten bits of a number of scripts with extensions are below this one, which its kind counts.
 const KIND_UNIT: u16 = 1024;
 
 /// What a call answers where a database has no scripts with extensions.
@@ -54,7 +54,8 @@ impl ScriptWithExtensions {
         ScriptWithExtensionsBorrowed::new(database)
     }
 
-    /// A copy of the scripts of the database. `Absent` names the scripts, exactly where the database has none.
+    /// A copy of the scripts of the database. `Absent` names the scripts, exactly where the database has none, and `NoMemory` says
+    /// that a request for memory was refused.
     pub fn try_new_unstable(
         alloc: Global,
         database: &PropertyDatabase,

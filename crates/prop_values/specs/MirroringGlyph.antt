@@ -1,5 +1,5 @@
--- The packing of a mirroring glyph: bits 0 to 20 are the glyph, 0 for none, bit 21 tells whether the character is mirrored, and
--- bits 22 and 23 are the type of the paired bracket.
+-- The packing of a mirroring glyph (UAX 9, section 3.1.3, of paired brackets; UAX 44, Bidi_Mirroring_Glyph): bits 0 to 20 are
+-- the glyph, 0 for none, bit 21 tells whether the character is mirrored, and bits 22 and 23 are the type of the paired bracket.
 use Rattle.std.specs.Prelude.{ℕ, ◌/◌, ◌%◌, Bool, not, ◌||◌, ◌&&◌, ◌==◌}
 use Rattle.cp_trie.specs.Values.{is_scalar_value}
 

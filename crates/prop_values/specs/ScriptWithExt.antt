@@ -1,4 +1,5 @@
--- Scripts with extensions: the low ten bits are a script or an index, and the bits above them tell the kind.
+-- Scripts with extensions (UAX 24, section 2.8): the low ten bits are a script or an index, and the bits above them tell the
+-- kind.
 use Rattle.std.specs.Prelude.{ℕ, ◌+◌, ◌*◌, ◌/◌, ◌%◌, ◌==◌, if◌then◌else◌}
 
 abbrev pub kind_of : ℕ → ℕ

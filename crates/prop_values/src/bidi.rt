@@ -9,7 +9,7 @@ use crate::tables::{MapTable, NamesTable};
 use cp_trie::{TrieValue, ValueError};
 use std::marker::Model;
 
-/// The bidirectional class of a character (UAX 9; UAX 44, section 5.7.4).
+/// The bidirectional class of a character (UAX 9; UAX 44, section 5.7.2).
 #[derive(Clone, Copy, Debug, PartialEq, Eq, PartialOrd, Ord, Hash)]
 pub struct BidiClass(u8);
 
@@ -24,50 +24,73 @@ impl Model for BidiClass {
 }
 
 impl BidiClass {
+    /// `Left_To_Right` (`L`).
     pub const LeftToRight: BidiClass = BidiClass(0);
 
+    /// `Right_To_Left` (`R`).
     pub const RightToLeft: BidiClass = BidiClass(1);
 
+    /// `European_Number` (`EN`).
     pub const EuropeanNumber: BidiClass = BidiClass(2);
 
+    /// `European_Separator` (`ES`).
     pub const EuropeanSeparator: BidiClass = BidiClass(3);
 
+    /// `European_Terminator` (`ET`).
     pub const EuropeanTerminator: BidiClass = BidiClass(4);
 
+    /// `Arabic_Number` (`AN`).
     pub const ArabicNumber: BidiClass = BidiClass(5);
 
+    /// `Common_Separator` (`CS`).
     pub const CommonSeparator: BidiClass = BidiClass(6);
 
+    /// `Paragraph_Separator` (`B`).
     pub const ParagraphSeparator: BidiClass = BidiClass(7);
 
+    /// `Segment_Separator` (`S`).
     pub const SegmentSeparator: BidiClass = BidiClass(8);
 
+    /// `White_Space` (`WS`).
     pub const WhiteSpace: BidiClass = BidiClass(9);
 
+    /// `Other_Neutral` (`ON`).
     pub const OtherNeutral: BidiClass = BidiClass(10);
 
+    /// `Left_To_Right_Embedding` (`LRE`).
     pub const LeftToRightEmbedding: BidiClass = BidiClass(11);
 
+    /// `Left_To_Right_Override` (`LRO`).
     pub const LeftToRightOverride: BidiClass = BidiClass(12);
 
+    /// `Arabic_Letter` (`AL`).
     pub const ArabicLetter: BidiClass = BidiClass(13);
 
+    /// `Right_To_Left_Embedding` (`RLE`).
     pub const RightToLeftEmbedding: BidiClass = BidiClass(14);
 
+    /// `Right_To_Left_Override` (`RLO`).
     pub const RightToLeftOverride: BidiClass = BidiClass(15);
 
+    /// `Pop_Directional_Format` (`PDF`).
     pub const PopDirectionalFormat: BidiClass = BidiClass(16);
 
+    /// `Nonspacing_Mark` (`NSM`).
     pub const NonspacingMark: BidiClass = BidiClass(17);
 
+    /// `Boundary_Neutral` (`BN`).
     pub const BoundaryNeutral: BidiClass = BidiClass(18);
 
+    /// `First_Strong_Isolate` (`FSI`).
     pub const FirstStrongIsolate: BidiClass = BidiClass(19);
 
+    /// `Left_To_Right_Isolate` (`LRI`).
     pub const LeftToRightIsolate: BidiClass = BidiClass(20);
 
+    /// `Right_To_Left_Isolate` (`RLI`).
     pub const RightToLeftIsolate: BidiClass = BidiClass(21);
 
+    /// `Pop_Directional_Isolate` (`PDI`).
     pub const PopDirectionalIsolate: BidiClass = BidiClass(22);
 
     /// The number of the value.

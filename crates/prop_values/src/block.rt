@@ -24,6 +24,7 @@ impl Model for Block {
 }
 
 impl Block {
+    /// `No_Block` (`NB`).
     pub const NoBlock: Block = Block(0);
 }
 

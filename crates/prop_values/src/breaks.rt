@@ -24,6 +24,7 @@ impl Model for LineBreak {
 }
 
 impl LineBreak {
+    /// `Unknown` (`XX`).
     pub const Unknown: LineBreak = LineBreak(0);
 
     /// The number of the value.
@@ -104,6 +105,7 @@ impl Model for GraphemeClusterBreak {
 }
 
 impl GraphemeClusterBreak {
+    /// `Other` (`XX`).
     pub const Other: GraphemeClusterBreak = GraphemeClusterBreak(0);
 
     /// The number of the value.
@@ -184,6 +186,7 @@ impl Model for WordBreak {
 }
 
 impl WordBreak {
+    /// `Other` (`XX`).
     pub const Other: WordBreak = WordBreak(0);
 
     /// The number of the value.
@@ -264,6 +267,7 @@ impl Model for SentenceBreak {
 }
 
 impl SentenceBreak {
+    /// `Other` (`XX`).
     pub const Other: SentenceBreak = SentenceBreak(0);
 
     /// The number of the value.

@@ -24,20 +24,28 @@ impl Model for HangulSyllableType {
 }
 
 impl HangulSyllableType {
+    /// `Not_Applicable` (`NA`).
     pub const NotApplicable: HangulSyllableType = HangulSyllableType(0);
 
+    /// `Leading_Jamo` (`L`).
     pub const LeadingJamo: HangulSyllableType = HangulSyllableType(1);
 
+    /// `Vowel_Jamo` (`V`).
     pub const VowelJamo: HangulSyllableType = HangulSyllableType(2);
 
+    /// `Trailing_Jamo` (`T`).
     pub const TrailingJamo: HangulSyllableType = HangulSyllableType(3);
 
+    /// `LV_Syllable` (`LV`).
     pub const LVSyllable: HangulSyllableType = HangulSyllableType(4);
 
+    /// `LVT_Syllable` (`LVT`).
     pub const LVTSyllable: HangulSyllableType = HangulSyllableType(5);
 
+    /// `LV_Syllable` (`LV`).
     pub const LeadingVowelSyllable: HangulSyllableType = HangulSyllableType(4);
 
+    /// `LVT_Syllable` (`LVT`).
     pub const LeadingVowelTrailingSyllable: HangulSyllableType = HangulSyllableType(5);
 
     /// The number of the value.

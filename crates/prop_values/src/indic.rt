@@ -24,6 +24,7 @@ impl Model for IndicConjunctBreak {
 }
 
 impl IndicConjunctBreak {
+    /// `None`.
     pub const None: IndicConjunctBreak = IndicConjunctBreak(0);
 
     /// The number of the value.
@@ -104,6 +105,7 @@ impl Model for IndicSyllabicCategory {
 }
 
 impl IndicSyllabicCategory {
+    /// `Other`.
     pub const Other: IndicSyllabicCategory = IndicSyllabicCategory(0);
 
     /// The number of the value.

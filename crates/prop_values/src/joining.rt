@@ -24,6 +24,7 @@ impl Model for JoiningGroup {
 }
 
 impl JoiningGroup {
+    /// `No_Joining_Group`.
     pub const NoJoiningGroup: JoiningGroup = JoiningGroup(0);
 
     /// The number of the value.
@@ -104,6 +105,7 @@ impl Model for JoiningType {
 }
 
 impl JoiningType {
+    /// `Non_Joining` (`U`).
     pub const NonJoining: JoiningType = JoiningType(0);
 
     /// The number of the value.

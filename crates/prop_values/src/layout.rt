@@ -24,6 +24,7 @@ impl Model for EastAsianWidth {
 }
 
 impl EastAsianWidth {
+    /// `Neutral` (`N`).
     pub const Neutral: EastAsianWidth = EastAsianWidth(0);
 
     /// The number of the value.
@@ -104,6 +105,7 @@ impl Model for VerticalOrientation {
 }
 
 impl VerticalOrientation {
+    /// `Rotated` (`R`).
     pub const Rotated: VerticalOrientation = VerticalOrientation(0);
 
     /// The number of the value.

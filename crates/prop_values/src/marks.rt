@@ -24,6 +24,7 @@ impl Model for CanonicalCombiningClass {
 }
 
 impl CanonicalCombiningClass {
+    /// `Not_Reordered` (`NR`).
     pub const NotReordered: CanonicalCombiningClass = CanonicalCombiningClass(0);
 
     /// The number of the value.

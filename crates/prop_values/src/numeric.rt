@@ -24,6 +24,7 @@ impl Model for NumericType {
 }
 
 impl NumericType {
+    /// `None`.
     pub const None: NumericType = NumericType(0);
 
     /// The number of the value.

@@ -25,30 +25,43 @@ impl Model for Script {
 }
 
 impl Script {
+    /// `Common` (`Zyyy`).
     pub const Common: Script = Script(0);
 
+    /// `Inherited` (`Zinh`).
     pub const Inherited: Script = Script(1);
 
+    /// `Bengali` (`Beng`).
     pub const Bengali: Script = Script(4);
 
+    /// `Cyrillic` (`Cyrl`).
     pub const Cyrillic: Script = Script(8);
 
+    /// `Devanagari` (`Deva`).
     pub const Devanagari: Script = Script(10);
 
+    /// `Ethiopic` (`Ethi`).
     pub const Ethiopic: Script = Script(11);
 
+    /// `Ethiopic` (`Ethi`).
     pub const Ethiopian: Script = Script(11);
 
+    /// `Han` (`Hani`).
     pub const Han: Script = Script(17);
 
+    /// `Latin` (`Latn`).
     pub const Latin: Script = Script(25);
 
+    /// `Thai`.
     pub const Thai: Script = Script(38);
 
+    /// `Unknown` (`Zzzz`).
     pub const Unknown: Script = Script(103);
 
+    /// `Lisu`.
     pub const Lisu: Script = Script(131);
 
+    /// `Chisoi`, by a number that stands for the one to come.
     pub const Chisoi: Script = Script(60000);
 
     /// The number of the value.

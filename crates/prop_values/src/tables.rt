@@ -104,40 +104,58 @@ impl Model for MapTable {
 }
 
 impl MapTable {
+    /// The table of `Bidi_Class`.
     pub const BIDI_CLASS: MapTable = MapTable { number: 0 };
 
+    /// The table of `Block`.
     pub const BLOCK: MapTable = MapTable { number: 1 };
 
+    /// The table of `Numeric_Type`.
     pub const NUMERIC_TYPE: MapTable = MapTable { number: 2 };
 
+    /// The table of `General_Category`.
     pub const GENERAL_CATEGORY: MapTable = MapTable { number: 3 };
 
+    /// The table of `Script`.
     pub const SCRIPT: MapTable = MapTable { number: 4 };
 
+    /// The table of `Hangul_Syllable_Type`.
     pub const HANGUL_SYLLABLE_TYPE: MapTable = MapTable { number: 5 };
 
+    /// The table of `East_Asian_Width`.
     pub const EAST_ASIAN_WIDTH: MapTable = MapTable { number: 6 };
 
+    /// The table of `Line_Break`.
     pub const LINE_BREAK: MapTable = MapTable { number: 7 };
 
+    /// The table of `Grapheme_Cluster_Break`.
     pub const GRAPHEME_CLUSTER_BREAK: MapTable = MapTable { number: 8 };
 
+    /// The table of `Word_Break`.
     pub const WORD_BREAK: MapTable = MapTable { number: 9 };
 
+    /// The table of `Sentence_Break`.
     pub const SENTENCE_BREAK: MapTable = MapTable { number: 10 };
 
+    /// The table of `Canonical_Combining_Class`.
     pub const CANONICAL_COMBINING_CLASS: MapTable = MapTable { number: 11 };
 
+    /// The table of `Indic_Conjunct_Break`.
     pub const INDIC_CONJUNCT_BREAK: MapTable = MapTable { number: 12 };
 
+    /// The table of `Indic_Syllabic_Category`.
     pub const INDIC_SYLLABIC_CATEGORY: MapTable = MapTable { number: 13 };
 
+    /// The table of `Joining_Group`.
     pub const JOINING_GROUP: MapTable = MapTable { number: 14 };
 
+    /// The table of `Joining_Type`.
     pub const JOINING_TYPE: MapTable = MapTable { number: 15 };
 
+    /// The table of `Vertical_Orientation`.
     pub const VERTICAL_ORIENTATION: MapTable = MapTable { number: 16 };
 
+    /// The table of `Bidi_Mirroring_Glyph`.
     pub const BIDI_MIRRORING_GLYPH: MapTable = MapTable { number: 17 };
 
     /// The number of the table.
@@ -203,40 +221,58 @@ impl Model for NamesTable {
 }
 
 impl NamesTable {
+    /// The table of the names of `Bidi_Class`.
     pub const BIDI_CLASS: NamesTable = NamesTable { number: 0 };
 
+    /// The table of the names of `Block`.
     pub const BLOCK: NamesTable = NamesTable { number: 1 };
 
+    /// The table of the names of `Numeric_Type`.
     pub const NUMERIC_TYPE: NamesTable = NamesTable { number: 2 };
 
+    /// The table of the names of `General_Category`.
     pub const GENERAL_CATEGORY: NamesTable = NamesTable { number: 3 };
 
+    /// The table of the names of `Script`.
     pub const SCRIPT: NamesTable = NamesTable { number: 4 };
 
+    /// The table of the names of `Hangul_Syllable_Type`.
     pub const HANGUL_SYLLABLE_TYPE: NamesTable = NamesTable { number: 5 };
 
+    /// The table of the names of `East_Asian_Width`.
     pub const EAST_ASIAN_WIDTH: NamesTable = NamesTable { number: 6 };
 
+    /// The table of the names of `Line_Break`.
     pub const LINE_BREAK: NamesTable = NamesTable { number: 7 };
 
+    /// The table of the names of `Grapheme_Cluster_Break`.
     pub const GRAPHEME_CLUSTER_BREAK: NamesTable = NamesTable { number: 8 };
 
+    /// The table of the names of `Word_Break`.
     pub const WORD_BREAK: NamesTable = NamesTable { number: 9 };
 
+    /// The table of the names of `Sentence_Break`.
     pub const SENTENCE_BREAK: NamesTable = NamesTable { number: 10 };
 
+    /// The table of the names of `Canonical_Combining_Class`.
     pub const CANONICAL_COMBINING_CLASS: NamesTable = NamesTable { number: 11 };
 
+    /// The table of the names of `Indic_Conjunct_Break`.
     pub const INDIC_CONJUNCT_BREAK: NamesTable = NamesTable { number: 12 };
 
+    /// The table of the names of `Indic_Syllabic_Category`.
     pub const INDIC_SYLLABIC_CATEGORY: NamesTable = NamesTable { number: 13 };
 
+    /// The table of the names of `Joining_Group`.
     pub const JOINING_GROUP: NamesTable = NamesTable { number: 14 };
 
+    /// The table of the names of `Joining_Type`.
     pub const JOINING_TYPE: NamesTable = NamesTable { number: 15 };
 
+    /// The table of the names of `Vertical_Orientation`.
     pub const VERTICAL_ORIENTATION: NamesTable = NamesTable { number: 16 };
 
+    /// The table of the names of `General_Category_Mask`.
     pub const GENERAL_CATEGORY_MASK: NamesTable = NamesTable { number: 17 };
 
     /// The number of the table.
@@ -264,7 +300,8 @@ impl NamesTable {
         })
     }
 
-    /// Whether the number, 16 bits wide, stands for a value of the property. Each stands for a group of categories.
+    /// Whether the number, 16 bits wide, stands for a value of the property. In the table of `General_Category_Mask` each stands
+    /// for a group of categories.
     pub fn accepts(self, n: u16) -> bool
         ensures { result ≡ accepts_name_of self n }
     {

@@ -1,8 +1,8 @@
 //! Sets of code points by their inversion lists.
 use crate::fixtures::assert_equal;
 use cp_invlist::laws::{
-    faultless, first_fault, members_are_code_points, one_list_of_ranges, ranges_hold_members,
-    same_members,
+    faultless, first_fault, members_are_below_the_last, members_are_code_points,
+    one_list_of_ranges, ranges_hold_members, same_members,
 };
 use cp_invlist::{CodePointInversionList, CodePointRange, InversionListError};
 use std::alloc::{AllocError, Global};
@@ -167,12 +167,14 @@ fn all_code_points_are_one_range(rt: HostRuntime) {
     assert_equal(&rt, first_wrong_of_all(rt.alloc()), Some(None));
 }
 
+// The laws are proved where they are declared; this calls each, so that none goes missing.
 #[test]
 fn the_laws_hold() {
     same_members();
     first_fault();
     faultless();
     members_are_code_points();
+    members_are_below_the_last();
     one_list_of_ranges();
     ranges_hold_members();
 }

@@ -201,6 +201,7 @@ fn strings_are_gathered(rt: HostRuntime) {
     }
 }
 
+// As those of lists.
 #[test]
 fn the_laws_hold() {
     faultless();

@@ -102,13 +102,21 @@ fn pages_that_differ_in_their_first_value_alone_stay_apart(rt: HostRuntime) {
     assert_starts(&rt, rt.alloc(), FIRST);
 }
 
+/// Where values begin in a block, from its front, and the values.
+const BLOCK: [(u32, u32); 4] = [(0, 5), (0x57, 6), (0x80, 7), (0x97, 5)];
+
+fn push_block(starts: &mut Vec<(u32, u32)>, block: u32) -> Result<(), AllocError> {
+    for (more, value) in BLOCK {
+        starts.push((block.saturating_mul(0x1000).saturating_add(more), value))?;
+    }
+    Ok(())
+}
+
 /// Values that begin alike in each block, where pages are equal too.
 fn starts_of_equal_blocks(alloc: Global) -> Result<Vec<(u32, u32)>, AllocError> {
     let mut starts = Vec::new(alloc);
     for block in 0..272u32 {
-        for (more, value) in [(0, 5), (0x57, 6), (0x80, 7), (0x97, 5)] {
-            starts.push(((block * 0x1000).saturating_add(more), value))?;
-        }
+        push_block(&mut starts, block)?;
     }
     Ok(starts)
 }
@@ -120,7 +128,8 @@ fn equal_pages_and_equal_blocks_are_read_alike(rt: HostRuntime) -> Result<(), Al
     Ok(())
 }
 
-/// So many runs whose lengths and values are pseudo-random, seven of eight of them short.
+/// So many runs whose lengths are pseudo-random, seven of eight of them short. Each has its number, from 1 on, as its value, and
+/// the last has 0.
 fn pseudo_random_runs(
     alloc: Global,
     count: u32,

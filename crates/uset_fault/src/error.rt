@@ -22,7 +22,7 @@ pub enum ParseErrorKind {
     /// The source ends where more is due.
     #[error("The source is an incomplete unicode set.")]
     Eof,
-    /// A table is absent from the database.
+    /// A table of the syntax is absent from the database, or one that a property with a value asks for Block.
     #[error("Something unexpected went wrong with our code. Please file a bug report on GitHub.")]
     Internal,
     /// `\N`, which isn't read.
@@ -68,7 +68,8 @@ impl ParseError {
         self.kind
     }
 
-    /// The place of the fault, as a byte offset into the source.
+    /// The place of the fault, as a byte offset into the source. It has none where more is due at the end, where a table of
+    /// the syntax is absent, and where memory was refused.
     pub fn offset(&self) -> Option<usize>
         ensures { result ≡ offset_in self.now }
     {
@@ -104,8 +105,8 @@ impl ParseError {
         Ok(())
     }
 
-    /// The fault in words, behind the front of the source up to its place and an arrow. The source may be any: where it
-    /// ends before the place, none of it is shown. No character is cut.
+    /// The fault in words, behind the front of the source through the character at its place and an arrow. The source may be
+    /// any: where the place is past its end, none of it is shown. No character is cut.
     pub fn fmt_with_source(&self, alloc: Global, source: &str) -> Result<String, NoMemory>
         ensures { IfOk result (λ text. string_bytes text ≡ encode_utf8_all (shown_with self.now (chars source.now))) }
     {

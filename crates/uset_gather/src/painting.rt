@@ -66,7 +66,8 @@ impl Painting {
         Ok(())
     }
 
-    /// Makes one set of all that was painted. As many ranges as it has may be painted twice before it is made anew.
+    /// Makes one set of all that was painted. Once more as many ranges as it has, and at least 4096, may be painted before it is
+    /// made anew.
     fn settle(&mut self) -> Result<(), NoMemory>
         ensures { OnOk result ((c : ℕ) → in_painting self.new c ≡ in_painting self.old c) }
     {

@@ -10,8 +10,8 @@ use std::alloc::Global;
 /// How many ranges a builder takes in any order at once: each moves what stands behind it.
 const FEW: usize = 16;
 
-/// The set of some ranges. The first few, and each that begins behind the one before it, go to the builder at
-/// once. All others are put aside, and sorted once the set is needed: so no order of them costs more than a sort.
+/// The set of some ranges. The first few, and each that doesn't begin before the end of one that went to the builder, go there
+/// at once. All others are put aside, and sorted once the set is needed: so no order of them costs more than a sort.
 #[derive(Drop)]
 pub(crate) struct Run {
     alloc: Global,

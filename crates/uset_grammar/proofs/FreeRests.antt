@@ -59,7 +59,8 @@ stops_here p (c ∷ s) h = by (p c) h
     by true h = absurd (let g = h in cc)
     by false h = refl
 
-while_parts : (p : ℕ → Bool) (t : Text) → t ≡ (while_in p t).0 ++ (while_in p t).1
+-- The characters in front that pass a test, and the rest.
+pub while_parts : (p : ℕ → Bool) (t : Text) → t ≡ (while_in p t).0 ++ (while_in p t).1
 while_parts p [] = refl
 while_parts p (c ∷ t) = by (p c) (while_parts p t)
   where

@@ -9,6 +9,10 @@ pub mod StringMachine
 pub mod StringOutcome
 pub mod PropertyOutcome
 pub mod UnitOutcome
+pub mod Placed
+pub mod EscapeByParts
+pub mod StringByParts
+pub mod PropertyByParts
 pub mod BodyMachine
 pub mod FrontRests
 pub mod UnitRests

@@ -304,7 +304,7 @@ module _ (white_space : ℕ → Bool) (apart : Apart white_space) where
           (subst (λ d. Halts (slip white_space [] s d) (next white_space [] s d)) (sym is) h))
       by (d ∷ f) c m s parts on h = (λ e. (let e' = e in cc), λ e. (let d_is : d ≡ 0x5B = cc in let is : 0x7B ≡ d = cc in absurd (omega (arith, d_is, is))))
 
-  string_answered : (t : Text) → HasOutcome (StringRead white_space) (StringShape white_space) Slips (0x7B ∷ t) (outcome (0x7B ∷ t))
+  pub string_answered : (t : Text) → HasOutcome (StringRead white_space) (StringShape white_space) Slips (0x7B ∷ t) (outcome (0x7B ∷ t))
   string_answered t =
       answered (next white_space) (slip white_space) start (StringShape white_space) Slips string_machine AllFit
       (λ q v r h. read_fits (next white_space) (slip white_space) Fine AllFit good [] q start v r tt h) fits_no_slip (StringRead white_space) (0x7B ∷ t)

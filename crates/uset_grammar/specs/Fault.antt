@@ -18,7 +18,7 @@ use Rattle.uset_grammar.specs.Reached.{OpenBracket, is_short, is_last_property, 
 abbrev pub as_character : ℕ → ℕ
 as_character c = if is_surrogate c then 0xFFFD else c
 
--- A single character that doesn't fit where the greatest one would: it ends a range that is reversed.
+-- A single character where the greatest one would fit: where it doesn't fit itself, it ends a range that is reversed.
 pub record Reversed (items : List Item) (i : Item) : Type 0 where
   pub code : ℕ
   pub is : i ≡ chars (code ∷ [])

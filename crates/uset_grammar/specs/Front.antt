@@ -1,5 +1,5 @@
 -- What stands in front of a text, by its first character (UTS 35, Unicode Sets).
-use Rattle.std.specs.Prelude.{ℕ, [], ◌∷◌, Option, Some, None, is_some, if◌then◌else◌}
+use Rattle.std.specs.Prelude.{ℕ, Bool, [], ◌∷◌, Option, Some, None, is_some, if◌then◌else◌}
 use Rattle.uset_grammar.specs.Text.{Text, ◌∈◌, skip, while_in, behind, optional}
 use Rattle.uset_grammar.specs.Item.{Item, chars, minus, ampersand, dollar, Opening}
 use Rattle.uset_grammar.specs.Language.{Language}
@@ -54,15 +54,20 @@ pub data First : Type 0 where
   of_bracket : Opening → Text → First
   of_property : First
 
+-- The longest name in front (UAX 31), and what stands behind it: a character that begins a name and all that continue
+-- it.
+abbrev pub name_in : (ℕ → Bool) → (ℕ → Bool) → Text → Option (Text × Text)
+name_in start continue [] = None
+name_in start continue (c ∷ t) =
+    if start c then Some (c ∷ (while_in continue t).0, (while_in continue t).1) else None
+
 module _ (l : Language) where
   -- the text without the white space in front
   abbrev pub ahead : Text → Text
   ahead t = skip l.white_space t
 
-  -- the longest name in front (UAX 31), and what stands behind it
   abbrev pub name : Text → Option (Text × Text)
-  name [] = None
-  name (c ∷ t) = if l.start c then Some (c ∷ (while_in l.continue t).0, (while_in l.continue t).1) else None
+  name t = name_in l.start l.continue t
 
   -- Behind the `[` of a bracket: a caret or none at once, white space, and a hyphen or none.
   abbrev pub header : Text → Opening × Text

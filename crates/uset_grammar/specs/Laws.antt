@@ -1,14 +1,14 @@
 -- Laws of the grammar, over the definitions alone.
-use Rattle.std.specs.Prelude.{◌≡◌, ◌↔◌, ℕ, Bool, true, false, List, [], ◌∷◌, ◌++◌, map, Option}
+use Rattle.std.specs.Prelude.{◌≡◌, ◌↔◌, ◌<◌, ℕ, Bool, true, false, List, [], ◌∷◌, ◌++◌, length, map, Option}
 use mathlib.Core.Logic.{◌⊎◌}
 use Prim.Native.Char.{code}
 use Rattle.std.specs.Str.{all_scalars}
-use Rattle.uset_grammar.specs.Text.{Text, IsBehind}
+use Rattle.uset_grammar.specs.Text.{Text, while_in, IsBehind}
 use Rattle.uset_grammar.specs.Outcome.{Outcome, meaning}
 use Rattle.uset_grammar.specs.Escape.{Spelled, Apart}
 use Rattle.uset_grammar.specs.EscapeSlips.{Around, in_bracket, EscapeOutcome}
 use Rattle.uset_grammar.specs.BracedString.{StringOutcome}
-use Rattle.uset_grammar.specs.Property.{Query, PropertyOutcome}
+use Rattle.uset_grammar.specs.Property.{Query, PropertyBegins, PropertyOutcome}
 use Rattle.uset_grammar.specs.Unit.{Meaning, an_escape, a_string, a_property, begins_property, UnitBegins, UnitRead, UnitOutcome}
 use Rattle.uset_grammar.specs.Tree.{Tree, Steps, has}
 use Rattle.uset_grammar.specs.Item.{Item}
@@ -23,6 +23,10 @@ use Rattle.uset_grammar.specs.Turn.{UnitReader, at, last_at, turn, Means, Accept
 use Rattle.uset_grammar.specs.Answers.{Answer, IsAnswer, AllLawful}
 use Rattle.uset_grammar.specs.Finite.{IsFinite, IsFiniteLanguage}
 use Rattle.uset_grammar.specs.Rests.{may_follow}
+use Rattle.uset_grammar.specs.Parts.{TellsOutcome}
+use Rattle.uset_grammar.specs.EscapeParts.{letters_in}
+use Rattle.uset_grammar.specs.StringParts.{pieces_in}
+use Rattle.uset_grammar.specs.PropertyParts.{property_in}
 
 -- Every source has one answer, under every syntax, whether its tables are there or not, all variables and all
 -- properties.
@@ -83,11 +87,31 @@ abbrev pub KindsTell : Type 0
 KindsTell = (white_space : ℕ → Bool) → Apart white_space → white_space (code "a") ≡ false →
     (both : Bool) (resolves lacks : Query → Bool) → UnitsOfKinds white_space both resolves lacks
 
+-- An escape that is read part by part has its outcome.
+abbrev pub EscapesByParts : Type 0
+EscapesByParts = (white_space : ℕ → Bool) → Apart white_space → (a : Around) (q t : Text) → q ≡ code "\\" ∷ t →
+    TellsOutcome (EscapeOutcome white_space a q) q (letters_in white_space a q t)
+
+-- A string that is read piece by piece, with more turns allowed than characters stand behind its brace, has its outcome.
+abbrev pub StringsByParts : Type 0
+StringsByParts = (white_space : ℕ → Bool) → Apart white_space → (most : ℕ) (q t : Text) → q ≡ code "{" ∷ t →
+    length t < most → TellsOutcome (StringOutcome white_space q) q (pieces_in white_space most [] t)
+
+-- A property that is read part by part has its outcome.
+abbrev pub PropertiesByParts : Type 0
+PropertiesByParts = (white_space : ℕ → Bool) → white_space (code "a") ≡ false →
+    (resolves lacks : Query → Bool) (q : Text) → PropertyBegins q →
+    TellsOutcome (PropertyOutcome white_space resolves lacks q) q (property_in white_space resolves lacks q)
+
+-- The characters in front that pass a test, and the rest, are the text.
+abbrev pub CutByTest : Type 0
+CutByTest = (test : ℕ → Bool) (t : Text) → t ≡ (while_in test t).0 ++ (while_in test t).1
+
 -- The units of a lawful language are read.
 abbrev pub UnitsAreRead : Type 0
 UnitsAreRead = (l : Language) → Lawful l → UnitReader l
 
--- Each turn of a reader at a place that is reached is a move, a fault or a reading.
+-- Each turn of a reader at a rest of the source, whatever brackets are open, is a move, a fault or a reading.
 abbrev pub TurnsMean : Type 0
 TurnsMean = (l : Language) (units : UnitReader l) (source : Text) (bs : List OpenBracket) (before t : Text) →
     source ≡ before ++ t → Means l units source bs t (turn l units source bs t)
@@ -97,7 +121,7 @@ abbrev pub ReadAtLast : Type 0
 ReadAtLast = (l : Language) (units : UnitReader l) (source : Text) (bs : List OpenBracket) (t : Text) (tree : Tree) (rest : Text) →
     Reached l source bs t → Accepts l units source bs t tree rest → Reads l source tree rest
 
--- A move goes on to less of the source.
+-- A move goes on to a rest of the source.
 abbrev pub MovesOn : Type 0
 MovesOn = (l : Language) (source : Text) (bs cs : List OpenBracket) (before t u : Text) → source ≡ before ++ t →
     Moves l source bs t cs u → (front : Text) × (source ≡ front ++ u)

@@ -21,4 +21,8 @@ pub mod Answers
 pub mod Shown
 pub mod Finite
 pub mod Rests
+pub mod Parts
+pub mod EscapeParts
+pub mod StringParts
+pub mod PropertyParts
 pub mod Laws

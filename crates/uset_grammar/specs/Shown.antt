@@ -1,4 +1,4 @@
--- The text that shows a fault with its source: the source up to the place, an arrow, and what is wrong.
+-- The text that shows a fault with its source: the source through the character at the place, an arrow, and what is wrong.
 use Rattle.std.specs.Prelude.{ℕ, ◌+◌, ◌-◌, nat_lt, ◌==◌, length, [], ◌∷◌, ◌++◌, codes, encode_utf8, Option, Some, None, if◌then◌else◌}
 use Rattle.uset_grammar.specs.Text.{Text, ◌∈◌}
 use Rattle.uset_grammar.specs.Outcome.{Kind, unexpected, unimplemented, invalid_escape, unknown_property, internal, unknown_variable, unexpected_variable, eof}

@@ -1,5 +1,5 @@
 //! Laws of the grammar, each the contract of a function that does nothing.
-ghost use Rattle.uset_grammar.specs.Laws.{OneAnswer, OneEscape, OneString, OneProperty, OneUnit, ThreeListsTell, CloseFitsBehindBody, AwaitedTells, KindsTell, UnitsAreRead, TurnsMean, ReadAtLast, MovesOn, PlacesAre, AllRestsAreBehind, FiniteSets, RestsAreLast, FreeRest};
+ghost use Rattle.uset_grammar.specs.Laws.{OneAnswer, OneEscape, OneString, OneProperty, OneUnit, ThreeListsTell, CloseFitsBehindBody, AwaitedTells, KindsTell, EscapesByParts, StringsByParts, PropertiesByParts, CutByTest, UnitsAreRead, TurnsMean, ReadAtLast, MovesOn, PlacesAre, AllRestsAreBehind, FiniteSets, RestsAreLast, FreeRest};
 
 /// Every source has exactly one answer: it is read, with one tree and one rest, or refused, with one
 /// kind and one place. So no source has two readings, two faults, both or neither.
@@ -41,6 +41,18 @@ pub fn arranging()
 /// A unit in a bracket has the outcome of the escape, the string or the property that it is.
 pub fn kinds_of_units()
     ensures { KindsTell }
+{}
+
+/// What is read part by part has the outcome of the escape, the string or the property that it is.
+pub fn units_by_parts()
+    ensures escapes { EscapesByParts }
+    ensures strings { StringsByParts }
+    ensures properties { PropertiesByParts }
+{}
+
+/// The characters in front that pass a test, and the rest, are the text.
+pub fn cut_by_a_test()
+    ensures { CutByTest }
 {}
 
 /// A reader that takes turns moves on, stops at a fault, or has read the source.

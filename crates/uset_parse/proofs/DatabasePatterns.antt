@@ -4,8 +4,9 @@ use Rattle.std.specs.Prelude.{All}
 use Rattle.std.specs.Str.{IsUtf8}
 use Rattle.std.proofs.lemmas.Bool.Decides.{nat_tests}
 use Rattle.std.proofs.lemmas.List.Elements.{All-nil, All-cons}
-use Rattle.cp_invlist.specs.InversionList.{contains, is_code_point, IsInversionList}
-use Rattle.cp_invlist.specs.Ranges.{in_ranges, AreRangesFrom, AreMaximalRanges}
+use Rattle.cp_invlist.specs.InversionList.{contains, is_code_point}
+use Rattle.cp_invlist.specs.Laws.{MembersAreCodePoints, RangesHoldMembers}
+use Rattle.cp_invlist.specs.Ranges.{in_ranges, AreRangesFrom}
 use Rattle.cp_invlist.specs.declared.ranges.CodePointRange.{CodePointRange}
 use Rattle.cp_strset.specs.StringList.{AreCanonical}
 use Rattle.cp_strset.specs.StringSet.{StringSet}
@@ -62,8 +63,7 @@ same_members : (set : StringSet) (rs : List CodePointRange) → ((c : ℕ) → i
 same_members set rs held (point c) = held c
 same_members set rs held (string bytes) = refl
 
-pub inverse_law : ((xs : List ℕ) (c : ℕ) → IsInversionList xs → (contains xs c && is_code_point c) ≡ contains xs c) →
-    ((m : ℕ → Bool) (rs : List CodePointRange) → AreMaximalRanges m rs → (c : ℕ) → in_ranges rs c ≡ m c) → Inverse
+pub inverse_law : MembersAreCodePoints → RangesHoldMembers → Inverse
 inverse_law code_points hold = λ tables allows variable l there set is_set rs maximal rest.
     let leaves = leaves_by tables allows variable (tables.sets 51) (tables.sets 68) (tables.sets 67) refl l there in
     let m = contains set.code_points in

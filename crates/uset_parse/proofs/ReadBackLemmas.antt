@@ -1,13 +1,15 @@
 -- A set that is written and read back.
-use Rattle.std.proofs.Common.{◌≡◌, ℕ, ◌+◌, List, [], length, map, Option, Some, None, refl, sym, ap, ap₂, ◌∙◌, subst, append-nil, arith, get_or, String, Global}
+use Rattle.std.proofs.Common.{◌≡◌, ℕ, ◌+◌, List, [], length, map, Option, Some, None, is_some, true, refl, sym, ap, ap₂, ◌∙◌, subst, append-nil, arith, get_or, String, Global}
 use Rattle.std.specs.Prelude.{All}
 use Rattle.std.specs.Str.{IsUtf8, chars}
 use Rattle.std.specs.String.{string_bytes}
 use Rattle.std.proofs.lemmas.List.Elements.{All-map}
 use Rattle.std.proofs.lemmas.Str.{IsUtf8-string_bytes}
-use Rattle.cp_invlist.specs.InversionList.{IsInversionList, HaveSameMembers}
+use Rattle.cp_invlist.specs.InversionList.{IsInversionList}
+use Rattle.cp_invlist.specs.Laws.{OneListOfMembers}
+use Rattle.cp_strset.specs.Laws.{OneListOfStrings}
 use Rattle.cp_strset.specs.PatternText.{IsPatternOf}
-use Rattle.cp_strset.specs.StringList.{AreCanonical, HoldSame}
+use Rattle.cp_strset.specs.StringList.{AreCanonical}
 use Rattle.cp_strset.specs.StringSet.{StringSet}
 use Rattle.prop_data.specs.Forbidden.{AreAllowed}
 use Rattle.prop_data.specs.Tables.{Tables}
@@ -43,6 +45,9 @@ kept_by set list strings in_order same bytes canonical = record {
 syntax_of : (l : Option Language) (source : Text) (tree : Tree) (rest : Text) → ReadsUnder source tree rest l → (k : Language) × (l ≡ Some k)
 syntax_of _ source tree rest (under {l} h) = (l, refl)
 
+pub has_syntax : (l : Option Language) (pattern : List ℕ) (got : StringSet) (n : ℕ) → IsRead l pattern got n → is_some l ≡ true
+has_syntax l pattern got n h = ap is_some (syntax_of l (chars pattern) h.tree h.rest h.reads).1
+
 -- no fault is there without a place but the one of an absent syntax
 absent_kind : (source : Text) (k : Kind) (p : Option Text) → FaultUnder source None k p → (k ≡ internal) × (p ≡ None)
 absent_kind source _ _ absent = (refl, refl)
@@ -58,8 +63,7 @@ module _ (inverse : Inverse) (one : OneAnswer) (tables : Tables) (allowed : AreA
       ((one tables allowed variable (chars pattern)).1.reads b.tree []).1 (subst (λ k. ReadsUnder (chars pattern) b.tree [] k) (sym there) (under reads))
 
   -- what is read of the pattern is the set, and all of it
-  pub reads_whole : ((a b : List ℕ) → IsInversionList a → IsInversionList b → HaveSameMembers a b → a ≡ b) →
-      ((a b : List (List ℕ)) → AreCanonical a → AreCanonical b → HoldSame a b → a ≡ b) →
+  pub reads_whole : OneListOfMembers → OneListOfStrings →
       (got : StringSet) (n : ℕ) → IsInversionList got.code_points → AreCanonical got.strings → IsRead (language_of variable tables) pattern got n → IsWholeSet set got n
   reads_whole one_set one_list got n in_order canonical h =
       let l = syntax_of (language_of variable tables) (chars pattern) h.tree h.rest h.reads in

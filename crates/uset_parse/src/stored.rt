@@ -1,5 +1,5 @@
 //! A set that is written as a pattern, and read back.
-ghost use Rattle.std.specs.Prelude.{IfOk, IfErr};
+ghost use Rattle.std.specs.Prelude.{◌≡◌, true, is_some, IfOk, IfErr};
 ghost use Rattle.uset_parse.specs.ReadBack.{IsWholeSet, LacksSyntax};
 ghost use Rattle.uset_parse.specs.Reading.{language_with};
 
@@ -23,6 +23,7 @@ pub fn read_back(
     database: &PropertyDatabase,
 ) -> Result<(CodePointInversionListAndStringList, usize), ParseError>
     ensures whole { IfOk result (λ p. IsWholeSet set.now p.0 p.1) }
+    ensures syntax { IfOk result (λ _. is_some (language_with variable_map.now database.now) ≡ true) }
     ensures refused { IfErr result (LacksSyntax (language_with variable_map.now database.now)) }
 {
     laws::inverse();

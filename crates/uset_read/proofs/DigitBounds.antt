@@ -6,7 +6,7 @@ use mathlib.Core.Logic.{◌⊎◌}
 use Rattle.uset_grammar.specs.Text.{Text}
 use Rattle.uset_grammar.specs.Escape.{is_hex, is_above}
 use Rattle.uset_grammar.specs.EscapeSlips.{Around}
-use Rattle.uset_read.specs.Reading.{number_in, later_in}
+use Rattle.uset_grammar.specs.EscapeParts.{number_in, later_in}
 
 -- how great it is while so many are to come
 abbrev pub BelowFor : ℕ → ℕ → Type 0

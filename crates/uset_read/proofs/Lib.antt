@@ -1,16 +1,10 @@
 pub mod Bounds
 pub mod DigitBounds
 pub mod NumbersInBraces
-pub mod EscapeReading
-pub mod Placed
-pub mod EscapeRead
 pub mod PlaceInBytes
 pub mod StringPushes
 pub mod PiecesRead
-pub mod StringReading
-pub mod StringRead
 pub mod FirstCharacter
-pub mod WhiteSpaceBounds
 pub mod NameParts
-pub mod PropertyReading
 pub mod PropertyRead
+pub mod Told

@@ -10,7 +10,8 @@ use Rattle.uset_grammar.specs.EscapeSlips.{Around}
 use Rattle.uset_read.specs.declared.stop.Stop.{Stop}
 use Rattle.uset_read.specs.declared.stop.Stop.TheVariants.{Fault, Ended, NoMemory}
 use Rattle.uset_read.specs.Stops.{Stops}
-use Rattle.uset_read.specs.Reading.{and_then, all_in, number_in, number_at, at_next_in, first_digit_in, next_in, behind_number, number_or, numbers_in, braced_in}
+use Rattle.uset_grammar.specs.Parts.{and_then}
+use Rattle.uset_grammar.specs.EscapeParts.{all_in, number_in, number_at, at_next_in, first_digit_in, next_in, behind_number, number_or, numbers_in, braced_in}
 
 -- what stops the first part stops the whole
 pub stops_then : {A B : Type 0} (o : Outcome A) (f : A → Text → Outcome B) (stop : Stop) → Stops o stop → Stops (and_then o f) stop

@@ -8,14 +8,16 @@ use Rattle.cp_invlist.specs.InversionList.{contains}
 use Rattle.uset_grammar.specs.Text.{Text}
 use Rattle.uset_grammar.specs.Outcome.{Outcome, got, faulty, ended}
 use Rattle.uset_grammar.specs.Escape.{Apart, Spelled, itself, codes_of}
-use Rattle.uset_grammar.specs.EscapeSlips.{in_string, allowed}
+use Rattle.uset_grammar.specs.EscapeSlips.{in_string, allowed, EscapeOutcome}
 use Rattle.uset_grammar.specs.BracedString.{text_of}
 use Rattle.uset_read.specs.declared.stop.Stop.{Stop}
 use Rattle.uset_read.specs.Stops.{Stops}
-use Rattle.uset_read.specs.Reading.{and_then, letters_in}
-use Rattle.uset_read.specs.Pieces.{piece_in, pieces_in, PiecesAre, PiecesStop}
+use Rattle.uset_grammar.specs.Parts.{and_then, TellsOutcome}
+use Rattle.uset_grammar.specs.EscapeParts.{letters_in}
+use Rattle.uset_grammar.specs.StringParts.{piece_in, with_piece_in, pieces_in}
+use Rattle.uset_grammar.specs.Laws.{EscapesByParts}
+use Rattle.uset_read.specs.Pieces.{PiecesAre, PiecesStop}
 use Rattle.uset_read.proofs.NumbersInBraces.{stops_then}
-use Rattle.uset_read.proofs.EscapeRead.{escape_got}
 
 -- the pieces read so far, with at least as many turns left as bytes
 pub record SoFar (white_space text string rest : List ℕ) : Type 0 where
@@ -33,46 +35,26 @@ few_characters text utf8 = let n = length-le-encodes (chars text) in let same = 
 pub nothing_yet : (white_space text string : List ℕ) → IsUtf8 text → string ≡ [] → SoFar white_space text string text
 nothing_yet white_space text string utf8 is = record { pieces = []; left = suc (length text); few = omega arith; same = refl; characters = ap chars is ∙ chars-nil; bounded = few_characters text utf8 }
 
--- what a piece makes of those that were read
-abbrev with_piece : (ℕ → Bool) → ℕ → List Spelled → Option (Option Spelled) → Text → Outcome (List Spelled)
-with_piece white_space most read None t = got read t
-with_piece white_space most read (Some None) t = pieces_in white_space most read t
-with_piece white_space most read (Some (Some s)) t = pieces_in white_space most (read ++ s ∷ []) t
+-- what an escape among the pieces was read as
+inner_got : (o : Outcome Spelled) (s : Spelled) (u : Text) → and_then o (λ s. got (Some (Some s))) ≡ got (Some (Some s)) u → o ≡ got s u
+inner_got (got s' u') s u h =
+    let g : got (Some (Some s')) u' ≡ got (Some (Some s)) u = h in
+    let k : s' ≡ s = cc in
+    let j : u' ≡ u = cc in
+    ap (λ z. got z u') k ∙ ap (λ z. got s z) j
+inner_got (faulty k r) s u h = absurd (let g : ◌≡◌ {A = Outcome (Option (Option Spelled))} (faulty k r) (got (Some (Some s)) u) = h in cc)
+inner_got ended s u h = absurd (let g : ◌≡◌ {A = Outcome (Option (Option Spelled))} ended (got (Some (Some s)) u) = h in cc)
 
-module _ (white_space : ℕ → Bool) where
-  escape_then : (most : ℕ) (read : List Spelled) (o : Outcome Spelled) → and_then o (λ s u. pieces_in white_space most (read ++ s ∷ []) u) ≡ and_then (and_then o (λ s. got (Some (Some s)))) (with_piece white_space most read)
-  escape_then most read (got s u) = refl
-  escape_then most read (faulty k r) = refl
-  escape_then most read ended = refl
-
-  piece_by : (most : ℕ) (read : List Spelled) (c : ℕ) (t : Text) (b w s : Bool) →
-      cond b (got read t) (cond w (pieces_in white_space most read t) (cond s (and_then (letters_in white_space in_string (c ∷ t) t) (λ s u. pieces_in white_space most (read ++ s ∷ []) u)) (pieces_in white_space most (read ++ itself c ∷ []) t)))
-      ≡ and_then (cond b (got None t) (cond w (got (Some None) t) (cond s (and_then (letters_in white_space in_string (c ∷ t) t) (λ s. got (Some (Some s)))) (got (Some (Some (itself c))) t)))) (with_piece white_space most read)
-  piece_by most read c t true w s = refl
-  piece_by most read c t false true s = refl
-  piece_by most read c t false false true = escape_then most read (letters_in white_space in_string (c ∷ t) t)
-  piece_by most read c t false false false = refl
-
-  pieces_are_next : (most : ℕ) (read : List Spelled) (t : Text) → pieces_in white_space (suc most) read t ≡ and_then (piece_in white_space t) (with_piece white_space most read)
-  pieces_are_next most read [] = refl
-  pieces_are_next most read (c ∷ t) = piece_by most read c t (c == 0x7D) (white_space c) (c == 0x5C)
-
-  -- a piece that is read is allowed in a string
-  inner_got : (o : Outcome Spelled) (s : Spelled) (u : Text) → and_then o (λ s. got (Some (Some s))) ≡ got (Some (Some s)) u → o ≡ got s u
-  inner_got (got s' u') s u h =
-      let g : got (Some (Some s')) u' ≡ got (Some (Some s)) u = h in
-      let k : s' ≡ s = cc in
-      let j : u' ≡ u = cc in
-      ap (λ z. got z u') k ∙ ap (λ z. got s z) j
-  inner_got (faulty k r) s u h = absurd (let g : ◌≡◌ {A = Outcome (Option (Option Spelled))} (faulty k r) (got (Some (Some s)) u) = h in cc)
-  inner_got ended s u h = absurd (let g : ◌≡◌ {A = Outcome (Option (Option Spelled))} ended (got (Some (Some s)) u) = h in cc)
-
+-- a piece that is read is allowed in a string
+module _ (white_space : ℕ → Bool) (escapes : EscapesByParts) where
   allowed_by : Apart white_space → (c : ℕ) (t : Text) (s : Spelled) (u : Text) (b w e : Bool) → (c == 0x5C) ≡ e →
       cond b (got None t) (cond w (got (Some None) t) (cond e (and_then (letters_in white_space in_string (c ∷ t) t) (λ s. got (Some (Some s)))) (got (Some (Some (itself c))) t))) ≡ got (Some (Some s)) u → allowed in_string s ≡ true
   allowed_by apart c t s u true w e is h = absurd (let g : ◌≡◌ {A = Outcome (Option (Option Spelled))} (got None t) (got (Some (Some s)) u) = h in cc)
   allowed_by apart c t s u false true e is h = absurd (let g : got (Some None) t ≡ got (Some (Some s)) u = h in cc)
   allowed_by apart c t s u false false true is h =
-      let here = escape_got white_space apart in_string t (c ∷ t) s u (ap (λ z. z ∷ t) (eqb-true c 0x5C is)) (inner_got (letters_in white_space in_string (c ∷ t) t) s u h) in
+      let read = inner_got (letters_in white_space in_string (c ∷ t) t) s u h in
+      let here : EscapeOutcome white_space in_string (c ∷ t) (got s u) =
+      subst (TellsOutcome (EscapeOutcome white_space in_string (c ∷ t)) (c ∷ t)) read (escapes white_space apart in_string (c ∷ t) t (ap (λ z. z ∷ t) (eqb-true c 0x5C is))) in
       ((here.reads s u).0 refl).fits
   allowed_by apart c t s u false false false is h =
       let g : got (Some (Some (itself c))) t ≡ got (Some (Some s)) u = h in
@@ -91,27 +73,27 @@ module _ (white_space text string rest : List ℕ) (far : SoFar white_space text
   abbrev whole : Outcome (List Spelled)
   whole = pieces_in (contains white_space) (suc (length text)) [] (chars text)
 
-  one_turn : (k : ℕ) × (length rest ≤ k) × (whole ≡ and_then (piece_in (contains white_space) (chars rest)) (with_piece (contains white_space) k far.pieces))
+  one_turn : (k : ℕ) × (length rest ≤ k) × (whole ≡ and_then (piece_in (contains white_space) (chars rest)) (with_piece_in (pieces_in (contains white_space) k) far.pieces))
   one_turn = by far.left far.few far.same
     where
       by : (n : ℕ) → length rest < n → whole ≡ pieces_in (contains white_space) n far.pieces (chars rest) →
-          (k : ℕ) × (length rest ≤ k) × (whole ≡ and_then (piece_in (contains white_space) (chars rest)) (with_piece (contains white_space) k far.pieces))
+          (k : ℕ) × (length rest ≤ k) × (whole ≡ and_then (piece_in (contains white_space) (chars rest)) (with_piece_in (pieces_in (contains white_space) k) far.pieces))
       by zero few same = absurd (omega (arith, few))
-      by (suc k) few same = (k, omega (arith, few), same ∙ pieces_are_next (contains white_space) k far.pieces (chars rest))
+      by (suc k) few same = (k, omega (arith, few), same)
 
   pub piece_stops : (stop : Stop) → Stops (piece_in (contains white_space) (chars rest)) stop → PiecesStop white_space text stop
   piece_stops stop h apart =
-      (subst (λ o. Stops o stop) (sym one_turn.2) (stops_then (piece_in (contains white_space) (chars rest)) (with_piece (contains white_space) one_turn.0 far.pieces) stop h), far.bounded)
+      (subst (λ o. Stops o stop) (sym one_turn.2) (stops_then (piece_in (contains white_space) (chars rest)) (with_piece_in (pieces_in (contains white_space) one_turn.0) far.pieces) stop h), far.bounded)
 
   pub piece_closes : (behind : List ℕ) → piece_in (contains white_space) (chars rest) ≡ got None (chars behind) → PiecesAre white_space text string behind
-  piece_closes behind h = record { pieces = far.pieces; read = one_turn.2 ∙ ap (λ z. and_then z (with_piece (contains white_space) one_turn.0 far.pieces)) h; characters = far.characters; few = far.bounded }
+  piece_closes behind h = record { pieces = far.pieces; read = one_turn.2 ∙ ap (λ z. and_then z (with_piece_in (pieces_in (contains white_space) one_turn.0) far.pieces)) h; characters = far.characters; few = far.bounded }
 
   pub piece_skips : (behind : List ℕ) → length behind < length rest → piece_in (contains white_space) (chars rest) ≡ got (Some None) (chars behind) → SoFar white_space text string behind
   piece_skips behind less h = record {
     pieces = far.pieces;
     left = one_turn.0;
     few = let k = one_turn.1 in omega (arith, less);
-    same = one_turn.2 ∙ ap (λ z. and_then z (with_piece (contains white_space) one_turn.0 far.pieces)) h;
+    same = one_turn.2 ∙ ap (λ z. and_then z (with_piece_in (pieces_in (contains white_space) one_turn.0) far.pieces)) h;
     characters = far.characters;
     bounded = far.bounded;
   }
@@ -122,12 +104,12 @@ module _ (white_space text string rest : List ℕ) (far : SoFar white_space text
     pieces = far.pieces ++ s ∷ [];
     left = one_turn.0;
     few = let k = one_turn.1 in omega (arith, less);
-    same = one_turn.2 ∙ ap (λ z. and_then z (with_piece (contains white_space) one_turn.0 far.pieces)) h;
+    same = one_turn.2 ∙ ap (λ z. and_then z (with_piece_in (pieces_in (contains white_space) one_turn.0) far.pieces)) h;
     characters = more ∙ (ap (λ z. z ++ codes_of s) far.characters ∙ sym (text_snoc far.pieces s));
     bounded = far.bounded;
   }
 
   -- no piece that is read has a number that is no character's
-  pub piece_is_allowed : (behind : List ℕ) (s : Spelled) → piece_in (contains white_space) (chars rest) ≡ got (Some (Some s)) (chars behind) → allowed in_string s ≡ false → Apart (contains white_space) → ⊥
-  piece_is_allowed behind s h refused apart =
-      let g : true ≡ false = sym (piece_allowed (contains white_space) apart (chars rest) s (chars behind) h) ∙ refused in cc
+  pub piece_is_allowed : EscapesByParts → (behind : List ℕ) (s : Spelled) → piece_in (contains white_space) (chars rest) ≡ got (Some (Some s)) (chars behind) → allowed in_string s ≡ false → Apart (contains white_space) → ⊥
+  piece_is_allowed escapes behind s h refused apart =
+      let g : true ≡ false = sym (piece_allowed (contains white_space) escapes apart (chars rest) s (chars behind) h) ∙ refused in cc

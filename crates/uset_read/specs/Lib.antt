@@ -1,6 +1,5 @@
 pub mod Stops
 pub mod Spelled
-pub mod Reading
 pub mod UnitRead
 pub mod Cursors
 pub mod Pieces

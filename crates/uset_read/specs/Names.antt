@@ -1,15 +1,11 @@
--- Names of variables (UAX 31).
-use Rattle.std.specs.Prelude.{◌≡◌, ℕ, List, Bool, [], ◌∷◌, Option, Some, None, if◌then◌else◌}
+-- Names of variables (UAX 31), over the bytes that the code holds.
+use Rattle.std.specs.Prelude.{◌≡◌, ℕ, List, Option, Some}
 use Rattle.std.specs.Str.{chars}
 use Rattle.cp_invlist.specs.InversionList.{contains}
-use Rattle.uset_grammar.specs.Text.{Text, while_in}
+use Rattle.uset_grammar.specs.Text.{Text}
+use Rattle.uset_grammar.specs.Front.{name_in}
 
--- the longest name in front, and what stands behind it: a character that begins a name and all that continue it
-abbrev pub name_in : (ℕ → Bool) → (ℕ → Bool) → Text → Option (Text × Text)
-name_in start continue [] = None
-name_in start continue (c ∷ t) = if start c then Some (c ∷ (while_in continue t).0, (while_in continue t).1) else None
-
--- the same over the bytes of a text and the lists of the two sets
+-- the longest name in front, under these sets of characters, and what stands behind it
 abbrev pub name_at : List ℕ → List ℕ → List ℕ → Option (Text × Text)
 name_at start continuing text = name_in (contains start) (contains continuing) (chars text)
 

@@ -1,34 +1,25 @@
--- What the reader of strings in braces does with one piece, and with all.
-use Rattle.std.specs.Prelude.{◌≡◌, ◌≤◌, length, ℕ, zero, suc, Bool, true, String, List, [], ◌∷◌, ◌++◌, Option, Some, None, if◌then◌else◌}
+-- A string in braces and its pieces, as the code keeps them.
+use Rattle.std.specs.Prelude.{◌≡◌, ◌≤◌, length, ℕ, suc, Bool, true, String, List, [], ◌∷◌, ◌++◌, Option, Some, None}
 use Rattle.std.specs.Str.{chars}
 use Rattle.std.specs.String.{string_bytes}
 use Prim.Native.Char.{code}
 use Rattle.cp_invlist.specs.InversionList.{contains}
-use Rattle.uset_grammar.specs.Text.{Text, ◌∈◌}
-use Rattle.uset_grammar.specs.Outcome.{Outcome, got, ended}
-use Rattle.uset_grammar.specs.Escape.{Apart, Spelled, itself}
+use Rattle.uset_grammar.specs.Text.{Text}
+use Rattle.uset_grammar.specs.Outcome.{Outcome, got}
+use Rattle.uset_grammar.specs.Escape.{Apart, Spelled}
 use Rattle.uset_grammar.specs.EscapeSlips.{in_string, fits_in}
 use Rattle.uset_grammar.specs.BracedString.{StringOutcome, text_of}
+use Rattle.uset_grammar.specs.StringParts.{pieces_in}
 use Rattle.uset_read.specs.declared.stop.Stop.{Stop}
 use Rattle.uset_read.specs.Stops.{Stops}
 use Rattle.uset_read.specs.UnitRead.{StopsAt}
 use Rattle.uset_read.specs.declared.braced_string.Piece.{Piece}
 use Rattle.uset_read.specs.declared.braced_string.Piece.TheVariants.{Closed, Space, Spelled as Part}
 use Rattle.uset_read.specs.Spelled.{spelled_seen}
-use Rattle.uset_read.specs.Reading.{and_then, letters_in}
 
 -- the number is a character's
 abbrev pub is_character : ℕ → Bool
 is_character n = fits_in in_string n
-
--- One piece in front: no further one behind the closing brace, else what it adds, and nothing for white space.
-abbrev pub piece_in : (ℕ → Bool) → Text → Outcome (Option (Option Spelled))
-piece_in white_space [] = ended
-piece_in white_space (c ∷ t) =
-    if c ∈ "}" then got None t
-    else if white_space c then got (Some None) t
-    else if c ∈ "\\" then and_then (letters_in white_space in_string (c ∷ t) t) (λ s. got (Some (Some s)))
-    else got (Some (Some (itself c))) t
 
 -- the piece as the code keeps it
 abbrev pub piece_seen : Piece → Outcome (Option (Option Spelled))
@@ -41,17 +32,6 @@ abbrev pub behind_piece : Piece → List ℕ
 behind_piece (Closed rest) = rest.now
 behind_piece (Space rest) = rest.now
 behind_piece (Part spelled rest) = rest.now
-
--- the pieces behind those that were read and the closing brace, at most so many
-abbrev pub pieces_in : (ℕ → Bool) → ℕ → List Spelled → Text → Outcome (List Spelled)
-pieces_in white_space zero read t = ended
-pieces_in white_space (suc most) read [] = ended
-pieces_in white_space (suc most) read (c ∷ t) =
-    if c ∈ "}" then got read t
-    else if white_space c then pieces_in white_space most read t
-    else if c ∈ "\\"
-    then and_then (letters_in white_space in_string (c ∷ t) t) (λ s u. pieces_in white_space most (read ++ s ∷ []) u)
-    else pieces_in white_space most (read ++ itself c ∷ []) t
 
 -- The string has the characters of the pieces of the text, and they and the closing brace come before the rest.
 pub record PiecesAre (white_space text string rest : List ℕ) : Type 0 where

@@ -10,7 +10,7 @@ use Rattle.uset_grammar.specs.Escape.{Apart, Spelled, itself, numbers, codes_of}
 use Rattle.uset_grammar.specs.EscapeSlips.{Around, in_string, in_bracket, EscapeOutcome}
 use Rattle.uset_read.specs.declared.stop.Stop.{Stop}
 use Rattle.uset_read.specs.UnitRead.{StopsAt}
-use Rattle.uset_read.specs.Reading.{later_in, number_in, first_digit_in, number_at as number_behind, at_next_in, sole_in, all_in, two_digits_in, four_digits_in, long_escape, next_in, braced_in, brace_or, letters_in}
+use Rattle.uset_grammar.specs.EscapeParts.{later_in, number_in, first_digit_in, number_at as number_behind, at_next_in, sole_in, all_in, two_digits_in, four_digits_in, long_escape, next_in, braced_in, brace_or, letters_in}
 use Rattle.uset_read.specs.declared.escape.Around.{Around as CodeAround}
 use Rattle.uset_read.specs.declared.escape.Around.TheVariants.{String, Bracket}
 use Rattle.uset_read.specs.declared.escape.Spelled.{Spelled as CodeSpelled}
@@ -30,7 +30,7 @@ spelled_seen (Numbers first more) = numbers (first ∷ more.items)
 abbrev pub spelled_codes : CodeSpelled → List ℕ
 spelled_codes spelled = codes_of (spelled_seen spelled)
 
--- what follows the numbers of an escape in braces: none, or a further number
+-- what follows the numbers of an escape in braces: the closing brace, or a further number
 abbrev pub next_seen : Next → Outcome (Option ℕ)
 next_seen (Closed rest) = got None (chars rest.now)
 next_seen (Number n rest) = got (Some n) (chars rest.now)

@@ -7,13 +7,15 @@ ghost use Rattle.cp_invlist.specs.InversionList.{contains};
 ghost use Rattle.uset_grammar.specs.EscapeSlips.{in_string, allowed};
 ghost use Rattle.uset_read.specs.Spelled.{spelled_codes, spelled_seen};
 ghost use Rattle.uset_read.specs.Stops.{left_at, Tells};
-ghost use Rattle.uset_read.specs.Pieces.{Pushed, is_character, piece_in, piece_seen, behind_piece, PiecesAre, PiecesStop, StringIs, StringStops};
+ghost use Rattle.uset_grammar.specs.StringParts.{piece_in};
+ghost use Rattle.uset_read.specs.Pieces.{Pushed, is_character, piece_seen, behind_piece, PiecesAre, PiecesStop, StringIs, StringStops};
 
 use crate::escape::{Around, Spelled, read_letter};
 use crate::stop::{Kind, Stop};
 use crate::text::{push_char, take_first};
 use cp_invlist::{CodePointInversionList, NoMemory};
 use std::alloc::Global;
+use uset_grammar::laws::units_by_parts;
 
 /// What stands in a string in braces.
 #[derive(Drop)]
@@ -106,6 +108,7 @@ fn read_pieces<'a>(
     ensures within { IfOk result (λ p. length p.1.now ≤ length text.now) }
     ensures place { IfErr result (λ stop. left_at stop ≤ length text.now) }
 {
+    units_by_parts();
     let mut string = String::new(alloc);
     let mut rest = text;
     loop {
@@ -122,7 +125,9 @@ fn read_pieces<'a>(
     }
 }
 
-/// Reads the string at the front of the text, which begins with its opening brace.
+/// Reads the string at the front of the text, which begins with its opening brace. The answer is the string and the text behind
+/// its closing brace. `Stop` says at which rest of the text which fault is, that the text ends inside the string, or that memory
+/// was refused.
 pub fn read_string<'a>(
     alloc: Global,
     white_space: &CodePointInversionList,
@@ -133,6 +138,7 @@ pub fn read_string<'a>(
     ensures shorter { IfOk result (λ p. length p.1.now < length text.now) }
     ensures place { IfErr result (λ stop. left_at stop ≤ length text.now) }
 {
+    units_by_parts();
     let (_, inner) = take_first(text)?;
     read_pieces(alloc, white_space, inner)
 }

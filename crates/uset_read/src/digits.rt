@@ -3,13 +3,13 @@ ghost use Rattle.std.specs.Prelude.{◌<◌, ◌≤◌, ◌*◌, ◌+◌, ◌^�
 ghost use Rattle.std.specs.Str.{chars};
 ghost use Rattle.uset_grammar.specs.Outcome.{got};
 ghost use Rattle.uset_read.specs.Stops.{left_at, with_rest, Tells};
-ghost use Rattle.uset_read.specs.Reading.{digit_in, two_digits_in, four_digits_in, last_digit_in, six_digits_in};
+ghost use Rattle.uset_grammar.specs.EscapeParts.{digit_in, two_digits_in, four_digits_in, last_digit_in, six_digits_in};
 
 use crate::stop::{Kind, Stop};
 use crate::text::take_first;
 
 /// Reads a hexadecimal digit onto the number.
-#[tactic(auto, unfolding(crate::specs::Reading::digit_in, uset_grammar::specs::Escape::is_hex))]
+#[tactic(auto, unfolding(uset_grammar::specs::EscapeParts::digit_in, uset_grammar::specs::Escape::is_hex))]
 pub(crate) fn read_digit(number: u32, text: &str) -> Result<(u32, &str), Stop<'_>>
     requires { number < 2 ^ 24 }
     ensures parts { Tells (digit_in number (chars text.now)) with_rest result }
@@ -26,7 +26,7 @@ pub(crate) fn read_digit(number: u32, text: &str) -> Result<(u32, &str), Stop<'_
 }
 
 /// Reads two hexadecimal digits onto the number.
-#[tactic(auto, unfolding(crate::specs::Reading::two_digits_in))]
+#[tactic(auto, unfolding(uset_grammar::specs::EscapeParts::two_digits_in))]
 pub(crate) fn read_two_digits(number: u32, text: &str) -> Result<(u32, &str), Stop<'_>>
     requires { number < 2 ^ 16 }
     ensures parts { Tells (two_digits_in number (chars text.now)) with_rest result }
@@ -40,7 +40,7 @@ pub(crate) fn read_two_digits(number: u32, text: &str) -> Result<(u32, &str), St
 }
 
 /// Reads four hexadecimal digits onto the number.
-#[tactic(auto, unfolding(crate::specs::Reading::four_digits_in))]
+#[tactic(auto, unfolding(uset_grammar::specs::EscapeParts::four_digits_in))]
 pub(crate) fn read_four_digits(number: u32, text: &str) -> Result<(u32, &str), Stop<'_>>
     requires { number < 2 ^ 8 }
     ensures parts { Tells (four_digits_in number (chars text.now)) with_rest result }
@@ -54,7 +54,7 @@ pub(crate) fn read_four_digits(number: u32, text: &str) -> Result<(u32, &str), S
 }
 
 /// Reads the sixth hexadecimal digit of a number.
-#[tactic(auto, unfolding(crate::specs::Reading::last_digit_in, uset_grammar::specs::Escape::is_above))]
+#[tactic(auto, unfolding(uset_grammar::specs::EscapeParts::last_digit_in, uset_grammar::specs::Escape::is_above))]
 fn read_last_digit(number: u32, text: &str) -> Result<(u32, &str), Stop<'_>>
     requires { number < 2 ^ 24 }
     ensures parts { Tells (last_digit_in number (chars text.now)) with_rest result }
@@ -70,7 +70,7 @@ fn read_last_digit(number: u32, text: &str) -> Result<(u32, &str), Stop<'_>>
 }
 
 /// Reads a number of six hexadecimal digits.
-#[tactic(auto, unfolding(crate::specs::Reading::six_digits_in))]
+#[tactic(auto, unfolding(uset_grammar::specs::EscapeParts::six_digits_in))]
 pub(crate) fn read_six_digits(text: &str) -> Result<(u32, &str), Stop<'_>>
     ensures parts { Tells (six_digits_in (chars text.now)) with_rest result }
     ensures shorter { IfOk result (λ p. length p.1.now < length text.now) }

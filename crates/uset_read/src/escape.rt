@@ -12,6 +12,7 @@ use crate::stop::{Kind, Stop};
 use crate::text::{read_char, skip_white_space, take_first};
 use cp_invlist::CodePointInversionList;
 use std::alloc::Global;
+use uset_grammar::laws::units_by_parts;
 
 /// Where an escape stands.
 #[derive(Clone, Copy, Drop)]
@@ -99,7 +100,7 @@ fn read_further_digits<'a>(
 }
 
 /// Reads a number of one to six digits, behind another one or not.
-#[tactic(auto, unfolding(crate::specs::Reading::digit_in, uset_grammar::specs::Escape::is_hex))]
+#[tactic(auto, unfolding(uset_grammar::specs::EscapeParts::digit_in, uset_grammar::specs::Escape::is_hex))]
 fn read_number(around: Around, later: bool, text: &str) -> Result<(u32, &str), Stop<'_>>
     ensures parts { Tells (number_at around later text.now) with_rest result }
     ensures shorter { IfOk result (λ p. length p.1.now < length text.now) }
@@ -371,7 +372,8 @@ pub(crate) fn read_letter<'a>(
     }
 }
 
-/// Reads the escape at the front of the text, which begins with its backslash.
+/// Reads the escape at the front of the text, which begins with its backslash. The answer is what it spells and the text behind
+/// it. `Stop` says at which rest of the text which fault is, that the text ends inside the escape, or that memory was refused.
 pub fn read_escape<'a>(
     alloc: Global,
     white_space: &CodePointInversionList,
@@ -383,6 +385,7 @@ pub fn read_escape<'a>(
     ensures shorter { IfOk result (λ p. length p.1.now < length text.now) }
     ensures place { IfErr result (λ stop. left_at stop ≤ length text.now) }
 {
+    units_by_parts();
     let (_, inner) = take_first(text)?;
     read_letter(alloc, white_space, around, text, inner)
 }

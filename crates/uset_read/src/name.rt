@@ -7,6 +7,7 @@ ghost use Rattle.uset_read.specs.Names.{name_at, NameIs};
 
 use crate::text::split_first;
 use cp_invlist::CodePointInversionList;
+use uset_grammar::laws::cut_by_a_test;
 
 /// The text without the characters of the set in front.
 fn skip_all<'a>(set: &CodePointInversionList, text: &'a str) -> &'a str
@@ -37,6 +38,7 @@ pub fn read_name<'a>(
     if !start.contains32(first as u32) {
         return None;
     }
+    cut_by_a_test();
     let rest = skip_all(continuing, behind);
     Some((&text[..text.len() - rest.len()], rest))
 }

@@ -7,12 +7,14 @@ ghost use Rattle.uset_grammar.specs.Outcome.{got};
 ghost use Rattle.uset_grammar.specs.Property.{mark};
 ghost use Rattle.uset_read.specs.Stops.{left_at, with_rest, Tells};
 ghost use Rattle.uset_read.specs.Pieces.{Appended};
-ghost use Rattle.uset_read.specs.Queries.{form_seen, key_read, value_read, query_read, is_nothing, caret_in, posix_front_in, perl_front_in, front_in, key_part, key_at, value_at, with_value_at, query_at, close_in, PropertyIs, PropertyStops};
+ghost use Rattle.uset_grammar.specs.PropertyParts.{is_nothing, caret_in, posix_front_in, perl_front_in, front_in, key_part, close_in};
+ghost use Rattle.uset_read.specs.Queries.{form_seen, key_part_seen, key_read, value_read, query_read, key_at, value_at, with_value_at, query_at, PropertyIs, PropertyStops};
 
 use crate::stop::{Kind, Stop};
 use crate::text::{push_char, read_char, split_first, take_first};
 use cp_invlist::CodePointInversionList;
 use std::alloc::Global;
+use uset_grammar::laws::units_by_parts;
 
 /// How a property is written.
 #[derive(Clone, Copy, Drop)]
@@ -131,7 +133,7 @@ fn read_front(text: &str) -> Result<(Form, bool, &str), Stop<'_>>
 /// What the character is to a key.
 #[tactic(auto, unfolding(uset_grammar::specs::Property::is_key))]
 fn key_part(white_space: &CodePointInversionList, form: Form, c: char) -> KeyPart
-    ensures { result ≡ key_part (contains white_space.now) (form_seen form) c }
+    ensures { key_part_seen result ≡ key_part (contains white_space.now) (form_seen form) c }
 {
     if c == mark(form) {
         return KeyPart::Ends(Sign::Mark);
@@ -251,7 +253,8 @@ fn read_inner<'a>(
 }
 
 /// Reads the property at the front of the text, which begins with `[:` or a backslash, up to its end
-/// mark, at which the rest begins. Whether it resolves comes before what closes it.
+/// mark, at which the rest begins. Whether it resolves comes before what closes it. The answer is how it is written, what it asks
+/// and the rest. `Stop` says at which rest of the text which fault is, that the text ends inside it, or that memory was refused.
 pub fn read_property<'a>(
     alloc: Global,
     white_space: &CodePointInversionList,
@@ -262,12 +265,14 @@ pub fn read_property<'a>(
     ensures place { IfErr result (λ stop. left_at stop ≤ length text.now) }
     ensures shorter { IfOk result (λ p. length p.2.now < length text.now) }
 {
+    units_by_parts();
     let (form, negated, inner) = read_front(text)?;
     let (query, rest) = read_inner(alloc, white_space, form, negated, inner)?;
     Ok((form, query, rest))
 }
 
-/// Reads the end mark of a property and the `]` behind that of `[:..:]`.
+/// Reads the end mark of a property and the `]` behind that of `[:..:]`. The answer is the text behind them. `Stop` says that
+/// another character stands there, or that the text ends.
 pub fn close_property(form: Form, text: &str) -> Result<&str, Stop<'_>>
     ensures parts { Tells (close_in (form_seen form) (chars text.now)) (λ rest. got tt (chars rest.now)) result }
     ensures place { IfErr result (λ stop. left_at stop ≤ length text.now) }

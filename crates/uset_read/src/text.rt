@@ -5,12 +5,13 @@ ghost use Rattle.std.specs.String.{string_bytes};
 ghost use Rattle.cp_invlist.specs.InversionList.{contains};
 ghost use Rattle.uset_grammar.specs.Text.{skip};
 ghost use Rattle.uset_grammar.specs.Outcome.{got};
-ghost use Rattle.uset_read.specs.Reading.{char_in};
+ghost use Rattle.uset_grammar.specs.Parts.{char_in};
 ghost use Rattle.uset_read.specs.Pieces.{Appended};
 ghost use Rattle.uset_read.specs.Stops.{left_at, Tells};
 ghost use Rattle.uset_read.specs.declared.stop.Stop.TheVariants.{Ended as IsEnded};
 
 use crate::stop::{Kind, Stop};
+use cp_invlist::laws::members_are_below_the_last;
 use cp_invlist::{CodePointInversionList, NoMemory};
 
 /// The first character, and the text behind it.
@@ -65,6 +66,7 @@ pub(crate) fn push_char(string: &mut String, c: char) -> Result<(), NoMemory>
 fn is_white_space(white_space: &CodePointInversionList, c: char) -> bool
     ensures { result ≡ contains white_space.now c }
 {
+    members_are_below_the_last();
     let Some(end) = white_space.get_inversion_list().last() else {
         return false;
     };

@@ -28,7 +28,8 @@ use Rattle.uset_read.specs.declared.stop.Kind.{Kind as CodeKind}
 use Rattle.uset_read.specs.declared.stop.Stop.{Stop}
 use Rattle.uset_read.specs.declared.stop.Stop.TheVariants.{Fault}
 use Rattle.uset_read.specs.Stops.{Stops}
-use Rattle.uset_read.specs.Queries.{form_seen, query_seen, close_in, PropertyIs, PropertyStops}
+use Rattle.uset_grammar.specs.PropertyParts.{close_in}
+use Rattle.uset_read.specs.Queries.{form_seen, query_seen, PropertyIs, PropertyStops}
 use Rattle.uset_reader.specs.declared.syntax.Syntax.{Syntax}
 use Rattle.uset_resolve.specs.declared.query.Resolution.{Resolution}
 use Rattle.uset_resolve.specs.Resolution.{resolve_bytes, lacking_bytes}

@@ -51,7 +51,7 @@ abbrev pub SortIs : CodeSort → Sort → Type 0
 SortIs Variable s = s ≡ of_variable_name
 SortIs Written s = (s ≡ of_variable_name) → ⊥
 
--- the brackets and the text in front of which the reader stands in the source
+-- the text in front of which the reader stands is a rest of the source
 pub record Before (source text : List ℕ) : Type 0 where
   pub before : Text
   pub is : chars source ≡ before ++ chars text
@@ -112,7 +112,7 @@ ClosesAs source outer b text rest new_outer new result =
     (l : Language) (units : UnitReader l) → Before source text →
     ForAll l outer b (λ o os. TurnedTo l (closed l units (chars source) o os (chars text) (chars rest) (arrange o.items)) new_outer new result)
 
--- a rest that goes on is shorter
+-- the rest is shorter, whether the reader goes on or is done
 abbrev pub IsShorter : Progress → List ℕ → Type 0
 IsShorter (GoesOn rest) left = length rest.now < length left
 IsShorter (Done set rest) left = length rest.now < length left

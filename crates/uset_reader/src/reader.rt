@@ -95,7 +95,8 @@ fn read_property<'a>(
     Ok((named.set.gathered(alloc)?, cursor.at(rest)))
 }
 
-/// Reads the set at the front of the source. The answer is the set, and the cursor behind it.
+/// Reads the set at the front of the source. The answer is the set, and the cursor behind it. The error is a fault of the source
+/// with its place, or says that memory was refused.
 pub fn read_set<'a>(
     alloc: Global,
     syntax: &Syntax<'_>,

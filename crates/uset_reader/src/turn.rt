@@ -183,8 +183,8 @@ fn open<'v, 'a>(
 ) -> Result<Progress<'a>, ParseError>
     requires within { length text.now ≤ length (left_of cursor) }
     requires behind { length inner.now < length (left_of cursor) }
-    ensures opens { Opens
-        (source_of cursor.entry) outer.old.items bracket.old opening text.now inner.now outer.new.items bracket.new result }
+    ensures opens { Opens (source_of cursor.entry) outer.old.items bracket.old opening text.now inner.now
+        outer.new.items bracket.new result }
     ensures shorter { IfOk result (λ p. IsShorter p (left_of cursor.entry)) }
 {
     laws::turns();

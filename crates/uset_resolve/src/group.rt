@@ -67,8 +67,8 @@ fn taken(
     range: CodePointRange,
     passes: bool,
 ) -> Result<Option<CodePointRange>, NoMemory>
-    ensures held { IfOk result (λ new. Touches begun range → (c : ℕ) →
-        (contains builder.new c || is_held new c) ≡ ((contains builder.old c || is_held begun c) || (in_code_points range c && passes))) }
+    ensures held { IfOk result (λ new. Touches begun range → (c : ℕ) → (contains builder.new c || is_held new c) ≡
+        ((contains builder.old c || is_held begun c) || (in_code_points range c && passes))) }
     ensures ends { IfOk result (λ new. Touches begun range → EndsBefore (range.end + 1) new) }
 {
     if passes {

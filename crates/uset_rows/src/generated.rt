@@ -1,6 +1,5 @@
 //! Patterns that a number tells, and the sizes of their sets.
-use crate::fixtures::{SYNTAX, assert_equal, assert_holds, is_answered, words_of};
-use crate::run_in_memory;
+use crate::fixtures::{SYNTAX, assert_holds, is_answered, words_of};
 use std::alloc::{AllocError, Global};
 use std::process::Abort;
 
@@ -35,17 +34,19 @@ fn assert_answered(rt: &impl Abort, alloc: Global, words: &[&str], expected: &st
     assert!(rt; holds, "for {words:?}, expected {expected}");
 }
 
-/// Numbers, and the sizes of their patterns' sets.
-const SMALL: &[(&str, &str)] = &[
+/// Numbers, the last of them the greatest, and the sizes of their patterns' sets.
+const SIZES: &[(&str, &str)] = &[
     // The pattern is `[[\u{c67ea}-\u{c67ea}]]`.
     ("1", "bytes 23\nranges 1\npoints 1\n"),
     // 8CCD1 alone, and 214B5 to 214B6.
     ("2", "bytes 44\nranges 2\npoints 3\n"),
+    // By a model of its own.
+    ("10000", "bytes 208638\nranges 9503\npoints 43955\n"),
 ];
 
 #[test]
-fn small_patterns_are_measured(rt: HostRuntime) {
-    for (number, expected) in SMALL {
+fn patterns_are_measured(rt: HostRuntime) {
+    for (number, expected) in SIZES {
         assert_answered(&rt, rt.alloc(), &["gen", number], expected, 0);
     }
 }
@@ -83,25 +84,4 @@ fn a_table_is_absent_or_has_a_fault(rt: HostRuntime) {
         let holds = ends(rt.alloc(), &["gen", "1"], input, expected, *code);
         assert_holds(&rt, holds, input, expected);
     }
-}
-
-/// Whether two runs with these words over the tables end alike, with the status 0.
-fn end_alike(alloc: Global, words: &Vec<String>, tables: &str) -> Result<bool, AllocError> {
-    let input = tables.as_bytes().to_vec(alloc)?;
-    let again = tables.as_bytes().to_vec(alloc)?;
-    let (status, first) = run_in_memory(alloc, words, input);
-    let (other, second) = run_in_memory(alloc, words, again);
-    Ok((status.code(), other.code()) == (0, 0) && first.written() == second.written())
-}
-
-/// Whether two runs over the longest pattern end alike, with the status 0.
-fn longest_ends_alike(alloc: Global) -> Result<bool, AllocError> {
-    let tables = format!(in alloc; "{SYNTAX}end\n")?;
-    let words = words_of(alloc, &["gen", "10000"])?;
-    end_alike(alloc, &words, &tables)
-}
-
-#[test]
-fn the_longest_pattern_is_measured_alike_twice(rt: HostRuntime) {
-    assert_equal(&rt, longest_ends_alike(rt.alloc()), Ok(true));
 }

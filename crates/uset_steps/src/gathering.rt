@@ -9,8 +9,9 @@ use std::mem::replace;
 use uset_gather::{Gathered, Operand};
 use uset_read::Query;
 
-/// What a bracket gathers. From the first large set with a name on, steps are put off: once the set is needed, a set that was
-/// named again and again is gathered no more than twice. So each step costs no more than its name does.
+/// What a bracket gathers. From the first large set with a name on, steps are put off until the set is needed, or about 8 MB
+/// are kept: then a set that was named again and again is gathered no more than twice. So each step costs no more than its name
+/// does.
 pub struct Gathering<'a> {
     gathered: Gathered,
     later: Option<Box<Later<'a>>>,
@@ -48,6 +49,7 @@ impl<'a> Gathering<'a> {
     pub fn new(alloc: Global) -> Gathering<'a>
         ensures members { (m : Member) → gathering_in result m ≡ false }
         ensures names { (sets : Sets) → Fits sets result }
+        ensures kept { (place : Place) → kept_at result place ≡ None }
     {
         Gathering {
             gathered: Gathered::new(alloc),
@@ -132,8 +134,8 @@ impl<'a> Gathering<'a> {
         operation: Operation,
         named: Named<'a>,
     ) -> Result<(), NoMemory>
-        ensures becomes { OnOk result ((sets : Sets) → Fits sets self.old → IsSetOf sets named.entry →
-            BecomesWith sets self.new (λ m. operated operation (named_in named.entry.set m) (gathering_in self.old m))) }
+        ensures becomes { OnOk result ((sets : Sets) → Fits sets self.old → IsSetOf sets named.entry → BecomesWith
+            sets self.new (λ m. operated operation (named_in named.entry.set m) (gathering_in self.old m))) }
         ensures kept { OnOk result
             (is_large named.entry.set ≡ true → IsSomewhere self.new (name_seen named.entry.name)) }
     {
@@ -168,6 +170,7 @@ impl<'a> Gathering<'a> {
     pub fn gather_again(&mut self, operation: Operation, place: Place) -> Result<(), NoMemory>
         ensures gathers { OnOk result (GathersKept operation place self.old self.new) }
         ensures elsewhere { OnOk result (kept_at self.old place ≡ None → Settles self.old self.new) }
+        ensures places { OnOk result (KeepsPlaces self.old self.new) }
     {
         match &mut self.later {
             Some(later) => later.put_off_again(operation, place.index),
@@ -175,10 +178,13 @@ impl<'a> Gathering<'a> {
         }
     }
 
-    /// Moves out the set of what was gathered, or where it is negated that of the other code points.
+    /// Moves out the set of what was gathered, or where it is negated that of the other code points. Nothing is left then.
     #[inline]
     pub fn close(&mut self, alloc: Global, negated: bool) -> Result<Gathered, NoMemory>
-        ensures { IfOk result (λ set. (m : Member) → gathered_in set m ≡ closed negated m (gathering_in self.old m)) }
+        ensures set { IfOk result
+            (λ set. (m : Member) → gathered_in set m ≡ closed negated m (gathering_in self.old m)) }
+        ensures emptied { OnOk result ((m : Member) → gathering_in self.new m ≡ false) }
+        ensures forgotten { OnOk result ((place : Place) → kept_at self.new place ≡ None) }
     {
         if self.later.is_some() {
             self.settle(alloc)?;

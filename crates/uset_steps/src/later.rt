@@ -141,6 +141,7 @@ impl<'a> Later<'a> {
     ) -> Result<(), NoMemory>
         ensures gathers { OnOk result (GathersAgain operation place self.old self.new) }
         ensures elsewhere { slice_get self.old.sets.items place ≡ None → self.new ≡ self.old }
+        ensures places { self.new.places ≡ self.old.places }
     {
         if place < self.sets.len() {
             self.steps.push(Step::Named(operation, place))?;

@@ -34,7 +34,9 @@ impl Drop for NamedSet<'_> {
 
 /// A set with its name.
 pub struct Named<'a> {
+    /// What the set is called in the pattern.
     pub name: Name,
+    /// The set that the name stands for.
     pub set: NamedSet<'a>,
 }
 

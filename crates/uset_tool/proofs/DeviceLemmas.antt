@@ -53,6 +53,6 @@ refused_front (Some bytes) now new input buf n taken read within =
     let here = rw left at read in
     (length input + n, within, here.2 ∙ ap Some (sym (ap (drop (length input + n)) parts ∙ drop-append-add input rest n)))
 
-pub stops_refused : {X : Type 0} (result : Result X InputError) (old new : Option (List ℕ)) (faults faults_now : ℕ) → IsErrAnd result (λ e. e ≡ NoMemory) → IfSome old (λ bytes. TookFront bytes new (limit + 1)) → IfErr result (λ e. Stops e old new faults faults_now)
-stops_refused (Ok x) old new faults faults_now refused front = tt
-stops_refused (Err e) old new faults faults_now refused front = rw refused front
+pub stops_refused : {X : Type 0} (result : Result X InputError) (old new : Option (List ℕ)) → IsErrAnd result (λ e. e ≡ NoMemory) → IfSome old (λ bytes. TookFront bytes new (limit + 1)) → IfErr result (λ e. Stops e old new)
+stops_refused (Ok x) old new refused front = tt
+stops_refused (Err e) old new refused front = rw refused front

@@ -5,7 +5,7 @@ use Rattle.std.proofs.lemmas.List.Sums.{sum_by-cons}
 use Rattle.std.specs.Str.{chars}
 use Rattle.text_lines.specs.Lines.{lines}
 use Rattle.cp_invlist.specs.declared.ranges.CodePointRange.{CodePointRange}
-use Rattle.cp_invlist.specs.Ranges.{AreMaximalRanges}
+use Rattle.cp_invlist.specs.Laws.{OneListOfRanges}
 use Rattle.cp_invlist.specs.Size.{range_size}
 use Rattle.prop_data.specs.declared.error.LoadError.{LoadError}
 use Rattle.prop_data.specs.declared.error.LoadError.TheVariants.{Table, NoMemory as LoadRefused}
@@ -48,7 +48,7 @@ generate_error_writes n input (Table fault) old new result is h =
 generate_error_writes n input LoadRefused old new result is (same, refused_is) = rw (same, refused_is) (memory_refused (Generates n input) old)
 
 -- the laws by which the pattern has one answer
-module _ (allowed : SetsAreAllowed) (one : OneAnswer) (one_list : (m : ℕ → Bool) (rs qs : List CodePointRange) → AreMaximalRanges m rs → AreMaximalRanges m qs → rs ≡ qs) where
+module _ (allowed : SetsAreAllowed) (one : OneAnswer) (one_list : OneListOfRanges) where
   one_sizes : (n : ℕ) (input : List ℕ) → table_fault (lines input) ≡ None → (text : List ℕ) (err : Bool) → SizesAnswer (language_of no_variables (tables_in (lines input))) (pattern_of n) text err →
       (t : List ℕ) (s : Status) → Generates n input t s → t ≡ text
   one_sizes n input none text err answer _ _ (faulty_database fault e) = absurd (no_fault_here _ fault none e)

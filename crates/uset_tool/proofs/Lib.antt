@@ -2,6 +2,7 @@ pub mod AnswerLemmas
 pub mod Linked
 pub mod Padding
 pub mod DeviceLemmas
+pub mod CountLemmas
 pub mod Listing
 pub mod TextLines
 pub mod Once

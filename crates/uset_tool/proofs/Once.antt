@@ -3,9 +3,9 @@ use Rattle.std.proofs.Common.{◌≡◌, ℕ, Bool, false, ◌||◌, List, [], �
 use Rattle.std.proofs.lemmas.Bool.{both_ways}
 use Rattle.std.specs.Str.{chars}
 use Rattle.std.proofs.Math.Bool.{or_assoc, or-false}
-use Rattle.cp_invlist.specs.declared.ranges.CodePointRange.{CodePointRange}
+use Rattle.cp_invlist.specs.Laws.{OneListOfRanges}
+use Rattle.cp_strset.specs.Laws.{OneListOfStrings}
 use Rattle.cp_invlist.specs.Ranges.{AreMaximalRanges}
-use Rattle.cp_strset.specs.StringList.{holds, AreCanonical}
 use Rattle.prop_data.specs.Forbidden.{AreAllowed}
 use Rattle.prop_data.specs.Laws.{SetsAreAllowed, SetsAreBounded}
 use Rattle.prop_data.specs.Tables.{Tables}
@@ -31,8 +31,8 @@ use Rattle.uset_tool.specs.Answer.{Variables, with_binding, PatternAnswer, read,
 -- under these tables: the laws of the language, of maximal ranges and of lists of strings
 pub record Laws (tables : Tables) : Type 0 where
   pub one_answer : (variables : Variables) (source : Text) → (a : Answer) × IsAnswer (language_of variables tables) source a
-  pub one_list_of_ranges : (m : ℕ → Bool) (rs qs : List CodePointRange) → AreMaximalRanges m rs → AreMaximalRanges m qs → rs ≡ qs
-  pub one_list : (a b : List (List ℕ)) → AreCanonical a → AreCanonical b → ((bytes : List ℕ) → holds a bytes ≡ holds b bytes) → a ≡ b
+  pub one_list_of_ranges : OneListOfRanges
+  pub one_list : OneListOfStrings
 
 -- the same laws under all tables that a table text may mean, and those by which there is an answer
 pub record RunLaws : Type 0 where
@@ -43,8 +43,8 @@ pub record RunLaws : Type 0 where
   pub bounded_sources : SourcesAreBounded
   pub finite_sets : FiniteSets
   pub rests_are_last : RestsAreLast
-  pub one_list_of_ranges : (m : ℕ → Bool) (rs qs : List CodePointRange) → AreMaximalRanges m rs → AreMaximalRanges m qs → rs ≡ qs
-  pub one_list : (a b : List (List ℕ)) → AreCanonical a → AreCanonical b → ((bytes : List ℕ) → holds a bytes ≡ holds b bytes) → a ≡ b
+  pub one_list_of_ranges : OneListOfRanges
+  pub one_list : OneListOfStrings
 
 pub laws_of : RunLaws → (tables : Tables) → AreAllowed tables → Laws tables
 laws_of laws tables allowed = record {
@@ -90,8 +90,7 @@ pattern_once laws variables source _ _ _ _ (fault h) (fault k) =
     (ap₂ (λ kind offset. fault_text kind offset source) one.0 one.1, refl)
 
 -- a pattern that is measured has one answer
-pub sizes_once : {l : Option Language} {source : List ℕ} → (a : Answer) × IsAnswer l (chars source) a →
-    ((m : ℕ → Bool) (rs qs : List CodePointRange) → AreMaximalRanges m rs → AreMaximalRanges m qs → rs ≡ qs) →
+pub sizes_once : {l : Option Language} {source : List ℕ} → (a : Answer) × IsAnswer l (chars source) a → OneListOfRanges →
     (t u : List ℕ) (e f : Bool) → SizesAnswer l source t e → SizesAnswer l source u f → (t ≡ u) × (e ≡ f)
 sizes_once (answer, is) one_list _ _ _ _ (measured {tree} {rest} n rs h place maximal) (measured {tree = other} {rest = left} k qs h_too place_too maximal_too) =
     let one = one_reading answer is h h_too in

@@ -1,11 +1,34 @@
 -- What sources and sinks tell.
-use Rattle.std.specs.Prelude.{◌≡◌, ℕ, ◌+◌, ◌-◌, ◌^◌, ◌<◌, ◌≤◌, ◌⊎◌, List, [], ◌++◌, take, drop, length, Option, Some, IfSome, Result, Ok, Err}
+use Rattle.std.specs.Prelude.{◌≡◌, ℕ, ◌+◌, ◌-◌, ◌^◌, ◌<◌, ◌≤◌, ◌⊎◌, Bool, true, false, min, List, [], ◌++◌, take, drop, length, Option, Some, IfSome, Result, Ok, Err, if◌then◌else◌}
 use Rattle.uset_tool.specs.declared.input.InputError.{InputError}
 use Rattle.uset_tool.specs.declared.input.InputError.TheVariants.{Failed, TooLong, NoMemory}
+use Rattle.uset_tool.specs.declared.sink.WriteError.{WriteError}
+use Rattle.uset_tool.specs.declared.sink.WriteError.TheVariants.{Failed as WriteFailed, NoMemory as WriteRefused}
 
 -- the last value of a count of faults
 abbrev pub last_count : ℕ
 last_count = 2 ^ 64 - 1
+
+-- a count with one more, which stands still at its last value
+abbrev pub one_more : ℕ → ℕ
+one_more n = min (n + 1) last_count
+
+-- the count behind what may have failed
+abbrev pub count_after : Bool → ℕ → ℕ
+count_after failed n = if failed then one_more n else n
+
+-- a write failed, for another cause than want of memory
+abbrev pub has_failed : {X : Type 0} → Result X WriteError → Bool
+has_failed (Ok x) = false
+has_failed (Err WriteFailed) = true
+has_failed (Err WriteRefused) = false
+
+-- the source failed while the input was taken
+abbrev pub is_unread : {X : Type 0} → Result X InputError → Bool
+is_unread (Ok x) = false
+is_unread (Err Failed) = true
+is_unread (Err TooLong) = false
+is_unread (Err NoMemory) = false
 
 -- the count rose, or stands at its last value
 abbrev pub Rose : ℕ → ℕ → Type 0
@@ -68,9 +91,7 @@ abbrev pub TookFront : List ℕ → Option (List ℕ) → ℕ → Type 0
 TookFront input left most = (n : ℕ) × (n ≤ most) × (left ≡ Some (drop n input))
 
 -- why the input was not taken, and what was taken then
-abbrev pub Stops : InputError → Option (List ℕ) → Option (List ℕ) → ℕ → ℕ → Type 0
-Stops Failed old new faults faults_now =
-    Rose faults faults_now × IfSome old (λ bytes. TookFront bytes new limit)
-Stops TooLong old new faults faults_now =
-    IfSome old (λ bytes. (limit < length bytes) × (new ≡ Some (drop (limit + 1) bytes)))
-Stops NoMemory old new faults faults_now = IfSome old (λ bytes. TookFront bytes new (limit + 1))
+abbrev pub Stops : InputError → Option (List ℕ) → Option (List ℕ) → Type 0
+Stops Failed old new = IfSome old (λ bytes. TookFront bytes new limit)
+Stops TooLong old new = IfSome old (λ bytes. (limit < length bytes) × (new ≡ Some (drop (limit + 1) bytes)))
+Stops NoMemory old new = IfSome old (λ bytes. TookFront bytes new (limit + 1))

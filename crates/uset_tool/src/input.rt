@@ -1,6 +1,6 @@
 //! The input of a run.
-ghost use Rattle.std.specs.Prelude.{◌≤◌, IfOk, IfErr, length};
-ghost use Rattle.uset_tool.specs.Device.{TakesAll, Stops, limit};
+ghost use Rattle.std.specs.Prelude.{◌≡◌, ◌≤◌, IfOk, IfErr, length};
+ghost use Rattle.uset_tool.specs.Device.{TakesAll, Stops, limit, count_after, is_unread};
 
 use crate::source::{Failed, Source};
 use std::alloc::{AllocError, Global};
@@ -46,8 +46,8 @@ pub(crate) fn read_input<S: Source>(alloc: Global, source: &mut S) -> Result<Vec
     ensures whole { IfOk result (λ input. TakesAll (S.left source.old) (S.left source.new) input.items) }
     ensures short { IfOk result (λ input. length input.items ≤ limit) }
     ensures stopped { IfErr result
-        (λ e. Stops e (S.left source.old) (S.left source.new) (S.faults source.old) (S.faults source.new)) }
-    ensures counted { S.faults source.old ≤ S.faults source.new }
+        (λ e. Stops e (S.left source.old) (S.left source.new)) }
+    ensures counted { S.faults source.new ≡ count_after (is_unread result) (S.faults source.old) }
 {
     let mut input = Vec::new(alloc);
     let mut buffer = [0u8; 16384];

@@ -1,7 +1,7 @@
 //! Sources and sinks in memory that pass few bytes a call, and whose calls fail where that is asked.
 ghost use Rattle.std.specs.Prelude.{◌≡◌, ◌<◌, ◌≤◌, ◌+◌, min, length, vec_len, is_err, ◌↔◌, true, Err, IfOk, OnErr, if◌then◌else◌};
-ghost use Rattle.uset_tool.specs.Device.{ReadsFront, WritesFront, Rose};
-ghost use Rattle.uset_tool.specs.Memory.{one_more, is_among};
+ghost use Rattle.uset_tool.specs.Device.{ReadsFront, WritesFront, count_after, has_failed, one_more};
+ghost use Rattle.uset_tool.specs.Memory.{is_among};
 
 use crate::sink::{Sink, WriteError};
 use crate::source::{Failed, Source};
@@ -24,7 +24,7 @@ impl Calls {
         ensures failing { self.new.failing ≡ self.old.failing }
         ensures made { self.new.made ≡ one_more self.old.made }
         ensures faults { self.new.faults ≡
-            (if is_among self.old.failing.items self.old.made then one_more self.old.faults else self.old.faults) }
+            count_after (is_among self.old.failing.items self.old.made) self.old.faults }
     {
         let fails = self.failing.contains(&self.made);
         self.made = self.made.saturating_add(1);
@@ -63,7 +63,13 @@ impl Model for MemorySource {
 
     ghost Value = { Device };
 
-    ghost view = { λ s. record { bytes = drop s.place s.bytes.items; piece = s.piece; failing = s.calls.failing.items; calls = s.calls.made; faults = s.calls.faults } };
+    ghost view = { λ s. record {
+      bytes = drop s.place s.bytes.items;
+      piece = s.piece;
+      failing = s.calls.failing.items;
+      calls = s.calls.made;
+      faults = s.calls.faults;
+    } };
 
     ghost invariant = { λ s. (s.place ≤ vec_len s.bytes) × (0 < s.piece) };
 }
@@ -106,8 +112,7 @@ impl Source for MemorySource {
         requires { 0 < length buf.old }
         ensures within { IfOk result (λ n. n ≤ length buf.old) }
         ensures bytes { ReadsFront (Some self.old.bytes) (Some self.new.bytes) result buf.new }
-        ensures failed { OnErr result (Rose self.old.faults self.new.faults) }
-        ensures counted { self.old.faults ≤ self.new.faults }
+        ensures counted { self.new.faults ≡ count_after (is_err result) self.old.faults }
         ensures fails { is_err result ≡ next_fails self.old }
         ensures taken { IfOk result (λ n. n ≡ min self.old.piece (min (length buf.old) (length self.old.bytes))) }
         ensures counts { CountsCall self.old self.new }
@@ -148,7 +153,13 @@ impl Model for MemorySink {
 
     ghost Value = { Device };
 
-    ghost view = { λ s. record { bytes = s.bytes.items; piece = s.piece; failing = s.calls.failing.items; calls = s.calls.made; faults = s.calls.faults } };
+    ghost view = { λ s. record {
+      bytes = s.bytes.items;
+      piece = s.piece;
+      failing = s.calls.failing.items;
+      calls = s.calls.made;
+      faults = s.calls.faults;
+    } };
 
     ghost invariant = { λ s. 0 < s.piece };
 }
@@ -191,13 +202,13 @@ impl Sink for MemorySink {
 
     ghost faults = { λ device. device.faults };
 
-    /// Appends as many bytes as the piece allows. It fails exactly where the number of the call is one of those that fail.
+    /// Appends as many bytes as the piece allows. It fails exactly where the number of the call is one of those that fail; want of
+    /// memory is an error of its own, and no failure.
     fn write(&mut self, buf: &[u8]) -> Result<usize, WriteError>
         requires { 0 < length buf.now }
         ensures within { IfOk result (λ n. (0 < n) × (n ≤ length buf.now)) }
         ensures bytes { WritesFront (Some self.old.bytes) (Some self.new.bytes) result buf.now }
-        ensures failed { result ≡ Err WriteError.Failed → Rose self.old.faults self.new.faults }
-        ensures counted { self.old.faults ≤ self.new.faults }
+        ensures counted { self.new.faults ≡ count_after (has_failed result) self.old.faults }
         ensures fails { (result ≡ Err WriteError.Failed) ↔ (next_fails self.old ≡ true) }
         ensures taken { IfOk result (λ n. n ≡ min self.old.piece (length buf.now)) }
         ensures counts { CountsCall self.old self.new }

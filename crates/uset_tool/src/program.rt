@@ -1,8 +1,9 @@
 //! A run of the program.
-ghost use Rattle.std.specs.Prelude.{◌≡◌, ◌≢◌, ◌≤◌, true, false, map, IfSome, codes, if◌then◌else◌};
+ghost use Rattle.std.specs.Prelude.{◌≡◌, true, false, map, IfSome, codes, if◌then◌else◌};
 ghost use Rattle.std.specs.String.{string_bytes};
-ghost use Rattle.uset_tool.specs.Device.{Rose, NoFault};
+ghost use Rattle.uset_tool.specs.Device.{Rose, NoFault, count_after};
 ghost use Rattle.uset_tool.specs.Commands.{command_seen};
+ghost use Rattle.uset_tool.specs.Status.{is_read_fault, is_write_fault};
 ghost use Rattle.uset_tool.specs.Words.{is_known, table_fault_text};
 ghost use Rattle.text_lines.specs.Lines.{lines};
 ghost use Rattle.prop_data.specs.Database.{tables_of};
@@ -31,9 +32,8 @@ use uset_parse::laws::one_answer as one_answer_of_a_source;
 fn say<K: Sink>(sink: &mut K, text: &str, wanted: Status) -> Status
     ensures says { Says (K.written sink.old) (K.written sink.new) text.now wanted result }
     ensures ends { EndsAs wanted result }
-    ensures failed { result ≡ Status.WriteFault → wanted ≢ Status.WriteFault →
-        Rose (K.faults sink.old) (K.faults sink.new) }
-    ensures counted { K.faults sink.old ≤ K.faults sink.new }
+    ensures counted { is_write_fault wanted ≡ false →
+        K.faults sink.new ≡ count_after (is_write_fault result) (K.faults sink.old) }
 {
     match write_all(sink, text.as_bytes()) {
         Ok(()) => wanted,
@@ -45,8 +45,7 @@ fn say<K: Sink>(sink: &mut K, text: &str, wanted: Status) -> Status
 /// Says the first fault of the table text.
 fn say_fault<K: Sink>(alloc: Global, fault: TableError, sink: &mut K) -> Status
     ensures says { Says (K.written sink.old) (K.written sink.new) (table_fault_text fault) Status.Tables result }
-    ensures failed { result ≡ Status.WriteFault → Rose (K.faults sink.old) (K.faults sink.new) }
-    ensures counted { K.faults sink.old ≤ K.faults sink.new }
+    ensures counted { K.faults sink.new ≡ count_after (is_write_fault result) (K.faults sink.old) }
 {
     match table_fault_text(alloc, fault) {
         Ok(text) => say(sink, &text, Status::Tables),
@@ -57,8 +56,7 @@ fn say_fault<K: Sink>(alloc: Global, fault: TableError, sink: &mut K) -> Status
 /// Says why the table text gave no database.
 fn say_load_error<K: Sink>(alloc: Global, error: LoadError, sink: &mut K) -> Status
     ensures says { SaysError error (K.written sink.old) (K.written sink.new) result }
-    ensures failed { result ≡ Status.WriteFault → Rose (K.faults sink.old) (K.faults sink.new) }
-    ensures counted { K.faults sink.old ≤ K.faults sink.new }
+    ensures counted { K.faults sink.new ≡ count_after (is_write_fault result) (K.faults sink.old) }
 {
     match error {
         LoadError::Table(fault) => say_fault(alloc, fault, sink),
@@ -69,8 +67,7 @@ fn say_load_error<K: Sink>(alloc: Global, error: LoadError, sink: &mut K) -> Sta
 /// Says how many tables of each kind there are.
 fn say_counts<K: Sink>(alloc: Global, database: &PropertyDatabase, sink: &mut K) -> Status
     ensures says { SaysCounts (tables_of database.now) (K.written sink.old) (K.written sink.new) result }
-    ensures failed { result ≡ Status.WriteFault → Rose (K.faults sink.old) (K.faults sink.new) }
-    ensures counted { K.faults sink.old ≤ K.faults sink.new }
+    ensures counted { K.faults sink.new ≡ count_after (is_write_fault result) (K.faults sink.old) }
 {
     match counts_text(alloc, database) {
         Ok(text) => say(sink, &text, Status::Done),
@@ -96,8 +93,7 @@ fn say_sizes<K: Sink>(
     sink: &mut K,
 ) -> Status
     ensures says { SaysSizes (tables_of database.now) count.number (K.written sink.old) (K.written sink.new) result }
-    ensures failed { result ≡ Status.WriteFault → Rose (K.faults sink.old) (K.faults sink.new) }
-    ensures counted { K.faults sink.old ≤ K.faults sink.new }
+    ensures counted { K.faults sink.new ≡ count_after (is_write_fault result) (K.faults sink.old) }
 {
     match answer_generated(alloc, count, database) {
         Ok(answer) => say(sink, &answer.text, status_of(answer.is_err)),
@@ -110,8 +106,7 @@ fn answer<K: Sink>(alloc: Global, script: &str, database: &PropertyDatabase, sin
     requires { AreAllowed (tables_of database.now) }
     ensures written { ScriptWrites (tables_of database.now) (lines script.now) (K.written sink.old)
         (K.written sink.new) result }
-    ensures failed { result ≡ Status.WriteFault → Rose (K.faults sink.old) (K.faults sink.new) }
-    ensures counted { K.faults sink.old ≤ K.faults sink.new }
+    ensures counted { K.faults sink.new ≡ count_after (is_write_fault result) (K.faults sink.old) }
 {
     match answer_script(alloc, script, database, sink) {
         Ok(false) => Status::Done,
@@ -125,8 +120,7 @@ fn answer<K: Sink>(alloc: Global, script: &str, database: &PropertyDatabase, sin
 fn eval<K: Sink>(alloc: Global, input: &str, sink: &mut K) -> Status
     ensures written { AppendsAnswer (Evaluates input.now) (K.written sink.old) (K.written sink.new) result }
     ensures status { is_of_text result ≡ true }
-    ensures failed { result ≡ Status.WriteFault → Rose (K.faults sink.old) (K.faults sink.new) }
-    ensures counted { K.faults sink.old ≤ K.faults sink.new }
+    ensures counted { K.faults sink.new ≡ count_after (is_write_fault result) (K.faults sink.old) }
 {
     allowed_sets();
     let (tables, script) = split_behind(input, b"end");
@@ -140,8 +134,7 @@ fn eval<K: Sink>(alloc: Global, input: &str, sink: &mut K) -> Status
 fn count<K: Sink>(alloc: Global, input: &str, sink: &mut K) -> Status
     ensures written { AppendsAnswer (Counts input.now) (K.written sink.old) (K.written sink.new) result }
     ensures status { is_of_text result ≡ true }
-    ensures failed { result ≡ Status.WriteFault → Rose (K.faults sink.old) (K.faults sink.new) }
-    ensures counted { K.faults sink.old ≤ K.faults sink.new }
+    ensures counted { K.faults sink.new ≡ count_after (is_write_fault result) (K.faults sink.old) }
 {
     match PropertyDatabase::from_text(alloc, input) {
         Ok(database) => say_counts(alloc, &database, sink),
@@ -154,8 +147,7 @@ fn generate<K: Sink>(alloc: Global, count: Count, input: &str, sink: &mut K) -> 
     ensures written { AppendsAnswer (Generates count.number input.now) (K.written sink.old)
         (K.written sink.new) result }
     ensures status { is_of_text result ≡ true }
-    ensures failed { result ≡ Status.WriteFault → Rose (K.faults sink.old) (K.faults sink.new) }
-    ensures counted { K.faults sink.old ≤ K.faults sink.new }
+    ensures counted { K.faults sink.new ≡ count_after (is_write_fault result) (K.faults sink.old) }
 {
     // The laws by which a pattern has one answer, so that what is written begins every answer.
     allowed_sets();
@@ -172,8 +164,7 @@ fn answer_text<K: Sink>(alloc: Global, command: Command, input: &str, sink: &mut
     ensures written { AppendsAnswer (Results (command_seen command) input.now)
         (K.written sink.old) (K.written sink.new) result }
     ensures status { is_of_text result ≡ true }
-    ensures failed { result ≡ Status.WriteFault → Rose (K.faults sink.old) (K.faults sink.new) }
-    ensures counted { K.faults sink.old ≤ K.faults sink.new }
+    ensures counted { K.faults sink.new ≡ count_after (is_write_fault result) (K.faults sink.old) }
 {
     match command {
         Command::Eval => eval(alloc, input, sink),
@@ -197,8 +188,8 @@ fn answer_words<S: Source, K: Sink>(
     ensures unknown { is_known (map string_bytes words.now.items) ≡ false → EndsAs Status.Usage result }
     ensures untouched { is_known (map string_bytes words.now.items) ≡ false → source.new ≡ source.old }
     ensures read_fault_words { result ≡ Status.ReadFault → is_known (map string_bytes words.now.items) ≡ true }
-    ensures read_fault { result ≡ Status.ReadFault → Rose (S.faults source.old) (S.faults source.new) }
-    ensures write_fault { result ≡ Status.WriteFault → Rose (K.faults sink.old) (K.faults sink.new) }
+    ensures reads_counted { S.faults source.new ≡ count_after (is_read_fault result) (S.faults source.old) }
+    ensures writes_counted { K.faults sink.new ≡ count_after (is_write_fault result) (K.faults sink.old) }
 {
     let Some(command) = find_command(words) else {
         return say(sink, "usage: uset COMMAND\n", Status::Usage);
@@ -239,6 +230,10 @@ pub fn run<S: Source, K: Sink>(
     ensures read_fault_words { result ≡ Status.ReadFault → is_known (map string_bytes words.now.items) ≡ true }
     ensures read_fault { result ≡ Status.ReadFault → Rose (S.faults source.old) (S.faults source.new) }
     ensures write_fault { result ≡ Status.WriteFault → Rose (K.faults sink.old) (K.faults sink.new) }
+
+    // A read and a write that failed are counted, and no other: so the run ended with the first that did.
+    ensures reads_counted { S.faults source.new ≡ count_after (is_read_fault result) (S.faults source.old) }
+    ensures writes_counted { K.faults sink.new ≡ count_after (is_write_fault result) (K.faults sink.old) }
 
     // The pattern that a number tells has a fault only where a table of the syntax is absent.
     ensures generated { IfSome (S.left source.old) (λ input.

@@ -5,7 +5,7 @@ ghost use Rattle.prop_data.specs.Database.{tables_of};
 ghost use Rattle.prop_data.specs.Forbidden.{AreAllowed};
 ghost use Rattle.uset_variables.specs.Variables.{no_variables};
 ghost use Rattle.uset_tool.specs.Answered.{AnswersScript};
-ghost use Rattle.uset_tool.specs.Device.{Rose};
+ghost use Rattle.uset_tool.specs.Device.{count_after, has_failed};
 
 use crate::binding::answer_line;
 use crate::sink::{Sink, WriteError, gather, write_all};
@@ -28,8 +28,7 @@ pub(crate) fn answer_script<K: Sink>(
     requires { AreAllowed (tables_of database.now) }
     ensures written { AnswersScript (tables_of database.now) no_variables (lines script.now) (K.written sink.old)
         (K.written sink.new) result }
-    ensures failed { result ≡ Err WriteError.Failed → Rose (K.faults sink.old) (K.faults sink.new) }
-    ensures counted { K.faults sink.old ≤ K.faults sink.new }
+    ensures counted { K.faults sink.new ≡ count_after (has_failed result) (K.faults sink.old) }
 {
     // The laws by which a line has one answer, so that what is written begins every answer.
     one_answer();

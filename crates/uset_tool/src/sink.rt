@@ -1,7 +1,7 @@
 //! Sinks of bytes.
 ghost use Rattle.std.specs.Prelude.{◌≡◌, ℕ, ◌+◌, ◌<◌, ◌≤◌, ◌++◌, List, [], Option, Some, length, IfOk, IfErr, OnOk, Err};
 ghost use Rattle.uset_tool.specs.Answered.{Gathers, StopsGathering};
-ghost use Rattle.uset_tool.specs.Device.{WritesFront, WritesText, Rose};
+ghost use Rattle.uset_tool.specs.Device.{WritesFront, WritesText, count_after, has_failed, one_more};
 
 use cp_invlist::NoMemory;
 use std::alloc::{AllocError, Global};
@@ -47,18 +47,16 @@ pub trait Sink {
     /// The bytes that were written, where the sink tells them.
     ghost written: { Self → Option (List ℕ) };
 
-    /// How many faults were counted. The count never falls, and stands still at 2^64 - 1.
+    /// How many writes have failed. The count stands still at 2^64 - 1.
     ghost faults: { Self → ℕ };
 
-    /// Appends the front of the piece. The answer is the number of its bytes, at least 1. `Failed`
-    /// comes only where the count of faults rose or stands at its last value. A write that is refused
-    /// appends nothing.
+    /// Appends the front of the piece. The answer is the number of its bytes, at least 1. A write that fails is
+    /// counted, no other is, not even one that memory was refused to. A write that is refused appends nothing.
     fn write(&mut self, buf: &[u8]) -> Result<usize, WriteError>
         requires { 0 < length buf.now }
         ensures within { IfOk result (λ n. (0 < n) × (n ≤ length buf.now)) }
         ensures bytes { WritesFront (written self.old) (written self.new) result buf.now }
-        ensures failed { result ≡ Err WriteError.Failed → Rose (faults self.old) (faults self.new) }
-        ensures counted { faults self.old ≤ faults self.new };
+        ensures counted { faults self.new ≡ count_after (has_failed result) (faults self.old) };
 }
 
 /// A sink in memory, which never fails. A contract sees it as the bytes that were written.
@@ -133,8 +131,7 @@ impl<W: Write + Drop> StdSink<W> {
     fn fail(&mut self) -> Result<usize, WriteError>
         ensures error { result ≡ Err WriteError.Failed }
         ensures writer { self.new.writer ≡ self.old.writer }
-        ensures counted { Rose self.old.faults self.new.faults }
-        ensures grows { self.old.faults ≤ self.new.faults }
+        ensures counted { self.new.faults ≡ one_more self.old.faults }
     {
         self.faults = self.faults.saturating_add(1);
         Err(WriteError::Failed)
@@ -152,9 +149,8 @@ impl<W: Write + Drop> Sink for StdSink<W> {
         ensures bytes { WritesFront
             (⟦<StdSink<W> as Sink>⟧.written self.old) (⟦<StdSink<W> as Sink>⟧.written self.new) result buf.now }
         ensures failed { IfErr result (λ error. error ≡ WriteError.Failed) }
-        ensures rose { IfErr result
-            (λ _. Rose (⟦<StdSink<W> as Sink>⟧.faults self.old) (⟦<StdSink<W> as Sink>⟧.faults self.new)) }
-        ensures counted { ⟦<StdSink<W> as Sink>⟧.faults self.old ≤ ⟦<StdSink<W> as Sink>⟧.faults self.new }
+        ensures counted { ⟦<StdSink<W> as Sink>⟧.faults self.new
+            ≡ count_after (has_failed result) (⟦<StdSink<W> as Sink>⟧.faults self.old) }
     {
         match self.writer.write(buf) {
             Ok(0) | Err(_) => self.fail(),
@@ -166,8 +162,7 @@ impl<W: Write + Drop> Sink for StdSink<W> {
 /// Writes the whole text.
 pub(crate) fn write_all<K: Sink>(sink: &mut K, text: &[u8]) -> Result<(), WriteError>
     ensures written { WritesText (K.written sink.old) (K.written sink.new) result text.now }
-    ensures failed { result ≡ Err WriteError.Failed → Rose (K.faults sink.old) (K.faults sink.new) }
-    ensures counted { K.faults sink.old ≤ K.faults sink.new }
+    ensures counted { K.faults sink.new ≡ count_after (has_failed result) (K.faults sink.old) }
 {
     let mut rest = text;
     while !rest.is_empty() {
@@ -190,8 +185,7 @@ pub(crate) fn gather<K: Sink>(
         (Gathers (K.written sink.old) (K.written sink.new) pending.old.items text.now pending.new.items) }
     ensures stopped { IfErr result
         (StopsGathering (K.written sink.old) (K.written sink.new) (pending.old.items ++ text.now)) }
-    ensures failed { result ≡ Err WriteError.Failed → Rose (K.faults sink.old) (K.faults sink.new) }
-    ensures counted { K.faults sink.old ≤ K.faults sink.new }
+    ensures counted { K.faults sink.new ≡ count_after (has_failed result) (K.faults sink.old) }
 {
     pending.extend_from_slice(text)?;
     if pending.len() < PIECE {

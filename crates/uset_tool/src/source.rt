@@ -1,12 +1,12 @@
 //! Sources of bytes.
-ghost use Rattle.std.specs.Prelude.{◌≡◌, ℕ, ◌<◌, ◌≤◌, List, Option, Some, length, IfOk, OnErr, drop};
-ghost use Rattle.uset_tool.specs.Device.{ReadsFront, Rose, last_count};
+ghost use Rattle.std.specs.Prelude.{◌≡◌, ℕ, ◌<◌, ◌≤◌, List, Option, Some, length, is_err, IfOk, drop};
+ghost use Rattle.uset_tool.specs.Device.{ReadsFront, count_after};
 
 use std::io::Read;
 use std::marker::Model;
 use thiserror::Error;
 
-/// A source or a sink failed.
+/// A source failed.
 #[derive(Clone, Copy, Debug, Drop, PartialEq, Eq, Error)]
 #[error("Failed")]
 pub struct Failed;
@@ -16,18 +16,17 @@ pub trait Source {
     /// The bytes still to come, where the source tells them.
     ghost left: { Self → Option (List ℕ) };
 
-    /// How many faults were counted. The count never falls, and stands still at 2^64 - 1.
+    /// How many reads have failed. The count stands still at 2^64 - 1.
     ghost faults: { Self → ℕ };
 
     /// Takes bytes off the front of what is left and puts them at the front of the buffer. The answer
-    /// is their number, which is 0 only where nothing is left. `Failed` comes only where the count of
-    /// faults rose or stands at its last value, and takes nothing.
+    /// is their number, which is 0 only where nothing is left. A read that fails is counted, no other is, and it takes
+    /// nothing.
     fn read(&mut self, buf: &mut [u8]) -> Result<usize, Failed>
         requires { 0 < length buf.old }
         ensures within { IfOk result (λ n. n ≤ length buf.old) }
         ensures bytes { ReadsFront (left self.old) (left self.new) result buf.new }
-        ensures failed { OnErr result (Rose (faults self.old) (faults self.new)) }
-        ensures counted { faults self.old ≤ faults self.new };
+        ensures counted { faults self.new ≡ count_after (is_err result) (faults self.old) };
 }
 
 /// Bytes in memory, which never fail. A contract sees it as the bytes that are left.

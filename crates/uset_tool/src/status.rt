@@ -5,9 +5,9 @@ ghost use Rattle.uset_tool.specs.Status.{code_of};
 /// How a run ended.
 #[derive(Clone, Copy, Debug, PartialEq, Eq)]
 pub enum Status {
-    /// All lines were answered, and no answer is an `err` line.
+    /// The whole answer was written, and no line of it is an `err` line.
     Done,
-    /// All lines were answered, and some answer is an `err` line.
+    /// The whole answer was written, and some line of it is an `err` line.
     SomeErr,
     /// The words are no known list. Nothing was read.
     Usage,

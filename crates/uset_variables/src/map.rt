@@ -105,7 +105,7 @@ impl VariableMap {
         self.insert(key, VariableValue::UnicodeSet(set))
     }
 
-    /// Frees the name. The answer is the value that it was bound to.
+    /// Frees the name. The answer is the value that it was bound to, as it was kept, and `None` where it was bound to nothing.
     pub fn remove(&mut self, key: &str) -> Option<VariableValue>
         ensures value { result ≡ bound self.old key.now }
         ensures removes { Binds self.old key.now None self.new }

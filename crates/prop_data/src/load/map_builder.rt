@@ -3,7 +3,7 @@ ghost use Rattle.std.specs.Prelude.{◌≡◌, ◌≤◌, ℕ, [], None, Some, I
 ghost use Rattle.cp_invlist.specs.Ranges.{in_range};
 ghost use Rattle.cp_trie.specs.Map.{value_at};
 ghost use Rattle.cp_trie.specs.Runs.{value_in};
-ghost use Rattle.prop_data.specs.MapBuilder.{end_of_runs, next_of};
+ghost use Rattle.prop_data.specs.MapBuilder.{end_of_runs, next_of, up_to};
 
 use cp_invlist::{CodePointRange, LAST_CODE_POINT, NoMemory};
 use cp_trie::{CodePointMapRange, CodePointTrie, TrieValue};
@@ -57,7 +57,7 @@ impl<T: TrieValue> MapBuilder<T> {
         ensures last { OnOk result (self.new.last ≡ Some end) }
         ensures default { OnOk result (self.new.default ≡ self.old.default) }
         ensures values { OnOk result ((c : ℕ) → value_in self.new.runs.items self.new.default c ≡
-            (if in_range (record { start = next_of self.old.last; end = end }) c then value else value_in self.old.runs.items self.old.default c)) }
+            (if in_range (up_to self.old.last end) c then value else value_in self.old.runs.items self.old.default c)) }
         ensures kept { OnErr result ((c : ℕ) →
             value_in self.new.runs.items self.new.default c ≡ value_in self.old.runs.items self.old.default c) }
     {

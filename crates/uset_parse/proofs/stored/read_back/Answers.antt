@@ -4,7 +4,7 @@ use Rattle.cp_invlist.specs.InversionList.{IsInversionList}
 use Rattle.cp_strset.specs.PatternText.{IsPatternOf}
 use Rattle.prop_data.specs.Database.{tables_of}
 use Rattle.uset_variables.specs.Variables.{variables_of}
-use Rattle.uset_parse.proofs.ReadBackLemmas.{kept_by, reads_whole, refused_lacks}
+use Rattle.uset_parse.proofs.ReadBackLemmas.{kept_by, has_syntax, reads_whole, refused_lacks}
 use Rattle.uset_parse.proofs.stored.read_back.Goals as goal
 
 pub returns-clause-whole : goal.returns-clause-whole
@@ -21,3 +21,6 @@ returns-in_err-read-clause-refused c =
     let written = subst (IsPatternOf c.args.set.now) (sym c.deref.ensures) c.in_ok-pattern.ensures.pattern in
     let p = err_from_is_err_and c.from_residual-in_err-read.result c.from_residual-in_err-read.ensures.1 in
     rw (p.1, p.2) (refused_lacks c.inverse.ensures.sets c.one_answer.ensures (tables_of c.args.database.now) c.set.ensures.syntax (variables_of c.args.variable_map.now) c.args.set.now kept c.deref.result.now written _ c.in_err-read.ensures.refused)
+
+pub returns-clause-syntax : goal.returns-clause-syntax
+returns-clause-syntax c = has_syntax _ _ _ _ c.in_ok-read.ensures.read

@@ -30,7 +30,7 @@ loop-string-preserved-in-Space c =
 pub returns-then-not-branch-clause-stopped : goal.returns-then-not-branch-clause-stopped
 returns-then-not-branch-clause-stopped c = λ apart.
     let refused : c.in_ok-push_spelled-in-Spelled.field-0 ≡ false = search rules in
-    absurd (piece_is_allowed c.args.white_space.now c.args.text.now (string_bytes c.loop-string.string) c.loop-string.rest.now c.loop-string.invariant.2 c.in-Spelled.behind.now
+    absurd (piece_is_allowed c.args.white_space.now c.args.text.now (string_bytes c.loop-string.string) c.loop-string.rest.now c.loop-string.invariant.2 c.units_by_parts.ensures.escapes c.in-Spelled.behind.now
     (spelled_seen c.in-Spelled.spelled) (c.in_ok-behind.ensures.parts ∙ ap piece_seen c.in-Spelled.is) (sym c.in_ok-push_spelled-in-Spelled.ensures.characters ∙ refused) apart)
 
 pub loop-string-preserved-else-not-branch : goal.loop-string-preserved-else-not-branch

@@ -1,14 +1,14 @@
-use Rattle.std.proofs.Common.{suc, length, sym, subst, arith}
+use Rattle.std.proofs.Common.{suc, length, [], subst, arith}
 use Rattle.std.specs.Str.{chars}
 use Rattle.std.specs.String.{string_bytes}
 use Rattle.std.proofs.lemmas.Result.{IfOk-weaker, IfErr-weaker}
 use Rattle.cp_invlist.specs.InversionList.{contains}
-use Rattle.uset_grammar.specs.Outcome.{got}
 use Rattle.uset_grammar.specs.BracedString.{StringOutcome}
-use Rattle.uset_read.specs.UnitRead.{StopsAt}
+use Rattle.uset_grammar.specs.Parts.{TellsOutcome}
+use Rattle.uset_grammar.specs.StringParts.{pieces_in}
 use Rattle.uset_read.specs.Pieces.{PiecesAre, PiecesStop, StringIs, StringStops}
 use Rattle.uset_read.proofs.FirstCharacter.{begins_with}
-use Rattle.uset_read.proofs.StringRead.{string_got, string_stops}
+use Rattle.uset_read.proofs.Told.{told_stop}
 use Rattle.uset_read.proofs.braced_string.read_string.Goals as goal
 
 pub returns-clause-read : goal.returns-clause-read
@@ -18,8 +18,8 @@ returns-clause-read c =
     let parts = begins_with (chars c.args.text.now) (chars c.in_ok-inner.inner.now) inner c.in_ok-inner.field-0-0 0x7B c.in_ok-inner.ensures.parts e in
     let few = h.few in (
       h.pieces,
-      subst (λ z. StringOutcome (contains c.args.white_space.now) z (got h.pieces (chars p.1.now))) (sym parts)
-          (string_got (contains c.args.white_space.now) apart (chars c.in_ok-inner.inner.now) (suc (length c.in_ok-inner.inner.now)) h.pieces (chars p.1.now) (omega (arith, few)) h.read),
+      subst (TellsOutcome (StringOutcome (contains c.args.white_space.now) (chars c.args.text.now)) (chars c.args.text.now)) h.read
+          (c.units_by_parts.ensures.strings (contains c.args.white_space.now) apart (suc (length c.in_ok-inner.inner.now)) (chars c.args.text.now) (chars c.in_ok-inner.inner.now) parts (omega (arith, few))),
       h.characters,
     )) c.read_pieces.ensures.read
 
@@ -29,5 +29,7 @@ returns-clause-stopped c =
     (λ stop h apart inner e.
     let parts = begins_with (chars c.args.text.now) (chars c.in_ok-inner.inner.now) inner c.in_ok-inner.field-0-0 0x7B c.in_ok-inner.ensures.parts e in
     let few = (h apart).1 in
-    subst (λ z. StopsAt (StringOutcome (contains c.args.white_space.now) z) z stop) (sym parts)
-    (string_stops (contains c.args.white_space.now) apart (chars c.in_ok-inner.inner.now) (suc (length c.in_ok-inner.inner.now)) stop (omega (arith, few)) (h apart).0)) c.read_pieces.ensures.stopped
+    told_stop (StringOutcome (contains c.args.white_space.now) (chars c.args.text.now)) (chars c.args.text.now)
+    (pieces_in (contains c.args.white_space.now) (suc (length c.in_ok-inner.inner.now)) [] (chars c.in_ok-inner.inner.now)) stop
+    (c.units_by_parts.ensures.strings (contains c.args.white_space.now) apart (suc (length c.in_ok-inner.inner.now)) (chars c.args.text.now) (chars c.in_ok-inner.inner.now) parts (omega (arith, few)))
+    (h apart).0) c.read_pieces.ensures.stopped

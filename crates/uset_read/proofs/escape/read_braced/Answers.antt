@@ -2,7 +2,7 @@ use Rattle.std.proofs.Common.{length, ◌∷◌, ap, ◌∙◌, ◌<◌, rules, 
 use Rattle.std.specs.Str.{chars}
 use Rattle.cp_invlist.specs.InversionList.{contains}
 use Rattle.uset_read.specs.Spelled.{around_seen, next_seen}
-use Rattle.uset_read.specs.Reading.{braced_in}
+use Rattle.uset_grammar.specs.EscapeParts.{braced_in}
 use Rattle.uset_read.proofs.Bounds.{of_rest}
 use Rattle.uset_read.proofs.NumbersInBraces.{first_stops, first_goes, next_stops, next_closes, next_goes}
 use Rattle.uset_read.proofs.escape.read_braced.Goals as goal

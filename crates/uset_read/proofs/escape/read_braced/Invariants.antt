@@ -4,7 +4,7 @@ use denote.Shadow.{shadow}
 use Rattle.std.specs.Str.{chars}
 use Rattle.cp_invlist.specs.InversionList.{contains}
 use Rattle.uset_read.specs.Spelled.{around_seen}
-use Rattle.uset_read.specs.Reading.{braced_in, numbers_in, behind_number}
+use Rattle.uset_grammar.specs.EscapeParts.{braced_in, numbers_in, behind_number}
 use Rattle.uset_read.proofs.escape.read_braced.Given as goal
 
 abbrev pub invariant-loop-more : goal.invariant-loop-more

@@ -3,7 +3,7 @@ use denote.Text.{Utf8}
 use denote.Shadow.{shadow}
 use Rattle.std.specs.Str.{chars}
 use Rattle.uset_read.specs.Spelled.{around_seen}
-use Rattle.uset_read.specs.Reading.{number_in}
+use Rattle.uset_grammar.specs.EscapeParts.{number_in}
 use Rattle.uset_read.proofs.DigitBounds.{BelowFor}
 use Rattle.uset_read.proofs.escape.read_further_digits.Given as goal
 

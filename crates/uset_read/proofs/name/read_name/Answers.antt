@@ -15,5 +15,5 @@ returns-clause-some c =
     let front = c.skip_all-rest.ensures.front in
     let bytes = c.in_ok-first.ensures.bytes ∙ (ap (λ z. encode_utf8 c.in_ok-first.first ++ z) front.1 ∙ sym (append_assoc (encode_utf8 c.in_ok-first.first) front.0 c.skip_all-rest.result.now)) in
     let name = c.range.ensures.value ∙ front_is c.args.text.now (encode_utf8 c.in_ok-first.first ++ front.0) c.skip_all-rest.result.now bytes in
-    name_parts (contains c.args.start.now) (contains c.args.continuing.now) c.args.text.now c.range.result.now c.skip_all-rest.result.now c.in_ok-first.first (chars c.in_ok-first.behind.now)
+    name_parts c.cut_by_a_test.ensures (contains c.args.start.now) (contains c.args.continuing.now) c.args.text.now c.range.result.now c.skip_all-rest.result.now c.in_ok-first.first (chars c.in_ok-first.behind.now)
     c.range.utf8 (bytes ∙ ap (λ z. z ++ c.skip_all-rest.result.now) (sym name)) c.in_ok-first.ensures.parts (search rules) c.skip_all-rest.ensures.skipped

@@ -4,7 +4,8 @@ use denote.Text.{Utf8}
 use Rattle.std.specs.Str.{chars}
 use Rattle.std.specs.String.{string_bytes}
 use Rattle.cp_invlist.specs.InversionList.{contains}
-use Rattle.uset_read.specs.Queries.{form_seen, key_in}
+use Rattle.uset_grammar.specs.PropertyParts.{key_in}
+use Rattle.uset_read.specs.Queries.{form_seen}
 use Rattle.uset_read.proofs.property.read_key.Given as goal
 
 abbrev pub invariant-loop-key : goal.invariant-loop-key

@@ -2,7 +2,8 @@ use Rattle.std.proofs.Common.{sym, ap, ◌∙◌, rules, arith}
 use Rattle.std.proofs.lemmas.Str.{chars-nil}
 use Rattle.std.specs.Str.{chars}
 use Rattle.cp_invlist.specs.InversionList.{contains}
-use Rattle.uset_read.specs.Queries.{form_seen, value_in}
+use Rattle.uset_grammar.specs.PropertyParts.{value_in}
+use Rattle.uset_read.specs.Queries.{form_seen}
 use Rattle.uset_read.proofs.property.read_value.Goals as goal
 
 pub loop-value-init : goal.loop-value-init

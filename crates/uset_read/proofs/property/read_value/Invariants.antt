@@ -4,7 +4,8 @@ use denote.Text.{Utf8}
 use Rattle.std.specs.Str.{chars}
 use Rattle.std.specs.String.{string_bytes}
 use Rattle.cp_invlist.specs.InversionList.{contains}
-use Rattle.uset_read.specs.Queries.{form_seen, value_in}
+use Rattle.uset_grammar.specs.PropertyParts.{value_in}
+use Rattle.uset_read.specs.Queries.{form_seen}
 use Rattle.uset_read.proofs.property.read_value.Given as goal
 
 abbrev pub invariant-loop-value : goal.invariant-loop-value

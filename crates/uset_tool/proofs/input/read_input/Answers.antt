@@ -7,5 +7,5 @@ returns-clause-stopped g c = too_long _ _ _ c.loop-buffer.invariant.taken (omega
 
 pub returns-in_err-extend_from_slice-clause-stopped : goal.returns-in_err-extend_from_slice-clause-stopped
 returns-in_err-extend_from_slice-clause-stopped g c =
-    stops_refused _ _ _ _ _ c.from_residual-in_err-extend_from_slice.ensures.1
+    stops_refused _ _ _ c.from_residual-in_err-extend_from_slice.ensures.1
     (refused_front _ _ _ _ _ _ c.loop-buffer.invariant.taken c.in_ok-count.ensures.bytes (search rules))

@@ -1,4 +1,4 @@
-use Rattle.std.proofs.Common.{ap, subst, rules, arith}
+use Rattle.std.proofs.Common.{refl, ap, ◌∙◌, subst, rules}
 use Rattle.std.proofs.lemmas.Result.{err_from_is_err_and}
 use Rattle.text_lines.specs.Lines.{lines}
 use Rattle.prop_data.specs.Database.{tables_of}
@@ -10,7 +10,7 @@ use Rattle.uset_tool.proofs.script.answer_script.Goals as goal
 pub loop-line-init : goal.loop-line-init
 loop-line-init g c = (
   c.utf8.script,
-  omega arith,
+  refl,
   rw c.new-pending.ensures.items (rw (nothing_bound c.new-variables.result c.new-variables.ensures) (holds_none (tables_of c.args.database.now) no_variables (lines c.args.script.now) (g.K.Sink.written c.args.sink.now))),
 )
 
@@ -33,7 +33,7 @@ loop-line-preserved g c =
     let laws : Laws tables = record { one_answer = c.one_answer.ensures tables c.requires; one_list_of_ranges = c.one_list_of_ranges.ensures; one_list = c.one_list.ensures } in
     let answer = rw (← c.as_bytes.ensures.value) at c.in_ok-answer.ensures in (
       search rules,
-      omega (arith, c.loop-line.invariant.1, c.in_ok-gather.ensures.counted),
+      ◌∙◌ {b = g.K.Sink.faults c.loop-line.sink} c.in_ok-gather.ensures.counted c.loop-line.invariant.1,
       holds_more laws _ _ _ _ _ _ c.in-Some.line.now c.as_bytes.result.now _ _ _ _ _ _ _ c.loop-line.invariant.2 c.in-Some.ensures.parts answer c.in_ok-gather.ensures.gathered,
     )
 

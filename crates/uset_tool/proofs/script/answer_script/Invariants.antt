@@ -1,4 +1,4 @@
-use Rattle.std.proofs.Common.{◌≤◌, length}
+use Rattle.std.proofs.Common.{◌≡◌, length}
 use denote.Shadow.{shadow}
 use denote.Text.{Utf8}
 use Rattle.text_lines.specs.Lines.{lines}
@@ -10,7 +10,7 @@ use Rattle.uset_tool.proofs.script.answer_script.Given as goal
 abbrev pub invariant-loop-line : goal.invariant-loop-line
 invariant-loop-line g l =
     shadow (Utf8 l.rest)
-    × (g.K.Sink.faults l.initial.sink ≤ g.K.Sink.faults l.sink)
+    × (g.K.Sink.faults l.sink ≡ g.K.Sink.faults l.initial.sink)
     × Holds (tables_of l.database) no_variables (lines l.script) (variables_of l.variables) (lines l.rest) l.has_err l.pending.items (g.K.Sink.written l.initial.sink) (g.K.Sink.written l.sink)
 
 abbrev pub decreases-loop-line : goal.decreases-loop-line

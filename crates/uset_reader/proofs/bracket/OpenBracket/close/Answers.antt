@@ -6,4 +6,4 @@ use Rattle.uset_reader.proofs.bracket.OpenBracket.close.Goals as goal
 pub returns-clause-set : goal.returns-clause-set
 returns-clause-set c = λ l o s.
     closes l c.args.self.now o c.add_last.new.self.gathered c.in_ok-close.field-0 _ s c.if-not-branch.false c.in_ok-add_last.ensures.ended
-    (λ m. c.in_ok-close.ensures m ∙ ap (λ o. closed o.negated m (gathering_in c.add_last.new.self.gathered m)) c.add_last.ensures.same.opening)
+    (λ m. c.in_ok-close.ensures.set m ∙ ap (λ o. closed o.negated m (gathering_in c.add_last.new.self.gathered m)) c.add_last.ensures.same.opening)

@@ -6,8 +6,8 @@ use Rattle.uset_steps.proofs.GatheringLemmas.{none_behind}
 use Rattle.uset_steps.proofs.gathering.Gathering.close.Goals.{then-is_some+in_ok-settle, else-is_some, then-negated, else-negated}
 use Rattle.uset_steps.proofs.gathering.Gathering.close.Goals as goal
 
-pub returns : goal.returns
-returns c =
+pub returns-clause-set : goal.returns-clause-set
+returns-clause-set c =
     let old = c.args.self.now in
     let all : (m : Member) → gathered_in c.if-is_some.self.gathered m ≡ gathering_in old m = elim c.if-is_some.branch [
       | then-is_some+in_ok-settle w ↦ λ m.

@@ -1,4 +1,4 @@
--- The reader of strings answers as the machine does, with at least as many turns as characters.
+-- A string that is read piece by piece, at most as many as there are characters, has the outcome of the machine.
 use Rattle.std.proofs.Common.{◌≡◌, ◌<◌, ℕ, zero, suc, Bool, true, false, cond, Some, None, List, [], ◌∷◌, ◌++◌, length, refl, sym, ap, ◌∙◌, subst, append_assoc, arith}
 use Rattle.std.specs.Prelude.{◌==◌}
 use Rattle.uset_grammar.specs.Text.{Text}
@@ -9,9 +9,14 @@ use Rattle.uset_grammar.proofs.UnitMachine.{Next, goes, whole, refuses, Slip, tu
 use Rattle.uset_grammar.proofs.EscapeMachine as E
 use Rattle.uset_grammar.proofs.EscapeMachineSlips as S
 use Rattle.uset_grammar.proofs.StringMachine.{State, start, pieces, inside, lift, behind_text, next, slip}
-use Rattle.uset_read.specs.Reading.{and_then, letters_in}
-use Rattle.uset_read.specs.Pieces.{pieces_in}
-use Rattle.uset_read.proofs.EscapeReading.{Placed, letters_placed}
+use Rattle.uset_grammar.specs.BracedString.{StringOutcome}
+use Rattle.uset_grammar.specs.Parts.{and_then, TellsOutcome}
+use Rattle.uset_grammar.specs.EscapeParts.{letters_in}
+use Rattle.uset_grammar.specs.StringParts.{with_piece_in, pieces_in}
+use Rattle.uset_grammar.specs.Laws.{StringsByParts}
+use Rattle.uset_grammar.proofs.StringOutcome.{string_answered, outcome}
+use Rattle.uset_grammar.proofs.Placed.{Placed, placed_tells, further_text}
+use Rattle.uset_grammar.proofs.EscapeByParts.{then_then, letters_placed}
 
 module _ (white_space : ℕ → Bool) (apart : Apart white_space) (q : Text) where
   abbrev machine : Text → State → Text → Outcome (List Spelled)
@@ -57,21 +62,30 @@ module _ (white_space : ℕ → Bool) (apart : Apart white_space) (q : Text) whe
       (subst (λ z. Placed z o (run (E.next white_space) (S.slip white_space in_string) (r ++ c ∷ []) e' t)) (sym (append_assoc r (c ∷ []) t)) k)) placed
 
   pieces_by : (f : ℕ) (t p : Text) (c : ℕ) (ps : List Spelled) (x w s : Bool) → (c == 0x5C) ≡ s → Reads f → length t < f → q ≡ p ++ c ∷ t →
-      Placed q (cond x (got ps t) (cond w (pieces_in white_space f ps t) (cond s (and_then (letters_in white_space in_string (c ∷ t) t) (more f ps)) (more f ps (itself c) t))))
+      Placed q (and_then (cond x (got None t) (cond w (got (Some None) t) (cond s (and_then (letters_in white_space in_string (c ∷ t) t) (λ s. got (Some (Some s)))) (got (Some (Some (itself c))) t))))
+      (with_piece_in (pieces_in white_space f) ps))
       (turn None (cond x (whole ps) (cond w (goes (pieces ps)) (cond s (goes (inside ps p (c ∷ []) E.letters)) (goes (pieces (ps ++ itself c ∷ []))))))
       (λ s. machine (p ++ c ∷ []) s t) p c t)
   pieces_by f t p c ps true w s e all few g = (refl, refl)
-  pieces_by f t p c ps false true s e all few g = all t (p ++ c ∷ []) ps few (g ∙ sym (append_assoc p (c ∷ []) t))
+  pieces_by f t p c ps false true s e all few g = all t (p ++ c ∷ []) ps few (further_text q p t c g)
   pieces_by f t p c ps false false true e all few g =
-      inside_placed t f (p ++ c ∷ []) p (c ∷ []) ps E.letters (letters_in white_space in_string (c ∷ t) t) all few g refl (letters_placed white_space apart in_string (c ∷ t) t (c ∷ []) refl)
-  pieces_by f t p c ps false false false e all few g = all t (p ++ c ∷ []) (ps ++ itself c ∷ []) few (g ∙ sym (append_assoc p (c ∷ []) t))
+      let read = letters_in white_space in_string (c ∷ t) t in
+      subst (λ o. Placed q o (machine (p ++ c ∷ []) (inside ps p (c ∷ []) E.letters) t)) (sym (then_then read (λ s. got (Some (Some s))) (with_piece_in (pieces_in white_space f) ps)))
+      (inside_placed t f (p ++ c ∷ []) p (c ∷ []) ps E.letters read all few g refl (letters_placed white_space apart in_string (c ∷ t) t (c ∷ []) refl))
+  pieces_by f t p c ps false false false e all few g = all t (p ++ c ∷ []) (ps ++ itself c ∷ []) few (further_text q p t c g)
 
   pub pieces_placed : (f : ℕ) → Reads f
   pieces_placed zero t p ps few g = absurd (omega (arith, few))
   pieces_placed (suc f) [] p ps few g = tt
   pieces_placed (suc f) (c ∷ t) p ps few g = pieces_by f t p c ps (c == 0x7D) (white_space c) (c == 0x5C) refl (pieces_placed f) (omega (arith, few)) g
 
--- what the reader says of a string is the machine's outcome
-pub string_placed : (white_space : ℕ → Bool) → Apart white_space → (most : ℕ) (t : Text) → length t < most →
+-- what the pieces say of a string is the machine's outcome
+string_placed : (white_space : ℕ → Bool) → Apart white_space → (most : ℕ) (t : Text) → length t < most →
     Placed (0x7B ∷ t) (pieces_in white_space most [] t) (run (next white_space) (slip white_space) [] start (0x7B ∷ t))
 string_placed white_space apart most t few = pieces_placed white_space apart (0x7B ∷ t) most t (0x7B ∷ []) [] few refl
+
+pub strings_by_parts : StringsByParts
+strings_by_parts white_space apart most q t e few =
+    subst (λ z. TellsOutcome (StringOutcome white_space z) z (pieces_in white_space most [] t)) (sym e)
+    (placed_tells (StringOutcome white_space (0x7B ∷ t)) (0x7B ∷ t) (pieces_in white_space most [] t) (outcome white_space apart (0x7B ∷ t))
+    (string_placed white_space apart most t few) (string_answered white_space apart t))

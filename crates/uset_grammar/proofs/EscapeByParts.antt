@@ -1,5 +1,5 @@
--- The reader of escapes, part by part, answers as the machine does.
-use Rattle.std.proofs.Common.{◌≡◌, ◌≤◌, ◌<◌, ℕ, zero, suc, ◌+◌, ◌*◌, Bool, true, false, cond, Some, None, List, [], ◌∷◌, ◌++◌, length, refl, sym, ap, ◌∙◌, subst, append_assoc, arith, inl, inr}
+-- An escape that is read part by part has the outcome of the machine.
+use Rattle.std.proofs.Common.{◌≡◌, ◌≤◌, ◌<◌, ℕ, zero, suc, ◌+◌, ◌*◌, Bool, true, false, cond, Some, None, List, [], ◌∷◌, ◌++◌, length, refl, sym, ap, ◌∙◌, subst, arith, inl, inr}
 use Rattle.std.specs.Prelude.{◌==◌}
 use mathlib.Core.Logic.{◌⊎◌}
 use Rattle.std.proofs.lemmas.Bool.{cases_Bool, eqb-true}
@@ -7,15 +7,18 @@ use Rattle.std.specs.Char.{digit_value}
 use Rattle.uset_grammar.specs.Text.{Text, skip}
 use Rattle.uset_grammar.specs.Outcome.{unexpected, invalid_escape, Outcome, got, faulty, ended}
 use Rattle.uset_grammar.specs.Escape.{Apart, onto, is_hex, value, plain, Spelled, itself, numbers, Letter, four, two, six, name, other, letter, is_above, is_surrogate}
-use Rattle.uset_grammar.specs.EscapeSlips.{Around, in_string, in_bracket}
-use Rattle.uset_read.specs.Reading.{and_then, digit_in, two_digits_in, four_digits_in, six_digits_in, last_digit_in, checked, sole_in, is_later, all_in, second_in, number_at, behind_number, number_or, numbers_in, braced_in, zero_in, long_escape, letter_in, letters_in}
-use Rattle.uset_read.specs.Reading as R
+use Rattle.uset_grammar.specs.EscapeSlips.{Around, in_string, in_bracket, EscapeOutcome}
+use Rattle.uset_grammar.specs.Parts.{and_then, TellsOutcome}
+use Rattle.uset_grammar.specs.EscapeParts.{digit_in, two_digits_in, four_digits_in, six_digits_in, last_digit_in, checked, sole_in, is_later, all_in, second_in, number_at, behind_number, number_or, numbers_in, braced_in, zero_in, long_escape, letter_in, letters_in}
+use Rattle.uset_grammar.specs.EscapeParts as R
+use Rattle.uset_grammar.specs.Laws.{EscapesByParts}
 use Rattle.uset_grammar.proofs.UnitMachine.{Next, goes, whole, refuses, Slip, turn, run}
 use Rattle.uset_grammar.proofs.EscapeMachine.{State, start, letters, brace_or, zero_first, zero_second, fixed, awaits, number, at_letter, next_fixed, close_or, next, Sort, digit, brace, white, stray, sort}
+use Rattle.uset_grammar.proofs.EscapeOutcome.{escape_answered, outcome}
+use Rattle.uset_grammar.proofs.Placed.{Placed, placed_tells, further_text}
 use Rattle.uset_grammar.proofs.EscapeMachineSlips.{or_else, letter_slip, second, later, sixth, fixed_slip, within, end_slip, slip}
 
--- the parts by the number of their digits
--- so many digits
+-- the parts by the number of their digits: so many
 abbrev short_in : ℕ → ℕ → Text → Outcome ℕ
 short_in zero n t = got n t
 short_in (suc k) n t = and_then (digit_in n t) (short_in k)
@@ -38,7 +41,7 @@ number_in a ns begin (suc m) n [] = ended
 number_in a ns begin (suc zero) n (c ∷ t) = cond (is_hex c) (sixth_in a ns begin (n * 16 + digit_value c) (c ∷ t) t) (later_in a ns begin n (c ∷ t))
 number_in a ns begin (suc (suc m)) n (c ∷ t) = cond (is_hex c) (number_in a ns begin (suc m) (n * 16 + digit_value c) t) (later_in a ns begin n (c ∷ t))
 
-then_then : {A B C : Type 0} (o : Outcome A) (f : A → Text → Outcome B) (g : B → Text → Outcome C) → and_then (and_then o f) g ≡ and_then o (λ x t. and_then (f x t) g)
+pub then_then : {A B C : Type 0} (o : Outcome A) (f : A → Text → Outcome B) (g : B → Text → Outcome C) → and_then (and_then o f) g ≡ and_then o (λ x t. and_then (f x t) g)
 then_then (got x t) f g = refl
 then_then (faulty k r) f g = refl
 then_then ended f g = refl
@@ -135,18 +138,6 @@ second_then (in_bracket false) begin (n ∷ []) o f = refl
 second_then in_string begin (n ∷ m ∷ ns) o f = refl
 second_then (in_bracket both) begin (n ∷ m ∷ ns) o f = refl
 
--- An outcome whose place is a rest of the text, and one whose place is the text before it.
-abbrev pub Placed : {V : Type 0} → Text → Outcome V → Outcome V → Type 0
-Placed q (got v r) (got w s) = (v ≡ w) × (r ≡ s)
-Placed q (got v r) (faulty k b) = ⊥
-Placed q (got v r) ended = ⊥
-Placed q (faulty k r) (got w s) = ⊥
-Placed q (faulty k r) (faulty l b) = (k ≡ l) × (q ≡ b ++ r)
-Placed q (faulty k r) ended = ⊥
-Placed q ended (got w s) = ⊥
-Placed q ended (faulty k b) = ⊥
-Placed q ended ended = Unit {0}
-
 onto_snoc : (w : Text) (n c : ℕ) → onto n (w ++ c ∷ []) ≡ onto n w * 16 + digit_value c
 onto_snoc [] n c = refl
 onto_snoc (d ∷ w) n c = onto_snoc w (n * 16 + digit_value d) c
@@ -191,9 +182,6 @@ end_many (in_bracket both) n m ns = refl
 abbrev long_step : ℕ → ℕ → ℕ → Text → Bool → Outcome ℕ
 long_step zero n c t h = and_then (cond h (got (n * 16 + digit_value c) t) (faulty (unexpected c) (c ∷ t))) (checked (c ∷ t))
 long_step (suc k) n c t h = and_then (cond h (got (n * 16 + digit_value c) t) (faulty (unexpected c) (c ∷ t))) (long_in k)
-
-pub further_text : (q p t : Text) (c : ℕ) → q ≡ p ++ c ∷ t → q ≡ (p ++ c ∷ []) ++ t
-further_text q p t c h = h ∙ sym (append_assoc p (c ∷ []) t)
 
 module _ (white_space : ℕ → Bool) (apart : Apart white_space) (a : Around) (q : Text) where
   abbrev Go : Type 0
@@ -442,8 +430,14 @@ module _ (white_space : ℕ → Bool) (apart : Apart white_space) (a : Around) (
   letters_placed [] p g = tt
   letters_placed (c ∷ t) p g = letter_placed t p c (letter c) g
 
--- what the parts of the reader say of an escape is the machine's outcome
-pub escape_placed : (white_space : ℕ → Bool) → Apart white_space → (a : Around) (t : Text) →
+-- what the parts say of an escape is the machine's outcome
+escape_placed : (white_space : ℕ → Bool) → Apart white_space → (a : Around) (t : Text) →
     Placed (0x5C ∷ t) (letters_in white_space a (0x5C ∷ t) t) (run (next white_space) (slip white_space a) [] start (0x5C ∷ t))
 escape_placed white_space apart in_string t = letters_placed white_space apart in_string (0x5C ∷ t) t (0x5C ∷ []) refl
 escape_placed white_space apart (in_bracket both) t = letters_placed white_space apart (in_bracket both) (0x5C ∷ t) t (0x5C ∷ []) refl
+
+pub escapes_by_parts : EscapesByParts
+escapes_by_parts white_space apart a q t e =
+    subst (λ z. TellsOutcome (EscapeOutcome white_space a z) z (letters_in white_space a z t)) (sym e)
+    (placed_tells (EscapeOutcome white_space a (0x5C ∷ t)) (0x5C ∷ t) (letters_in white_space a (0x5C ∷ t) t) (outcome white_space apart a (0x5C ∷ t))
+    (escape_placed white_space apart a t) (escape_answered white_space apart a t))

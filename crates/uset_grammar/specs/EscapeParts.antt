@@ -1,5 +1,4 @@
--- What the reader of escapes does, part by part: each part reads in front of a text, and says what it read and the
--- rest, or where it stopped: at a rest, or at the end of the text.
+-- An escape that is read part by part (UTS 35, Unicode Sets).
 use Rattle.std.specs.Prelude.{ℕ, zero, suc, ◌+◌, ◌*◌, ◌-◌, Bool, true, false, ◌==◌, length, List, [], ◌∷◌, ◌++◌, Option, Some, None, if◌then◌else◌}
 use Rattle.std.specs.Char.{digit_value}
 use Prim.Native.Char.{code}
@@ -7,11 +6,7 @@ use Rattle.uset_grammar.specs.Text.{Text, ◌∈◌, skip}
 use Rattle.uset_grammar.specs.Outcome.{unexpected, unimplemented, invalid_escape, Outcome, got, faulty, ended}
 use Rattle.uset_grammar.specs.Escape.{is_hex, is_above, is_surrogate, plain, Spelled, itself, numbers, Letter, four, two, six, name, other, letter}
 use Rattle.uset_grammar.specs.EscapeSlips.{Around, in_string, in_bracket}
-
-abbrev pub and_then : {A B : Type 0} → Outcome A → (A → Text → Outcome B) → Outcome B
-and_then (got a t) f = f a t
-and_then (faulty k r) f = faulty k r
-and_then ended f = ended
+use Rattle.uset_grammar.specs.Parts.{and_then, char_in}
 
 -- a digit onto the number
 unfoldable pub digit_in : ℕ → Text → Outcome ℕ
@@ -49,7 +44,7 @@ later_in in_string true begin n t = if is_surrogate n then faulty invalid_escape
 abbrev pub sixth_in : Around → Bool → Text → ℕ → Text → Text → Outcome ℕ
 sixth_in a later begin n at t = if is_above n then faulty invalid_escape at else later_in a later begin n t
 
--- at most so many digits more of a number that began there, at least one
+-- what is left of a number that began there: digits or none, at most so many, where that limit is at least one
 abbrev pub number_in : Around → Bool → Text → ℕ → ℕ → Text → Outcome ℕ
 number_in a later begin left n [] = ended
 number_in a later begin left n (c ∷ t) =
@@ -87,11 +82,6 @@ number_at a begin ns [] = ended
 number_at a begin ns (c ∷ t) =
     if is_hex c then second_in a begin ns (number_in a (is_later ns) (c ∷ t) 5 (digit_value c) t)
     else faulty (unexpected c) (c ∷ t)
-
--- this character
-abbrev pub char_in : ℕ → Text → Outcome (Unit {0})
-char_in due [] = ended
-char_in due (c ∷ t) = if c == due then got tt t else faulty (unexpected c) (c ∷ t)
 
 -- a zero
 abbrev pub zero_in : Text → Outcome (Unit {0})

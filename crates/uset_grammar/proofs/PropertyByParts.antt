@@ -1,17 +1,15 @@
--- The reader of properties answers as the machine does, where resolving and closing are asked at the end mark.
+-- A property that is read part by part has the outcome of the machine.
 use Rattle.std.proofs.Common.{◌≡◌, ℕ, Bool, true, false, cond, [], ◌∷◌, ◌++◌, Some, None, refl, sym, ap, subst, inl, inr}
 use Rattle.std.specs.Prelude.{◌==◌, not}
 use Rattle.uset_grammar.specs.Text.{Text}
 use Rattle.uset_grammar.specs.Outcome.{Outcome, got, faulty, ended, unexpected}
-use Rattle.uset_grammar.specs.Property.{PropertyBegins, Query, Form, posix, perl, mark, is_key, no_value, with_value, unresolved}
+use Rattle.uset_grammar.specs.Property.{PropertyBegins, PropertyOutcome, Query, Form, posix, perl, mark, is_key, no_value, with_value, unresolved}
 use Rattle.uset_grammar.proofs.UnitMachine.{Next, goes, whole, refuses, turn, run}
-use Rattle.uset_grammar.proofs.PropertyOutcome.{State, colon, caret_due, letter, brace, in_key, in_value, bracket, done, done_or, to_value, next_key, next, slip, slip_by, outcome}
-use Rattle.uset_read.specs.declared.property.Sign.TheVariants.{Mark, Equal, Unequal}
-use Rattle.uset_read.specs.declared.property.KeyPart.{KeyPart}
-use Rattle.uset_read.specs.declared.property.KeyPart.TheVariants.{Space, Letter, Ends, Unfit}
-use Rattle.uset_read.specs.Reading.{and_then, char_in}
-use Rattle.uset_read.specs.Queries.{is_nothing, caret_in, posix_front_in, perl_front_in, key_goes, key_in, value_in, ended_key_in, query_in, asked_in, closing_in, close_in}
-use Rattle.uset_read.proofs.EscapeReading.{Placed, further_text}
+use Rattle.uset_grammar.proofs.PropertyOutcome.{one_property_law, property_is, State, colon, caret_due, letter, brace, in_key, in_value, bracket, done, done_or, to_value, next_key, next, slip, slip_by, outcome}
+use Rattle.uset_grammar.specs.Parts.{and_then, char_in}
+use Rattle.uset_grammar.specs.PropertyParts.{end_mark, equal, unequal, KeyPart, space, letter as of_key, ends, unfit, is_nothing, caret_in, posix_front_in, perl_front_in, key_goes, key_in, value_in, ended_key_in, query_in, closing_in, close_in, judged, property_in}
+use Rattle.uset_grammar.specs.Laws.{PropertiesByParts}
+use Rattle.uset_grammar.proofs.Placed.{Placed, placed_tells, further_text}
 
 -- a character that is due, or another one
 abbrev char_by : Bool → ℕ → Text → Outcome (Unit {0})
@@ -25,12 +23,8 @@ abbrev valued : Bool → Text → Text → Query
 valued negated key value = record { negated = negated; key = key; value = Some value }
 
 module _ (white_space : ℕ → Bool) (resolves lacks : Query → Bool) where
-  -- what is asked at the end mark
-  abbrev pub judged : Form → Query → Text → Outcome Query
-  judged form query at = cond (resolves query) (and_then (close_in form at) (λ z. got query)) (faulty (unresolved white_space resolves lacks query) at)
-
   abbrev inner : Form → Bool → Text → Outcome Query
-  inner form negated t = and_then (query_in white_space form negated t) (judged form)
+  inner form negated t = and_then (query_in white_space form negated t) (judged white_space resolves lacks form)
 
   module _ (q : Text) where
     abbrev machine : Text → State → Text → Outcome Query
@@ -54,13 +48,13 @@ module _ (white_space : ℕ → Bool) (resolves lacks : Query → Bool) where
     end_by form n p t c false is h = (refl, h)
 
     end_placed : (form : Form) (n : Query) (p t : Text) (c : ℕ) → (c == mark form) ≡ true → q ≡ p ++ c ∷ t →
-        Placed q (judged form n (c ∷ t)) (turn (slip_by white_space resolves lacks p (done form n)) (done form n) (λ s. machine (p ++ c ∷ []) s t) p c t)
+        Placed q (judged white_space resolves lacks form n (c ∷ t)) (turn (slip_by white_space resolves lacks p (done form n)) (done form n) (λ s. machine (p ++ c ∷ []) s t) p c t)
     end_placed posix n p t c is h = end_by posix n p t c (resolves n) is h
     end_placed perl n p t c is h = end_by perl n p t c (resolves n) is h
 
     abbrev ValueReads : Text → Type 0
     ValueReads t = (p : Text) (form : Form) (negated : Bool) (d : ℕ) (key value : Text) → q ≡ p ++ t →
-        Placed q (and_then (and_then (value_in white_space form value t) (λ v. got (valued negated (d ∷ key) v))) (judged form)) (machine p (in_value form negated d key value) t)
+        Placed q (and_then (and_then (value_in white_space form value t) (λ v. got (valued negated (d ∷ key) v))) (judged white_space resolves lacks form)) (machine p (in_value form negated d key value) t)
 
     abbrev value_next : Form → Bool → ℕ → Text → Text → ℕ → Bool → Bool → Next State Query
     value_next form negated d key value c m w =
@@ -68,7 +62,7 @@ module _ (white_space : ℕ → Bool) (resolves lacks : Query → Bool) where
 
     value_by : (p t : Text) (c : ℕ) (form : Form) (negated : Bool) (d : ℕ) (key value : Text) (m w : Bool) → (c == mark form) ≡ m → ValueReads t → q ≡ p ++ c ∷ t →
         Placed q (and_then (and_then (cond m (cond (is_nothing value) (faulty (unexpected c) (c ∷ t)) (got value (c ∷ t)))
-        (cond w (value_in white_space form value t) (value_in white_space form (value ++ c ∷ []) t))) (λ v. got (valued negated (d ∷ key) v))) (judged form))
+        (cond w (value_in white_space form value t) (value_in white_space form (value ++ c ∷ []) t))) (λ v. got (valued negated (d ∷ key) v))) (judged white_space resolves lacks form))
         (turn (slip_by white_space resolves lacks p (value_next form negated d key value c m w)) (value_next form negated d key value c m w) (λ s. machine (p ++ c ∷ []) s t) p c t)
     value_by p t c form negated d key [] true w is ih h = (refl, h)
     value_by p t c form negated d key (v ∷ value) true w is ih h = end_placed form (valued negated (d ∷ key) (v ∷ value)) p t c is h
@@ -81,10 +75,10 @@ module _ (white_space : ℕ → Bool) (resolves lacks : Query → Bool) where
 
     abbrev KeyReads : Text → Type 0
     KeyReads t = (p : Text) (form : Form) (negated : Bool) (key : Text) → q ≡ p ++ t →
-        Placed q (and_then (and_then (key_in white_space form key t) (λ x. ended_key_in white_space form negated x.0 x.1)) (judged form)) (machine p (in_key form negated key) t)
+        Placed q (and_then (and_then (key_in white_space form key t) (λ x. ended_key_in white_space form negated x.0 x.1)) (judged white_space resolves lacks form)) (machine p (in_key form negated key) t)
 
     abbrev part : Bool → Bool → Bool → Bool → Bool → KeyPart
-    part m w k e u = cond m (Ends Mark) (cond w Space (cond k Letter (cond e (Ends Equal) (cond u (Ends Unequal) Unfit))))
+    part m w k e u = cond m (ends end_mark) (cond w space (cond k of_key (cond e (ends equal) (cond u (ends unequal) unfit))))
 
     abbrev key_next : Form → Bool → Text → ℕ → Bool → Bool → Bool → Bool → Bool → Next State Query
     key_next form negated key c m w k e u =
@@ -92,7 +86,7 @@ module _ (white_space : ℕ → Bool) (resolves lacks : Query → Bool) where
         (cond e (to_value form negated key) (cond u (to_value form (not negated) key) refuses))))
 
     key_by : (p t : Text) (c : ℕ) (form : Form) (negated : Bool) (key : Text) (m w k e u : Bool) → (c == mark form) ≡ m → KeyReads t → q ≡ p ++ c ∷ t →
-        Placed q (and_then (and_then (key_goes white_space form (part m w k e u) key c t (λ x. key_in white_space form x t)) (λ x. ended_key_in white_space form negated x.0 x.1)) (judged form))
+        Placed q (and_then (and_then (key_goes white_space form (part m w k e u) key c t (λ x. key_in white_space form x t)) (λ x. ended_key_in white_space form negated x.0 x.1)) (judged white_space resolves lacks form))
         (turn (slip_by white_space resolves lacks p (key_next form negated key c m w k e u)) (key_next form negated key c m w k e u) (λ s. machine (p ++ c ∷ []) s t) p c t)
     key_by p t c form negated [] true w k e u is ih h = (refl, h)
     key_by p t c form negated (d ∷ key) true w k e u is ih h = end_placed form (record { negated = negated; key = d ∷ key; value = None }) p t c is h
@@ -152,25 +146,32 @@ module _ (white_space : ℕ → Bool) (resolves lacks : Query → Bool) where
     letter_placed p (c ∷ t) h = letter_by p t c (c == 0x70) (c == 0x50) h
 
   -- the front first, or what it begins at once
-  query_then : (form : Form) (o : Outcome Query) → and_then (and_then o (λ n. got (form, n))) (λ (x : Form × Query). judged x.0 x.1) ≡ and_then o (judged form)
+  query_then : (form : Form) (o : Outcome Query) → and_then (and_then o (λ n. got (form, n))) (λ (x : Form × Query). judged white_space resolves lacks x.0 x.1) ≡ and_then o (judged white_space resolves lacks form)
   query_then form (got n t) = refl
   query_then form (faulty k r) = refl
   query_then form ended = refl
 
   front_then : (form : Form) (o : Outcome Bool) →
-      and_then (and_then (and_then o (λ n. got (form, n))) (λ (f : Form × Bool) u. and_then (query_in white_space f.0 f.1 u) (λ n. got (f.0, n)))) (λ (x : Form × Query). judged x.0 x.1)
+      and_then (and_then (and_then o (λ n. got (form, n))) (λ (f : Form × Bool) u. and_then (query_in white_space f.0 f.1 u) (λ n. got (f.0, n)))) (λ (x : Form × Query). judged white_space resolves lacks x.0 x.1)
       ≡ and_then o (inner form)
   front_then form (got negated t) = query_then form (query_in white_space form negated t)
   front_then form (faulty k r) = refl
   front_then form ended = refl
 
-  -- what the reader asks of a property, and what is judged then, is the machine's outcome
-  pub property_placed : (q : Text) → PropertyBegins q → Placed q (and_then (asked_in white_space q) (λ x. judged x.0 x.1)) (outcome white_space resolves lacks q)
+  -- what the parts say of a property is the machine's outcome
+  property_placed : (q : Text) → PropertyBegins q → Placed q (property_in white_space resolves lacks q) (outcome white_space resolves lacks q)
   property_placed q (t, inl e) =
       let whole = 0x5B ∷ 0x3A ∷ t in
-      subst (λ z. Placed z (and_then (asked_in white_space z) (λ x. judged x.0 x.1)) (outcome white_space resolves lacks z)) (sym e)
+      subst (λ z. Placed z (property_in white_space resolves lacks z) (outcome white_space resolves lacks z)) (sym e)
       (subst (λ o. Placed whole o (outcome white_space resolves lacks whole)) (sym (front_then posix (posix_front_in (0x3A ∷ t)))) (colon_placed whole (0x5B ∷ []) (0x3A ∷ t) refl))
   property_placed q (t, inr e) =
       let whole = 0x5C ∷ t in
-      subst (λ z. Placed z (and_then (asked_in white_space z) (λ x. judged x.0 x.1)) (outcome white_space resolves lacks z)) (sym e)
+      subst (λ z. Placed z (property_in white_space resolves lacks z) (outcome white_space resolves lacks z)) (sym e)
       (subst (λ o. Placed whole o (outcome white_space resolves lacks whole)) (sym (front_then perl (perl_front_in t))) (letter_placed whole (0x5C ∷ []) t refl))
+
+pub properties_by_parts : PropertiesByParts
+properties_by_parts white_space letters resolves lacks q begins =
+    placed_tells (PropertyOutcome white_space resolves lacks q) q (property_in white_space resolves lacks q) (outcome white_space resolves lacks q)
+    (property_placed white_space resolves lacks q begins)
+    (subst (PropertyOutcome white_space resolves lacks q) (property_is white_space letters resolves lacks q begins.0 begins.1)
+    (one_property_law white_space letters resolves lacks q begins.0 begins.1).1)
