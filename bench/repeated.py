@@ -2,14 +2,15 @@
 """Times `uset eval` on sets that are named again and again: `repeated.py PROGRAM [TABLES]`.
 
 A variable of 100,000 ranges, or of 10,000 strings, is joined, taken away or kept ever more often in one bracket, and
-named in ever more brackets one behind another. With tables, properties are named so too. The time of binding the variable, or of
-reading the tables, and of printing the set once is taken off.
+named in ever more brackets one behind another, and in brackets inside one another, which stand open at once. With tables, properties
+are named so too. The time of binding the variable, or of reading the tables, and of printing the set once is taken off, and so is
+the memory.
 """
 
 import sys
 from pathlib import Path
 
-from growth import TABLES, element, seconds, string
+from growth import TABLES, element, peak, seconds, string
 
 # How often a set is named.
 TIMES = (1_000, 10_000, 100_000, 1_000_000)
@@ -19,6 +20,9 @@ MOST_BYTES = 1 << 23
 
 # In how many brackets it is named.
 BRACKETS = (1, 10, 100)
+
+# In how many that stand open at once: of properties, and of variables, which are larger.
+OPEN_PROPERTIES, OPEN_VARIABLES = 10_000, 100
 
 RANGES = "[" + "".join(element(2 * index) for index in range(100_000)) + "]"
 
@@ -67,17 +71,33 @@ def named_in_brackets(program, before, sets):
             print(f"| {label} | {count:,} | {net * 1e3:.1f} | {net * 1e6 / count:.0f} |", flush=True)
 
 
+def named_inside_one_another(program, before, sets, count):
+    """Prints the time and the memory of brackets inside one another that each have the set, or the set without an element."""
+    print_head("set", "in each bracket", "open brackets", "us each", "kB each")
+    for label, name in sets:
+        once = before + f"pat [{name}]\n"
+        start, _ = seconds(program, once)
+        held = peak(program, once)
+        for inside in (name, f"[{name}-[b]]"):
+            text = before + "pat " + f"[{inside}" * count + "]" * count + "\n"
+            taken, _ = seconds(program, text)
+            kept = peak(program, text) - held
+            print(f"| {label} | `{inside}` | {count:,} | {(taken - start) * 1e6 / count:.0f} | {kept / count / 1e3:.1f} |", flush=True)
+
+
 def main():
     program = sys.argv[1]
     bound = TABLES + f"let r set {RANGES}\nlet s set {STRINGS}\n"
     variables = [("100,000 ranges", "$r"), ("10,000 strings", "$s")]
     named_again(program, bound, variables)
     named_in_brackets(program, bound, variables)
+    named_inside_one_another(program, bound, variables, OPEN_VARIABLES)
     if len(sys.argv) > 2:
         tables = Path(sys.argv[2]).read_text(encoding="utf-8")
         properties = [("`[:Alphabetic:]`", "[:Alphabetic:]"), ("`[:L:]`", "[:L:]")]
         named_again(program, tables, properties)
         named_in_brackets(program, tables, properties)
+        named_inside_one_another(program, tables, properties, OPEN_PROPERTIES)
 
 
 if __name__ == "__main__":

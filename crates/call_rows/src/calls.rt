@@ -235,6 +235,7 @@ impl Row<PropertyDatabase> for Faulty {
 
 const FAULTS: &[Faulty] = &[
     ("[z-y]", ParseErrorKind::UnexpectedChar('y'), Some(3)),
+    ("[[set]&]", ParseErrorKind::UnexpectedChar(']'), Some(7)),
     ("ä", ParseErrorKind::UnexpectedChar('ä'), Some(0)),
     ("[a", ParseErrorKind::Eof, None),
     ("[{\\uD800}]", ParseErrorKind::InvalidEscape, Some(2)),

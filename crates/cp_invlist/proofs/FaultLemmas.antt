@@ -1,9 +1,10 @@
 -- The first fault of a list, as a walk over the list finds it.
+use Rattle.std.specs.Option.{option_or}
 use Rattle.std.proofs.Common.{◌≡◌, ℕ, suc, ◌%◌, ◌<◌, ◌≤◌, true, ◌&&◌, ◌==◌, nat_le, Some, None, List, [], ◌∷◌, length, drop, refl, sym, ap, ◌∙◌, ◌⊎◌, inl, inr}
 use Rattle.std.proofs.lemmas.Bool.{le-leb, lt-leb, and_from, and_left, and_right, cond-true, cond-false, cases_Bool, not-false, not-true}
 use Rattle.std.proofs.lemmas.List.{at_drop_all}
 use Rattle.cp_invlist.specs.InversionList.{ascends_from, has_even_length, IsInversionList}
-use Rattle.cp_invlist.specs.Fault.{first_out_of_order, odd_end, first_or, fault_of}
+use Rattle.cp_invlist.specs.Fault.{first_out_of_order, odd_end, fault_of}
 use Rattle.cp_invlist.proofs.Lists.{IsInversionList-from}
 use Rattle.cp_invlist.proofs.Partition.{odd_length}
 
@@ -27,10 +28,10 @@ ascends_from-no_fault n i (x ∷ xs) h = elim (cases_Bool (nat_le n x && nat_le 
 pub fault_of-even : (xs : List ℕ) → first_out_of_order 0 0 xs ≡ None → length xs % 2 ≡ 0 → (fault_of xs ≡ None) × IsInversionList xs
 fault_of-even xs h parity =
     let even : has_even_length xs ≡ true = not-false _ (odd_length xs ∙ ap (λ n. n == 1) parity) in (
-      ap (λ o. first_or o (odd_end xs)) h ∙ cond-true _ _ _ even,
+      ap (λ o. option_or o (odd_end xs)) h ∙ cond-true _ _ _ even,
       IsInversionList-from xs (ascends_from-no_fault 0 0 xs h) even,
     )
 
 pub fault_of-odd : (xs : List ℕ) → first_out_of_order 0 0 xs ≡ None → length xs % 2 ≡ 1 → fault_of xs ≡ Some (length xs)
 fault_of-odd xs h parity =
-    ap (λ o. first_or o (odd_end xs)) h ∙ cond-false _ _ _ (not-true _ (odd_length xs ∙ ap (λ n. n == 1) parity))
+    ap (λ o. option_or o (odd_end xs)) h ∙ cond-false _ _ _ (not-true _ (odd_length xs ∙ ap (λ n. n == 1) parity))

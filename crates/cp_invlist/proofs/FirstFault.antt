@@ -1,9 +1,10 @@
 -- The fault that the walk finds is the first, and each first fault is found.
+use Rattle.std.specs.Option.{option_or}
 use Rattle.std.proofs.Common.{◌≡◌, ℕ, zero, suc, ◌+◌, ◌-◌, ◌<◌, ◌≤◌, true, Option, Some, None, List, [], ◌∷◌, length, get_or, refl, sym, ap, ◌∙◌, arith, ◌⊎◌, inl, inr, subst, true≢false}
 use Rattle.std.proofs.lemmas.Bool.{cases_lt, cases_Bool, cond-true, cond-false}
 use Rattle.std.proofs.Math.Nat.{le_antisymm}
 use Rattle.cp_invlist.specs.InversionList.{ascends_from, has_even_length, IsInversionList}
-use Rattle.cp_invlist.specs.Fault.{first_out_of_order, odd_end, first_or, fault_of, IsOutOfOrder, IsFirstFault}
+use Rattle.cp_invlist.specs.Fault.{first_out_of_order, odd_end, fault_of, IsOutOfOrder, IsFirstFault}
 use Rattle.cp_invlist.proofs.Lists.{ascends_from-parts, IsInversionList-parts, IsInversionList-from}
 use Rattle.cp_invlist.proofs.FaultLemmas.{first_out_of_order-fits, first_out_of_order-fault, ascends_from-no_fault}
 
@@ -107,7 +108,7 @@ stray_from_out xs (suc k) s =
     (s.0, elim s.1 [ inl low ↦ (let low' = low.1 in inl (omega arith)) | inr high ↦ inr high ])
 
 -- the fault of a list by what the walk found
-found : (xs : List ℕ) (i : ℕ) (o : Option ℕ) → first_out_of_order 0 0 xs ≡ o → first_or o (odd_end xs) ≡ Some i → IsFirstFault xs i
+found : (xs : List ℕ) (i : ℕ) (o : Option ℕ) → first_out_of_order 0 0 xs ≡ o → option_or o (odd_end xs) ≡ Some i → IsFirstFault xs i
 found xs i None e h = elim (cases_Bool (has_even_length xs)) [
   | inl even ↦ let there : None ≡ Some i = sym (cond-true _ _ _ even) ∙ h in cc
   | inr odd ↦
@@ -147,7 +148,7 @@ fault_of-IsInversionList xs h i first =
       | inr end ↦ true≢false (sym parts.1 ∙ end.1)
     ]
 
-none_is_list : (xs : List ℕ) (o : Option ℕ) → first_out_of_order 0 0 xs ≡ o → first_or o (odd_end xs) ≡ None → IsInversionList xs
+none_is_list : (xs : List ℕ) (o : Option ℕ) → first_out_of_order 0 0 xs ≡ o → option_or o (odd_end xs) ≡ None → IsInversionList xs
 none_is_list xs None e h = elim (cases_Bool (has_even_length xs)) [
   | inl even ↦ IsInversionList-from xs (ascends_from-no_fault 0 0 xs e) even
   | inr odd ↦ let there : Some (length xs) ≡ None = sym (cond-false _ _ _ odd) ∙ h in cc

@@ -1,5 +1,6 @@
 -- What a list of numbers lacks to be an inversion list.
 use Rattle.std.specs.Prelude.{◌≡◌, ◌<◌, ◌≤◌, ◌-◌, ◌⊎◌, false, slice_index, ℕ, suc, ◌&&◌, nat_le, if◌then◌else◌, Option, Some, None, List, [], ◌∷◌, length}
+use Rattle.std.specs.Option.{option_or}
 use Rattle.cp_invlist.specs.InversionList.{has_even_length}
 
 -- The index of the first element that is below the number, or not above the element before it, or above 110000. The first
@@ -13,14 +14,9 @@ first_out_of_order n i (x ∷ xs) =
 abbrev pub odd_end : List ℕ → Option ℕ
 odd_end xs = if has_even_length xs then None else Some (length xs)
 
--- the first of two that is there
-abbrev pub first_or : Option ℕ → Option ℕ → Option ℕ
-first_or None o = o
-first_or (Some i) o = Some i
-
 -- the first element out of order, or where there is none the end of a list of odd length
 abbrev pub fault_of : List ℕ → Option ℕ
-fault_of xs = first_or (first_out_of_order 0 0 xs) (odd_end xs)
+fault_of xs = option_or (first_out_of_order 0 0 xs) (odd_end xs)
 
 -- the fault of a list has this index
 abbrev pub IsFaultAt : List ℕ → ℕ → Type 0
@@ -28,7 +24,8 @@ IsFaultAt xs index = fault_of xs ≡ Some index
 
 -- the element at the index is not above the one before it, or is above 110000
 abbrev pub IsOutOfOrder : List ℕ → ℕ → Type 0
-IsOutOfOrder xs k = (k < length xs) × (((0 < k) × (slice_index xs k ≤ slice_index xs (k - 1))) ⊎ (0x11_0000 < slice_index xs k))
+IsOutOfOrder xs k =
+    (k < length xs) × (((0 < k) × (slice_index xs k ≤ slice_index xs (k - 1))) ⊎ (0x11_0000 < slice_index xs k))
 
 -- nothing before the index is out of order, and there an element is, or an odd number of elements ends
 abbrev pub IsFirstFault : List ℕ → ℕ → Type 0

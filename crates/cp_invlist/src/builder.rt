@@ -60,7 +60,8 @@ impl CodePointInversionListBuilder {
     }
 
     /// Adds the code points of the range up to 10FFFF. It takes a binary search and one move of what
-    /// stands behind the range, and constant time but for growth where the range starts behind all members.
+    /// stands behind the range, and constant time but for growth where the range starts behind the last member and doesn't touch
+    /// it.
     pub fn add_range32(&mut self, range: CodePointRange) -> Result<(), NoMemory>
         ensures ok { OnOk result ((d : ℕ) → contains self.new d ≡ (contains self.old d || in_code_points range d)) }
         ensures err { OnErr result (self.new ≡ self.old) }

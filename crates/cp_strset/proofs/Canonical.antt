@@ -1,4 +1,5 @@
 -- A list of strings without a fault is canonical, and a binary search in it finds each of its strings.
+use Rattle.std.specs.Option.{option_or}
 use Rattle.std.proofs.Common.{◌≡◌, ◌≢◌, ℕ, suc, ◌+◌, ◌<◌, false, Option, Some, None, is_some, Result, Ok, Err, is_ok, List, [], ◌∷◌, length, map, get_or, All, refl, sym, ap, ◌∙◌, arith, nat_cmp, true≢false, inl, inr}
 use Rattle.std.specs.declared.cmp.Ordering.{Ordering}
 use Rattle.std.specs.declared.cmp.Ordering.TheVariants.{Less, Equal, Greater}
@@ -17,7 +18,7 @@ use Rattle.std.proofs.lemmas.Map.Text.{is_eq-slice_cmp}
 use Rattle.std.proofs.lemmas.List.Sorted.{searchable_from_sorted}
 use Rattle.cp_strset.specs.declared.StringListError.{StringListError}
 use Rattle.cp_strset.specs.declared.StringListError.TheVariants.{StringOfOne}
-use Rattle.cp_strset.specs.StringList.{sole_of, fault_of_order, fault_behind, fault_at, first_or, fault_from, AreCanonical}
+use Rattle.cp_strset.specs.StringList.{sole_of, fault_of_order, fault_behind, fault_at, fault_from, AreCanonical}
 
 -- by bytes
 abbrev pub IsBelow : List ℕ → List ℕ → Type 0
@@ -28,9 +29,9 @@ abbrev pub AreAbove : Option (List ℕ) → List (List ℕ) → Type 0
 AreAbove None ss = Unit {0}
 AreAbove (Some p) ss = All (IsBelow p) ss
 
-first_or-none : (a b : Option StringListError) → first_or a b ≡ None → (a ≡ None) × (b ≡ None)
-first_or-none None b h = (refl, h)
-first_or-none (Some e) b h = cc
+option_or-none : (a b : Option StringListError) → option_or a b ≡ None → (a ≡ None) × (b ≡ None)
+option_or-none None b h = (refl, h)
+option_or-none (Some e) b h = cc
 
 none_of_order : (o : Ordering) (i : ℕ) → fault_of_order o i ≡ None → o ≡ Greater
 none_of_order Less i h = cc
@@ -66,7 +67,7 @@ canonical_from p i [] h = (
   record { ascending = λ j k d lt short. absurd (omega arith); none_of_one = All-nil (λ s. length (chars s) ≢ 1) },
 )
 canonical_from p i (s ∷ ss) h =
-    let parts = first_or-none _ _ h in
+    let parts = option_or-none _ _ h in
     let first = fault_at-none p s i parts.0 in
     let rest = canonical_from (Some s) (suc i) ss parts.1 in (
       are_above-cons p s ss i first.1 rest.0,
@@ -136,7 +137,7 @@ faultless_from p i (s ∷ ss) above pairs ones =
     cond-false _ _ _ (one_not (chars s) (All-head (λ s. length (chars s) ≢ 1) s ss ones)) ∙ fault_behind-above p s i ss above in
     let rest = faultless_from (Some s) (suc i) ss (λ k d lt. pairs 0 (suc k) d (omega arith) (omega arith))
     (λ j k d lt short. pairs (suc j) (suc k) d (omega arith) (omega arith)) (All-tail (λ s. length (chars s) ≢ 1) s ss ones) in
-    ap (λ o. first_or o (fault_from (Some s) (suc i) ss)) first ∙ rest
+    ap (λ o. option_or o (fault_from (Some s) (suc i) ss)) first ∙ rest
 
 pub faultless-AreCanonical : (ss : List (List ℕ)) → AreCanonical ss → fault_from None 0 ss ≡ None
 faultless-AreCanonical ss h = faultless_from None 0 ss tt h.ascending h.none_of_one

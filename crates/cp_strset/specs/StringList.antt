@@ -1,5 +1,6 @@
 -- What a list of strings lacks to be strictly ascending by bytes with no string of one character.
 use Rattle.std.specs.Prelude.{◌≡◌, ◌≢◌, All, AllPairs, length, ℕ, Bool, suc, if◌then◌else◌, Option, Some, None, is_some, List, [], ◌∷◌}
+use Rattle.std.specs.Option.{option_or}
 use Rattle.std.specs.Ordering.{nat_cmp}
 use Rattle.std.specs.declared.cmp.Ordering.{Ordering}
 use Rattle.std.specs.declared.cmp.Ordering.TheVariants.{Less, Equal, Greater}
@@ -30,15 +31,10 @@ fault_behind (Some p) s i = fault_of_order (slice_cmp nat_cmp s p) i
 abbrev pub fault_at : Option (List ℕ) → List ℕ → ℕ → Option StringListError
 fault_at p s i = if is_some (sole_of (chars s)) then Some (StringOfOne i) else fault_behind p s i
 
--- the first of two that is there
-abbrev pub first_or : Option StringListError → Option StringListError → Option StringListError
-first_or None o = o
-first_or (Some e) o = Some e
-
 -- The first fault of a list of strings, with the one before them and the index of the first.
 abbrev pub fault_from : Option (List ℕ) → ℕ → List (List ℕ) → Option StringListError
 fault_from p i [] = None
-fault_from p i (s ∷ ss) = first_or (fault_at p s i) (fault_from (Some s) (suc i) ss)
+fault_from p i (s ∷ ss) = option_or (fault_at p s i) (fault_from (Some s) (suc i) ss)
 
 -- whether some string of the list has these bytes
 abbrev pub holds : List (List ℕ) → List ℕ → Bool

@@ -1,16 +1,13 @@
 //! A set of code points together with strings.
 #![tactic(auto)]
 
-ghost use Rattle.std.specs.Prelude.{◌≡◌, ℕ, ◌+◌, ◌&&◌, ◌↔◌, false, nat_eq, IsTrue, IfOk, OnOk, List, length, map, None, Some};
-ghost use Rattle.std.specs.Cmp.Lexicographic.{pointwise};
+ghost use Rattle.std.specs.Prelude.{◌≡◌, ◌+◌, ◌&&◌, ◌↔◌, false, IsTrue, IfOk, OnOk, List, length, map, None, Some};
 ghost use Rattle.std.specs.List.{AllPass};
 ghost use Rattle.std.specs.Option.{option_copied};
 ghost use Rattle.std.specs.Str.{IsUtf8, chars};
 ghost use Rattle.std.specs.String.{string_bytes};
 ghost use Rattle.cp_invlist.specs.InversionList.{contains};
-ghost use Rattle.cp_invlist.specs.Ranges.{AreMaximalRanges};
 ghost use Rattle.cp_invlist.specs.Size.{count_members};
-ghost use Rattle.cp_invlist.specs.declared.ranges.CodePointRange.{CodePointRange};
 ghost use Rattle.cp_strset.specs.PatternText.{IsPatternOf, is_printable_ascii};
 ghost use Rattle.cp_strset.specs.StringList.{AreCanonical, sole_of, holds, fault_at, first_fault};
 ghost use Rattle.cp_strset.specs.StringSet.{contains_text, same_members, HaveSameMembers};

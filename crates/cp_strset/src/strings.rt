@@ -62,7 +62,7 @@ impl Strings {
         Ok(())
     }
 
-    /// Adds the other strings. The fewer are moved.
+    /// Adds the other strings. The fewer are moved. Where memory is refused nothing is said of the strings, which are to be let go.
     pub fn append(&mut self, mut other: Strings) -> Result<(), NoMemory>
         ensures { OnOk result ((bytes : List ℕ) →
             contains_text self.new bytes ≡ (contains_text self.old bytes || contains_text other bytes)) }
@@ -114,7 +114,7 @@ impl Strings {
         }
     }
 
-    /// Adds copies of the strings of the set.
+    /// Adds copies of the strings of the set. Where memory is refused nothing is said of the strings, which are to be let go.
     pub fn insert_copies(
         &mut self,
         alloc: Global,

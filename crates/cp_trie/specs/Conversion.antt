@@ -32,7 +32,9 @@ ConvertsTo convert old new = (c : ℕ) → convert (value_at old c) ≡ Some (va
 
 -- The answer is a map only where each value of the map converts, the error value too; a refusal names the first that does not,
 -- counted along the maximal runs, or says that memory was refused.
-abbrev pub NamesFirstRefused : {V W M : Type 0} → (V → V → Bool) → (V → Option W) → CodePointMap V → Result M ConvertError → Type 0
+abbrev pub NamesFirstRefused : {V W M : Type 0} → (V → V → Bool) → (V → Option W) → CodePointMap V →
+    Result M ConvertError → Type 0
 NamesFirstRefused {V} eq convert m result =
     (rs : List (CodePointMapRange V)) → AreMaximalRuns eq (value_at m) rs →
-    MatchResult result (λ _. first_refused convert m.error_value rs ≡ None) (λ e. NamesRefused e (first_refused convert m.error_value rs))
+    MatchResult result (λ _. first_refused convert m.error_value rs ≡ None)
+    (λ e. NamesRefused e (first_refused convert m.error_value rs))

@@ -13,7 +13,8 @@ is_in_order r = nat_le r.range.start r.range.end && nat_le r.range.end 0x10_FFFF
 abbrev pub fault_from : {V : Type 0} → ℕ → ℕ → List (CodePointMapRange V) → Option TrieError
 fault_from index n [] = if n == 0x11_0000 then None else Some (Gap index)
 fault_from index n (r ∷ rs) =
-    if r.range.start == n then (if is_in_order r then fault_from (index + 1) (r.range.end + 1) rs else Some (Order index))
+    if r.range.start == n
+    then (if is_in_order r then fault_from (index + 1) (r.range.end + 1) rs else Some (Order index))
     else Some (Gap index)
 
 -- the first fault of the runs, if there is one

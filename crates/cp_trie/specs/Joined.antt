@@ -7,7 +7,8 @@ abbrev pub up_to : {V : Type 0} → CodePointMapRange V → CodePointMapRange V 
 up_to r s = record { range = record { start = r.range.start; end = s.range.end }; value = r.value }
 
 -- a run and those behind it
-abbrev pub joined_from : {V : Type 0} → (V → V → Bool) → CodePointMapRange V → List (CodePointMapRange V) → List (CodePointMapRange V)
+abbrev pub joined_from : {V : Type 0} → (V → V → Bool) → CodePointMapRange V → List (CodePointMapRange V) →
+    List (CodePointMapRange V)
 joined_from eq r [] = r ∷ []
 joined_from eq r (s ∷ ss) = if eq r.value s.value then joined_from eq (up_to r s) ss else r ∷ joined_from eq s ss
 

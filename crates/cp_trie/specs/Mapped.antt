@@ -9,7 +9,8 @@ TakesEach {T} pre rs = (k : ℕ) (d : CodePointMapRange T) → k < length rs →
 -- the mapping answers at the value of each run by a function: no two answers of it differ there
 abbrev pub IsFunctionOnEach : {T U : Type 0} → (T → U → Type 0) → List (CodePointMapRange T) → Type 0
 IsFunctionOnEach {T} {U} post rs =
-    (k : ℕ) (d : CodePointMapRange T) (u w : U) → k < length rs → post (slice_index_or rs k d).value u → post (slice_index_or rs k d).value w → u ≡ w
+    (k : ℕ) (d : CodePointMapRange T) (u w : U) → k < length rs → post (slice_index_or rs k d).value u →
+    post (slice_index_or rs k d).value w → u ≡ w
 
 -- what a walk keeps of its mapping: at the value of each run that is left it may be called, and answers by a function
 abbrev pub KeepsMapping : {T U : Type 0} → (T → Type 0) → (T → U → Type 0) → List (CodePointMapRange T) → Type 0
@@ -35,7 +36,8 @@ IsPassingFront {T} post test rs n =
     × ((d : CodePointMapRange T) → n < length rs → AnswersWith post test false (slice_index_or rs n d).value)
 
 -- a step at the first run takes it with those behind it whose answers are equal to its own, as one run with its answer
-abbrev pub TakesRun : {T U : Type 0} → (U → U → Bool) → (T → U → Type 0) → List (CodePointMapRange T) → CodePointMapRange U → List (CodePointMapRange T) → Type 0
+abbrev pub TakesRun : {T U : Type 0} → (U → U → Bool) → (T → U → Type 0) → List (CodePointMapRange T) →
+    CodePointMapRange U → List (CodePointMapRange T) → Type 0
 TakesRun eq post [] run rest = ⊥
 TakesRun eq post (r ∷ rs) run rest =
     (run.range.start ≡ r.range.start)
@@ -46,14 +48,16 @@ TakesRun eq post (r ∷ rs) run rest =
     × (rest ≡ drop n rs)
 
 -- a step of the walk: it takes a run, or gives nothing where no run is left
-abbrev pub MappedStep : {T U : Type 0} → (U → U → Bool) → (T → U → Type 0) → List (CodePointMapRange T) → Option (CodePointMapRange U) → List (CodePointMapRange T) → Type 0
+abbrev pub MappedStep : {T U : Type 0} → (U → U → Bool) → (T → U → Type 0) → List (CodePointMapRange T) →
+    Option (CodePointMapRange U) → List (CodePointMapRange T) → Type 0
 MappedStep eq post rs None rest = (rs ≡ []) × (rest ≡ [])
 MappedStep eq post rs (Some run) rest = TakesRun eq post rs run rest
 
 -- The maximal runs of a mapped map from a number on, in order: the first run starts there and has an answer of its first number, the
 -- answers at all its numbers are equal to that one, that at the code point behind it is not, and from there on it goes on so up to
 -- 10FFFF. Where the mapping answers by a function, each of these answers is the mapped value.
-abbrev pub AreMappedRunsFrom : {T U : Type 0} → (U → U → Bool) → (T → U → Type 0) → (ℕ → T) → ℕ → List (CodePointMapRange U) → Type 0
+abbrev pub AreMappedRunsFrom : {T U : Type 0} → (U → U → Bool) → (T → U → Type 0) → (ℕ → T) → ℕ →
+    List (CodePointMapRange U) → Type 0
 AreMappedRunsFrom eq post at n [] = n ≡ 0x11_0000
 AreMappedRunsFrom eq post at n (r ∷ rs) =
     (r.range.start ≡ n)
@@ -65,5 +69,6 @@ AreMappedRunsFrom eq post at n (r ∷ rs) =
     × AreMappedRunsFrom eq post at (r.range.end + 1) rs
 
 -- all maximal runs of the mapped values, in order: they cover 0 to 10FFFF once
-abbrev pub AreMappedRuns : {T U : Type 0} → (U → U → Bool) → (T → U → Type 0) → (ℕ → T) → List (CodePointMapRange U) → Type 0
+abbrev pub AreMappedRuns : {T U : Type 0} → (U → U → Bool) → (T → U → Type 0) → (ℕ → T) → List (CodePointMapRange U) →
+    Type 0
 AreMappedRuns eq post at rs = AreMappedRunsFrom eq post at 0 rs

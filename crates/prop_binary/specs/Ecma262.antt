@@ -15,4 +15,5 @@ ecma262_number text = position (λ property. is_ecma262_name text property) prop
 
 -- each property that has the text as such a name has this number, so that no text is the name of two properties
 abbrev pub IsOnlyNumber : List ℕ → Option ℕ → Type 0
-IsOnlyNumber text number = (k : ℕ) → IfSome (slice_get properties k) (λ property. is_ecma262_name text property ≡ true → number ≡ Some k)
+IsOnlyNumber text number =
+    (k : ℕ) → IfSome (slice_get properties k) (λ property. is_ecma262_name text property ≡ true → number ≡ Some k)

@@ -9,7 +9,7 @@ use crate::table::SetTable;
 
 /// The table of the property with this name in ECMA-262 (the table "Binary Unicode property aliases and their canonical
 /// property names"), compared byte for byte with the long and the short names. `Any`, `ASCII` and `Assigned` are not
-/// read, and White_Space has the short name `WSpace`.
+/// read, and White_Space has the short name `WSpace`. `None` where the text is no such name.
 pub fn ecma262_table(name: &[u8]) -> Option<SetTable>
     ensures found { result ≡ ecma262_number name.now }
     ensures only { IsOnlyNumber name.now result }

@@ -246,7 +246,7 @@ impl SetTable {
         property_names()[usize::from(self.number)].long.as_bytes()
     }
 
-    /// The table of this name, compared byte for byte.
+    /// The table of this name, compared byte for byte. `None` where no table has it.
     pub fn from_name(name: &[u8]) -> Option<SetTable>
         ensures { result ≡ position (λ known. bytes_eq known name.now) set_table_names }
     {

@@ -1,4 +1,5 @@
 -- What stands above a line, and what a line adds to it.
+use Rattle.std.specs.Option.{option_or}
 use Rattle.std.proofs.Common.{◌≡◌, ℕ, Bool, true, false, ◌||◌, nat_eq, List, [], ◌∷◌, Option, Some, None, is_some, option_map, option_and_then, cond, refl, ap, ◌∙◌}
 use mathlib.Core.Path.{fun_ext}
 use Rattle.prop_names.specs.Names.{Names, with_name}
@@ -9,7 +10,7 @@ use Rattle.prop_data.specs.Line.{Header, set_header, map_header, names_header, l
 use Rattle.prop_data.specs.LinesAbove.{Section, is_closed, sections, with_row, table_of_row, last_in_table, found, set_at, map_at, names_at, long_at, short_at, emoji_at, ext_at, tables_of_sections, tables_of_lines}
 use Rattle.prop_data.specs.Loading.{with_text, emoji_with, list_with, tables_begun, tables_grown, after}
 use Rattle.prop_data.specs.Numbers.{range, decimal_number}
-use Rattle.prop_data.specs.Rows.{or_else, holds, value_of, text_of, members, value, names_in, texts_in, is_subtags, emoji_members, extension_list}
+use Rattle.prop_data.specs.Rows.{holds, value_of, text_of, members, value, names_in, texts_in, is_subtags, emoji_members, extension_list}
 use Rattle.prop_data.specs.Tables.{EmojiMembers, ExtensionList, Tables}
 use Rattle.prop_data.specs.LineFault.{Above, above, header_fault, set_header_fault, map_header_fault, names_header_fault, text_header_fault, emoji_header_fault, ext_header_fault, index_fault, default_fault, unless, line_fault, after_end}
 
@@ -39,7 +40,7 @@ emoji_told a s h = let e = fun_ext h in λ i. record a { emoji = e i }
 pub extensions_told : (a : Tables) (s : ℕ → Option ExtensionList) → ((t : ℕ) → a.extensions t ≡ s t) → a ≡ record a { extensions = s }
 extensions_told a s h = let e = fun_ext h in λ i. record a { extensions = e i }
 
-no_fault_first : {A : Type 0} (x y : Option A) → or_else x y ≡ None → x ≡ None
+no_fault_first : {A : Type 0} (x y : Option A) → option_or x y ≡ None → x ≡ None
 no_fault_first None y h = refl
 no_fault_first (Some x) y h = cc
 
@@ -101,7 +102,7 @@ named tables (ext_header index script) h = named_ext tables (decimal_number inde
 named tables (short_header name) h = let p = named_texts tables.short (text_number name) h in (short_table p.0, ap (λ (s : Option ℕ). option_map short_table s) p.1)
 
 -- what the nearest section says comes first
-first_says : {A : Type 0} (b : Bool) (x : A) (y : Option A) → or_else (cond b (Some x) None) y ≡ cond b (Some x) y
+first_says : {A : Type 0} (b : Bool) (x : A) (y : Option A) → option_or (cond b (Some x) None) y ≡ cond b (Some x) y
 first_says true x y = refl
 first_says false x y = refl
 
@@ -118,7 +119,7 @@ tables_of_sections-begun (ext_table n script) ss = extensions_told _ _ (λ t. fi
 
 -- what the nearest section says, with a row more
 first_grows : {A : Type 0} (f : A → A) (b : Bool) (x : A) (y : Option A) →
-    or_else (cond b (Some (f x)) None) y ≡ cond b (option_map f (or_else (cond b (Some x) None) y)) (or_else (cond b (Some x) None) y)
+    option_or (cond b (Some (f x)) None) y ≡ cond b (option_map f (option_or (cond b (Some x) None) y)) (option_or (cond b (Some x) None) y)
 first_grows f true x y = refl
 first_grows f false x y = refl
 
@@ -156,7 +157,7 @@ grown false [] r h = absurd (cc)
 grown false (s ∷ ss) r h = same_above _ _ refl refl refl (tables_of_sections-grown s.0 r s.1 ss)
 
 -- nothing but lines without fields may follow `end`
-not_closed : (x : Option TableErrorKind) (closed : Bool) → or_else x (after_end closed) ≡ None → closed ≡ false
+not_closed : (x : Option TableErrorKind) (closed : Bool) → option_or x (after_end closed) ≡ None → closed ≡ false
 not_closed None true h = absurd (cc)
 not_closed None false h = refl
 not_closed (Some e) closed h = absurd (cc)

@@ -1,4 +1,5 @@
 -- Each set of a table text ends.
+use Rattle.std.specs.Option.{option_or}
 use Rattle.std.proofs.Common.{◌≡◌, ℕ, ◌+◌, ◌≤◌, Bool, true, false, cond, nat_eq, List, [], ◌∷◌, Option, Some, None, refl, subst, arith}
 use Rattle.std.proofs.lemmas.Bool.Decides.{nat_tests}
 use Rattle.std.proofs.lemmas.Bool.{or_from}
@@ -7,7 +8,7 @@ use Rattle.prop_data.specs.Laws.{SetsAreBounded}
 use Rattle.prop_data.specs.Line.{Row}
 use Rattle.prop_data.specs.LinesAbove.{Section, found, set_at, sections}
 use Rattle.prop_data.specs.Numbers.{range}
-use Rattle.prop_data.specs.Rows.{or_else, members, holds}
+use Rattle.prop_data.specs.Rows.{members, holds}
 use Rattle.prop_data.specs.TableText.{laid_on, lines_by_field}
 
 abbrev Ends : (ℕ → Bool) → Type 0
@@ -36,7 +37,7 @@ set_ends : (t : ℕ) (table : Table) (rows : List Row) → AllEnd (set_at t tabl
 set_ends t (set_table n) rows = of_number (nat_eq n t) rows
 set_ends t _ rows = λ m h. absurd (let g = h in cc)
 
-first_ends : (a b : Option (ℕ → Bool)) → AllEnd a → AllEnd b → AllEnd (or_else a b)
+first_ends : (a b : Option (ℕ → Bool)) → AllEnd a → AllEnd b → AllEnd (option_or a b)
 first_ends None b h k = k
 first_ends (Some x) b h k = h
 

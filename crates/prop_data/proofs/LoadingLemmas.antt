@@ -1,4 +1,5 @@
 -- An open table and the tables beside it.
+use Rattle.std.specs.Option.{option_or}
 use Rattle.std.proofs.Common.{is_some, ap₂, ◌∷◌, ◌++◌, ◌≡◌, ℕ, Bool, true, false, ◌||◌, nat_lt, nat_eq, List, [], [], Option, Some, None, option_map, cond, refl, sym, ap, ◌∙◌, Result, Ok, Err}
 use mathlib.Core.Path.{fun_ext}
 use Rattle.cp_invlist.specs.InversionList.{contains}
@@ -23,7 +24,7 @@ use Rattle.prop_data.specs.Changes.{with_set, with_map, with_names, with_texts, 
 use Rattle.prop_data.specs.Headers.{set_table, map_table, names_table, emoji_table, scx_table, ext_table}
 use Rattle.prop_data.specs.Line.{Row}
 use Rattle.prop_data.specs.Numbers.{range}
-use Rattle.prop_data.specs.Rows.{or_else, holds, value_of, text_of, value_outside, is_subtags, first_scripts}
+use Rattle.prop_data.specs.Rows.{holds, value_of, text_of, value_outside, is_subtags, first_scripts}
 use Rattle.prop_data.specs.Tables.{EmojiMembers, Tables}
 use Rattle.prop_data.specs.LineFault.{row_fault, no_text, no_emoji}
 use Rattle.prop_data.specs.TableText.{at_line}
@@ -120,7 +121,7 @@ pub takes_emoji : (old new : OpenEmoji) (row : Row) (found : Option TableErrorKi
 takes_emoji old new row found r text n (Ok u) fault_is range_is text_is h = (
   λ tables. fault_is tables ∙ h.0,
   ap emoji_table h.1,
-  h.2 ∙ ap (λ (o : Option (ℕ × ℕ)). or_else (option_map (λ (x : ℕ × ℕ). x.1) o) old.last) (sym range_is),
+  h.2 ∙ ap (λ (o : Option (ℕ × ℕ)). option_or (option_map (λ (x : ℕ × ℕ). x.1) o) old.last) (sym range_is),
   emoji_grown old new row h.1 (λ c. h.3 c ∙ ap (λ (o : Option (ℕ × ℕ)). contains old.builder c || holds o c) (sym range_is))
       (λ bytes. h.4 bytes ∙ ap (λ (o : Option (List ℕ)). contains_text old.strings bytes || is_text o bytes) (sym text_is)),
 )

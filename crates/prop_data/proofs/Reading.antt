@@ -1,10 +1,10 @@
 -- Where the reading of a table text stands: some lines are read, and the rest is to come.
+use Rattle.std.specs.Option.{option_or}
 use Rattle.std.proofs.Common.{◌≡◌, ℕ, ◌+◌, ◌≤◌, ◌<◌, List, [], ◌∷◌, length, Some, None, option_map, refl, sym, ap, ◌∙◌, arith, Err}
 use Rattle.text_lines.specs.Lines.{lines}
 use Rattle.text_lines.specs.Fields.{fields}
 use Rattle.prop_data.specs.declared.error.TableError.{TableError}
 use Rattle.prop_data.specs.Line.{Line, line_of}
-use Rattle.prop_data.specs.Rows.{or_else}
 use Rattle.prop_data.specs.declared.error.LoadError.{LoadError}
 use Rattle.prop_data.specs.declared.error.LoadError.TheVariants.{Table, NoMemory}
 use Rattle.prop_data.specs.Database.{IsFault}
@@ -29,7 +29,7 @@ faulty_line : (text rest line behind : List ℕ) (seen : Above) (number : ℕ) (
     option_map (at_line number) (line_fault seen (line_of (fields line))) ≡ Some fault → table_fault (lines text) ≡ Some fault
 faulty_line text rest line behind seen number fault at parts faulty =
     sym at.fault_is ∙ (ap (λ ls. first_fault at.read number (lines_by_field ls)) parts
-    ∙ ap (λ o. or_else o (first_fault (line_of (fields line) ∷ at.read) (number + 1) (lines_by_field (lines behind))))
+    ∙ ap (λ o. option_or o (first_fault (line_of (fields line) ∷ at.read) (number + 1) (lines_by_field (lines behind))))
     (ap (option_map (at_line number)) (fault_of_line-line_fault (above at.read) (line_of (fields line))
     ∙ ap (λ a. line_fault a (line_of (fields line))) (sym at.seen_is)) ∙ faulty))
 
@@ -43,7 +43,7 @@ next_line text rest line behind seen new number at parts shorter whole is =
       read = l ∷ at.read;
       seen_is = is ∙ (ap (λ a. after a l) at.seen_is ∙ sym (above-line at.read l here));
       fault_is =
-          ap (λ o. or_else (option_map (at_line number) o) (first_fault (l ∷ at.read) (number + 1) (lines_by_field (lines behind)))) (sym (fault_of_line-line_fault (above at.read) l ∙ here))
+          ap (λ o. option_or (option_map (at_line number) o) (first_fault (l ∷ at.read) (number + 1) (lines_by_field (lines behind)))) (sym (fault_of_line-line_fault (above at.read) l ∙ here))
           ∙ (ap (λ ls. first_fault at.read number (lines_by_field ls)) (sym parts) ∙ at.fault_is);
       lines_are = ap (λ ls. laid_on at.read (lines_by_field ls)) (sym parts) ∙ at.lines_are;
       counted = omega (arith, at.counted);

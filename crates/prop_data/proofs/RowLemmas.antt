@@ -2,12 +2,13 @@
 use Rattle.std.proofs.Common.{◌≡◌, ℕ, ◌≤◌, Bool, true, false, ◌&&◌, ◌||◌, nat_le, nat_lt, List, [], ◌∷◌, Option, Some, None, unwrap_or, cond, inl, inr, refl, sym, ap, ◌∙◌, arith}
 use mathlib.Core.Logic.{◌⊎◌}
 use Rattle.std.specs.Prelude.{Result, Ok, Err, OnOk, OnErr}
+use Rattle.std.specs.Option.{option_or}
 use Rattle.std.proofs.lemmas.Bool.{both_ways, or_from, cases_Bool}
 use Rattle.std.proofs.lemmas.Bool.Decides.{nat_tests}
 use Rattle.std.specs.List.{list_any}
 use Rattle.cp_invlist.specs.Ranges.{in_range, in_code_points}
 use Rattle.prop_data.specs.declared.error.TableErrorKind.TheVariants.{ValueOutOfType, SyntaxAscii, ExtensionOrder}
-use Rattle.prop_data.specs.Rows.{or_else, holds}
+use Rattle.prop_data.specs.Rows.{holds}
 use Rattle.prop_data.specs.MapBuilder.{next_of}
 use Rattle.prop_data.specs.Accepted.{AreAccepted}
 use Rattle.prop_data.specs.Forbidden.{is_forbidden, IsAllowed}
@@ -36,12 +37,12 @@ pub in_code_points-holds : (start end c : ℕ) → end ≤ 0x10_FFFF → in_code
 in_code_points-holds start end c within = grind (arith, nat_tests)
 
 pub set_row_fault-none : (t : ℕ) (last : Option ℕ) (r : ℕ × ℕ) (spelled : Option (ℕ × ℕ)) → Some r ≡ spelled → range_fault last r ≡ None → syntax_fault t r ≡ None → set_row_fault t last spelled ≡ None
-set_row_fault-none t last r spelled is range syntax = ap (set_row_fault t last) (sym is) ∙ (ap (λ o. or_else o (syntax_fault t r)) range ∙ syntax)
+set_row_fault-none t last r spelled is range syntax = ap (set_row_fault t last) (sym is) ∙ (ap (λ o. option_or o (syntax_fault t r)) range ∙ syntax)
 
 pub map_row_fault-none : (t : ℕ) (last : Option ℕ) (r : ℕ × ℕ) (spelled : Option (ℕ × ℕ)) (n : ℕ) (number : Option ℕ) → Some r ≡ spelled → Some n ≡ number → range_fault last r ≡ None → value_fault t n ≡ None →
     map_row_fault t last spelled number ≡ None
 map_row_fault-none t last r spelled n number is number_is range value =
-    ap (λ s. map_row_fault t last s number) (sym is) ∙ (ap (map_row_fault t last (Some r)) (sym number_is) ∙ (ap (λ o. or_else o (value_fault t n)) range ∙ value))
+    ap (λ s. map_row_fault t last s number) (sym is) ∙ (ap (map_row_fault t last (Some r)) (sym number_is) ∙ (ap (λ o. option_or o (value_fault t n)) range ∙ value))
 
 -- a number that the property takes
 pub accepted-some : (t n v : ℕ) → Some v ≡ cond (accepts_value t n) (Some n) None → (v ≡ n) × (value_fault t n ≡ None)

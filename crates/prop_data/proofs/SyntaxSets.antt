@@ -1,5 +1,6 @@
 -- The sets of a table text without a fault.
 use mathlib.Core.Logic.{◌⊎◌}
+use Rattle.std.specs.Option.{option_or}
 use Rattle.std.proofs.Common.{◌≡◌, ℕ, ◌+◌, ◌≤◌, Bool, true, false, ◌&&◌, nat_eq, nat_le, List, [], ◌∷◌, Option, Some, None, option_map, cond, refl, ap, ◌∙◌, inl, inr, subst, arith}
 use Rattle.std.proofs.lemmas.Bool.{both_ways, or_from, cases_Bool, eq-eqb}
 use Rattle.std.proofs.lemmas.Bool.Decides.{nat_tests}
@@ -12,7 +13,7 @@ use Rattle.prop_data.specs.LineFault.{Above, above, unless, overlaps, forbidden}
 use Rattle.prop_data.specs.LinesAbove.{Section, is_closed, sections, begins_with, with_row, table_of_row, found, set_at, tables_of_sections, tables_of_lines}
 use Rattle.prop_data.specs.Laws.{SetsAreAllowed}
 use Rattle.prop_data.specs.Numbers.{range}
-use Rattle.prop_data.specs.Rows.{or_else, members, holds}
+use Rattle.prop_data.specs.Rows.{members, holds}
 use Rattle.prop_data.specs.Tables.{Tables}
 use Rattle.prop_data.specs.Tests.{set_row, tests, first_failing, ends_past_all, is_disordered, is_after_end, fault_of_line}
 use Rattle.prop_data.specs.TableText.{at_line, first_fault, laid_on, lines_by_field}
@@ -20,7 +21,7 @@ use Rattle.prop_data.proofs.RowLemmas.{apart-within}
 
 -- what the nearest section says of a set is allowed, and what those behind it say
 says_allowed : (k : ℕ) (first second : Option (ℕ → Bool)) → ((m : ℕ → Bool) → first ≡ Some m → IsAllowed k m) → ((m : ℕ → Bool) → second ≡ Some m → IsAllowed k m) →
-    (m : ℕ → Bool) → or_else first second ≡ Some m → IsAllowed k m
+    (m : ℕ → Bool) → option_or first second ≡ Some m → IsAllowed k m
 says_allowed k None second now before m h = before m h
 says_allowed k (Some x) second now before m h = now m h
 
@@ -51,7 +52,7 @@ no_first : {A : Type 0} (b : Bool) (x : A) (o : Option A) → cond b (Some x) o 
 no_first true x o h = cc
 no_first false x o h = (refl, h)
 
-no_either : {A : Type 0} (x y : Option A) → or_else x y ≡ None → (x ≡ None) × (y ≡ None)
+no_either : {A : Type 0} (x y : Option A) → option_or x y ≡ None → (x ≡ None) × (y ≡ None)
 no_either None y h = (refl, h)
 no_either (Some x) y h = cc
 
@@ -89,16 +90,16 @@ row_allowed false t last tables (first, None) h = range_allowed (record { closed
 
 -- the rows of the nearest section are allowed, where it is a set
 nearest_allowed : (t : ℕ) (rows : List Row) (ss : List Section) → AreAllowed (tables_of_sections ((set_table t, rows) ∷ ss)) → IsAllowed t (members rows)
-nearest_allowed t rows ss before = before t (members rows) (ap (λ b. or_else (cond b (Some (members rows)) None) (found (set_at t) ss)) (eq-eqb t t refl))
+nearest_allowed t rows ss before = before t (members rows) (ap (λ b. option_or (cond b (Some (members rows)) None) (found (set_at t) ss)) (eq-eqb t t refl))
 
 -- a set with a row more
 set_grows : (t : ℕ) (r : Row) (rows : List Row) (ss : List Section) → AreAllowed (tables_of_sections ((set_table t, rows) ∷ ss)) → ((c : ℕ) → is_forbidden t c ≡ true → holds (range r.0) c ≡ false) →
     AreAllowed (tables_of_sections ((set_table t, r ∷ rows) ∷ ss))
 set_grows t r rows ss before fine = λ k m h. by k m (nat_eq t k) refl h
   where
-    by : (k : ℕ) (m : ℕ → Bool) (b : Bool) → nat_eq t k ≡ b → or_else (cond b (Some (members (r ∷ rows))) None) (found (set_at k) ss) ≡ Some m → IsAllowed k m
+    by : (k : ℕ) (m : ℕ → Bool) (b : Bool) → nat_eq t k ≡ b → option_or (cond b (Some (members (r ∷ rows))) None) (found (set_at k) ss) ≡ Some m → IsAllowed k m
     by k m true same h = of_number t k true (members (r ∷ rows)) m same (λ c f. or_from (members rows c) _ (nearest_allowed t rows ss before c f) (fine c f)) h
-    by k m false apart h = before k m (ap (λ b. or_else (cond b (Some (members rows)) None) (found (set_at k) ss)) apart ∙ h)
+    by k m false apart h = before k m (ap (λ b. option_or (cond b (Some (members rows)) None) (found (set_at k) ss)) apart ∙ h)
 
 -- a row without a fault
 row_grows : (closed : Bool) (t : Table) (last : Option ℕ) (tables : Tables) (r : Row) (rows : List Row) (ss : List Section) →

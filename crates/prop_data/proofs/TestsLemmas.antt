@@ -1,4 +1,5 @@
 -- The tests in their order, and as they are made.
+use Rattle.std.specs.Option.{option_or}
 use Rattle.std.proofs.Common.{◌≡◌, ℕ, Bool, true, false, ◌||◌, not, nat_lt, max, List, [], Option, Some, None, is_none, is_some, unwrap_or, cond, refl, ◌∙◌}
 use Rattle.std.specs.List.{list_any}
 use Rattle.prop_data.specs.declared.error.TableErrorKind.{TableErrorKind}
@@ -6,7 +7,7 @@ use Rattle.prop_data.specs.declared.error.TableErrorKind.TheVariants.{UnknownLin
 use Rattle.prop_data.specs.Headers.{Table, set_table, map_table, names_table, long_table, short_table, emoji_table, scx_table, ext_table}
 use Rattle.prop_data.specs.Line.{set_header, map_header, names_header, long_header, short_header, emoji_header, scx_header, ext_header, Row, Line, blank, header, row, closing, other}
 use Rattle.prop_data.specs.LineFault.{Above, overlaps, forbidden, is_behind, accepts_value, kept_of, line_fault, range_fault, syntax_fault, value_fault, after_end, set_header_fault, map_header_fault, names_header_fault, text_header_fault, set_row_fault, map_row_fault, names_row_fault, text_row_fault, row_fault, kept_fault, no_text, no_emoji, order_fault, lacks_some_list, missing_fault, scx_header_fault, ext_header_fault, scx_row_fault, ext_row_fault, emoji_header_fault, emoji_range_fault, emoji_string_fault, emoji_row_fault}
-use Rattle.prop_data.specs.Rows.{or_else, is_subtags}
+use Rattle.prop_data.specs.Rows.{is_subtags}
 use Rattle.prop_data.specs.Strings.{braced}
 use Rattle.prop_data.specs.Tests.{Said, nothing, unknown, ending, set_begins, map_begins, names_begin, long_begins, short_begins, emoji_begins, scx_begins, ext_begins, scx_row, ext_row, set_row, map_row, names_row, long_row, short_row, emoji_range, emoji_string, said, said_by_emoji, said_by_row, tests, first_failing, fault_of_line}
 
@@ -14,15 +15,15 @@ use Rattle.prop_data.specs.Tests.{Said, nothing, unknown, ending, set_begins, ma
 abbrev made : Above → Said → Option TableErrorKind
 made seen nothing = None
 made seen unknown = Some UnknownLine
-made seen ending = or_else (missing_fault seen.tables) (after_end seen.closed)
-made seen (set_begins t) = or_else (set_header_fault seen.tables t) (after_end seen.closed)
-made seen (map_begins t n) = or_else (map_header_fault seen.tables t n) (after_end seen.closed)
-made seen (names_begin t) = or_else (names_header_fault seen.tables t) (after_end seen.closed)
-made seen (long_begins t) = or_else (text_header_fault seen.tables.long t) (after_end seen.closed)
-made seen (short_begins t) = or_else (text_header_fault seen.tables.short t) (after_end seen.closed)
-made seen (emoji_begins t) = or_else (emoji_header_fault seen.tables t) (after_end seen.closed)
-made seen (scx_begins n) = or_else (scx_header_fault seen.tables n) (after_end seen.closed)
-made seen (ext_begins i s) = or_else (ext_header_fault seen.tables i s) (after_end seen.closed)
+made seen ending = option_or (missing_fault seen.tables) (after_end seen.closed)
+made seen (set_begins t) = option_or (set_header_fault seen.tables t) (after_end seen.closed)
+made seen (map_begins t n) = option_or (map_header_fault seen.tables t n) (after_end seen.closed)
+made seen (names_begin t) = option_or (names_header_fault seen.tables t) (after_end seen.closed)
+made seen (long_begins t) = option_or (text_header_fault seen.tables.long t) (after_end seen.closed)
+made seen (short_begins t) = option_or (text_header_fault seen.tables.short t) (after_end seen.closed)
+made seen (emoji_begins t) = option_or (emoji_header_fault seen.tables t) (after_end seen.closed)
+made seen (scx_begins n) = option_or (scx_header_fault seen.tables n) (after_end seen.closed)
+made seen (ext_begins i s) = option_or (ext_header_fault seen.tables i s) (after_end seen.closed)
 made seen (set_row t r) = set_row_fault t seen.last r
 made seen (map_row t r n) = map_row_fault t seen.last r n
 made seen (names_row t n text) = names_row_fault t (unwrap_or (seen.tables.names t) []) n text
@@ -33,25 +34,25 @@ made seen (emoji_string t ns) = emoji_string_fault (unwrap_or (seen.tables.emoji
 made seen (scx_row r n) = scx_row_fault seen.last r n
 made seen (ext_row n) = ext_row_fault seen.last n
 
-one : {K : Type 0} (a : Bool) (k : K) (x : Option K) → cond a (Some k) x ≡ or_else (cond a (Some k) None) x
+one : {K : Type 0} (a : Bool) (k : K) (x : Option K) → cond a (Some k) x ≡ option_or (cond a (Some k) None) x
 one true k x = refl
 one false k x = refl
 
-one_of_two : {K : Type 0} (a : Bool) (k l : K) (x : Option K) → cond a (Some k) (Some l) ≡ or_else (cond a (Some k) (Some l)) x
+one_of_two : {K : Type 0} (a : Bool) (k l : K) (x : Option K) → cond a (Some k) (Some l) ≡ option_or (cond a (Some k) (Some l)) x
 one_of_two true k l x = refl
 one_of_two false k l x = refl
 
-two : {K : Type 0} (a b : Bool) (k l : K) (x : Option K) → cond a (Some k) (cond b (Some l) x) ≡ or_else (cond a (Some k) (cond b (Some l) None)) x
+two : {K : Type 0} (a b : Bool) (k l : K) (x : Option K) → cond a (Some k) (cond b (Some l) x) ≡ option_or (cond a (Some k) (cond b (Some l) None)) x
 two true b k l x = refl
 two false true k l x = refl
 two false false k l x = refl
 
-default : {K : Type 0} (a b : Bool) (k l : K) (x : Option K) → cond a (Some k) (cond (not b) (Some l) x) ≡ or_else (cond a (Some k) (cond b None (Some l))) x
+default : {K : Type 0} (a b : Bool) (k l : K) (x : Option K) → cond a (Some k) (cond (not b) (Some l) x) ≡ option_or (cond a (Some k) (cond b None (Some l))) x
 default true b k l x = refl
 default false true k l x = refl
 default false false k l x = refl
 
-value : {K : Type 0} (a b c : Bool) (k l m : K) → cond a (Some k) (cond b (Some l) (cond (not c) (Some m) None)) ≡ or_else (cond a (Some k) (cond b (Some l) None)) (cond c None (Some m))
+value : {K : Type 0} (a b c : Bool) (k l m : K) → cond a (Some k) (cond b (Some l) (cond (not c) (Some m) None)) ≡ option_or (cond a (Some k) (cond b (Some l) None)) (cond c None (Some m))
 value true b c k l m = refl
 value false true c k l m = refl
 value false false true k l m = refl
@@ -64,13 +65,13 @@ text true there None = refl
 text true there (Some kept) = refl
 
 three : {K : Type 0} (a b c : Bool) (k l m : K) (x : Option K) →
-    cond a (Some k) (cond b (Some l) (cond (not c) (Some m) x)) ≡ or_else (cond a (Some k) (cond b (Some l) (cond c None (Some m)))) x
+    cond a (Some k) (cond b (Some l) (cond (not c) (Some m) x)) ≡ option_or (cond a (Some k) (cond b (Some l) (cond c None (Some m)))) x
 three true b c k l m x = refl
 three false true c k l m x = refl
 three false false true k l m x = refl
 three false false false k l m x = refl
 
-script : {K : Type 0} (a b : Bool) (k l : K) → cond (not a) (Some k) (cond b (Some l) None) ≡ or_else (cond a None (Some k)) (cond b (Some l) None)
+script : {K : Type 0} (a b : Bool) (k l : K) → cond (not a) (Some k) (cond b (Some l) None) ≡ option_or (cond a None (Some k)) (cond b (Some l) None)
 script true b k l = refl
 script false b k l = refl
 

@@ -6,7 +6,16 @@ use Rattle.prop_data.specs.declared.load.texts.Length.TheVariants.{Long, Short}
 use Rattle.prop_data.specs.Tables.{EmojiMembers, ScriptNumbers, ExtensionList, Tables}
 
 abbrev pub no_tables : Tables
-no_tables = record { sets = λ t. None; maps = λ t. None; names = λ t. None; long = λ t. None; short = λ t. None; emoji = λ t. None; scripts = None; extensions = λ t. None }
+no_tables = record {
+  sets = λ t. None;
+  maps = λ t. None;
+  names = λ t. None;
+  long = λ t. None;
+  short = λ t. None;
+  emoji = λ t. None;
+  scripts = None;
+  extensions = λ t. None;
+}
 
 abbrev pub with_set : ℕ → (ℕ → Bool) → Tables → Tables
 with_set n members tables = record tables { sets = λ t. if nat_eq n t then Some members else tables.sets t }

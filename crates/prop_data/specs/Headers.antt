@@ -54,7 +54,8 @@ ext_of (Some script) i = option_map (λ s. ext_table i (Some s)) (decimal_number
 
 abbrev pub table_of : Header → Option Table
 table_of (set_header name) = option_map set_table (set_number name)
-table_of (map_header name default) = option_and_then (λ t. option_map (map_table t) (decimal_number default)) (map_number name)
+table_of (map_header name default) =
+    option_and_then (λ t. option_map (map_table t) (decimal_number default)) (map_number name)
 table_of (names_header name) = option_map names_table (names_number name)
 table_of (long_header name) = option_map long_table (text_number name)
 table_of (short_header name) = option_map short_table (text_number name)

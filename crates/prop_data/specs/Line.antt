@@ -40,7 +40,8 @@ pub data Line : Type 0 where
 -- the words that begin a header
 abbrev pub header_words : List (List ℕ)
 header_words =
-    codes "set" ∷ codes "map" ∷ codes "names" ∷ codes "long" ∷ codes "short" ∷ codes "scx" ∷ codes "ext" ∷ codes "emoji" ∷ []
+    codes "set" ∷ codes "map" ∷ codes "names" ∷ codes "long" ∷ codes "short" ∷ codes "scx" ∷ codes "ext"
+    ∷ codes "emoji" ∷ []
 
 unfoldable pub is_header_word : List ℕ → Bool
 is_header_word field = list_any (λ word. bytes_eq word field) header_words

@@ -1,5 +1,6 @@
 -- The tests of a line of a table text, for each kind of table in the order in which they are made.
 use Rattle.std.specs.Prelude.{ℕ, Bool, true, false, ◌||◌, ◌&&◌, nat_eq, nat_le, nat_lt, not, ◌==◌, ◌%◌, unwrap_or, option_map, max, List, [], ◌∷◌, Option, Some, None, is_some, if◌then◌else◌}
+use Rattle.std.specs.Option.{option_or}
 use Rattle.std.specs.List.{list_any, list_all}
 use Rattle.std.specs.Char.{is_ascii_alphanumeric}
 use Rattle.prop_names.specs.Folding.{stored_folding}
@@ -14,7 +15,7 @@ use Rattle.prop_data.specs.Headers.{Table, set_table, map_table, names_table, lo
 use Rattle.prop_data.specs.Line.{Header, set_header, map_header, names_header, long_header, short_header, emoji_header, scx_header, ext_header, Row, Line, blank, header, row, closing, other}
 use Rattle.prop_data.specs.LinesAbove.{is_closed, sections, table_of_row, last_in_table, tables_of_lines}
 use Rattle.prop_data.specs.Numbers.{range, decimal_number}
-use Rattle.prop_data.specs.Rows.{or_else, is_subtags}
+use Rattle.prop_data.specs.Rows.{is_subtags}
 use Rattle.prop_data.specs.Strings.{braced, string_numbers, text_of_numbers}
 use Rattle.prop_data.specs.Tables.{EmojiMembers, ExtensionList, ScriptNumbers, Tables}
 
@@ -46,7 +47,8 @@ above ls = record {
 abbrev pub forbidden : ℕ → List (ℕ × ℕ)
 forbidden t =
     if nat_eq t 51 then (0x21, 0x7E) ∷ []
-    else if nat_eq t 67 || nat_eq t 68 then (0x00, 0x2F) ∷ (0x3A, 0x40) ∷ (0x5B, 0x5E) ∷ (0x60, 0x60) ∷ (0x7B, 0x7F) ∷ []
+    else if nat_eq t 67 || nat_eq t 68
+    then (0x00, 0x2F) ∷ (0x3A, 0x40) ∷ (0x5B, 0x5E) ∷ (0x60, 0x60) ∷ (0x7B, 0x7F) ∷ []
     else []
 
 abbrev pub overlaps : ℕ × ℕ → ℕ × ℕ → Bool
@@ -77,13 +79,13 @@ value_fault t n = if accepts_value t n then None else Some ValueOutOfType
 -- the tests of a row of a set, by the range that it spells
 abbrev pub set_row_fault : ℕ → Option ℕ → Option (ℕ × ℕ) → Option TableErrorKind
 set_row_fault t last None = Some BadNumber
-set_row_fault t last (Some r) = or_else (range_fault last r) (syntax_fault t r)
+set_row_fault t last (Some r) = option_or (range_fault last r) (syntax_fault t r)
 
 -- the tests of a row of a map, by the range and the value that it spells
 abbrev pub map_row_fault : ℕ → Option ℕ → Option (ℕ × ℕ) → Option ℕ → Option TableErrorKind
 map_row_fault t last None n = Some BadNumber
 map_row_fault t last (Some r) None = Some BadNumber
-map_row_fault t last (Some r) (Some n) = or_else (range_fault last r) (value_fault t n)
+map_row_fault t last (Some r) (Some n) = option_or (range_fault last r) (value_fault t n)
 
 -- an ASCII letter or digit, `_` or a hyphen
 abbrev pub is_name_character : ℕ → Bool
@@ -131,7 +133,8 @@ kept_fault is_there (Some kept) = if is_there then Some NamesClash else None
 
 -- the tests of a name and its value, where other values have names
 abbrev pub text_fault : Bool → ℕ → (ℕ → Option (List ℕ)) → ℕ → List ℕ → Option TableErrorKind
-text_fault is_subtag t texts n text = if accepts_value t n then kept_fault (is_some (texts n)) (kept_of is_subtag text) else Some ValueOutOfType
+text_fault is_subtag t texts n text =
+    if accepts_value t n then kept_fault (is_some (texts n)) (kept_of is_subtag text) else Some ValueOutOfType
 
 -- the tests of a row of a table of one name for each value, by the value that it spells
 abbrev pub text_row_fault : Bool → ℕ → (ℕ → Option (List ℕ)) → Option ℕ → List ℕ → Option TableErrorKind
@@ -182,7 +185,7 @@ order_fault last n = if is_behind last n then Some ExtensionOrder else None
 -- the tests of a row of an extension list, by the script that it spells
 abbrev pub ext_row_fault : Option ℕ → Option ℕ → Option TableErrorKind
 ext_row_fault last None = Some BadNumber
-ext_row_fault last (Some n) = or_else (value_fault 4 n) (order_fault last n)
+ext_row_fault last (Some n) = option_or (value_fault 4 n) (order_fault last n)
 
 -- the tests of a row below the header of a table
 abbrev pub row_fault : Tables → Option Table → Option ℕ → Row → Option TableErrorKind
@@ -190,17 +193,23 @@ row_fault tables None last r = Some UnknownLine
 row_fault tables (Some (set_table t)) last (first, None) = set_row_fault t last (range first)
 row_fault tables (Some (set_table t)) last (first, Some second) = Some UnknownLine
 row_fault tables (Some (map_table t default)) last (first, None) = Some UnknownLine
-row_fault tables (Some (map_table t default)) last (first, Some second) = map_row_fault t last (range first) (decimal_number second)
+row_fault tables (Some (map_table t default)) last (first, Some second) =
+    map_row_fault t last (range first) (decimal_number second)
 row_fault tables (Some (names_table t)) last (first, None) = Some UnknownLine
-row_fault tables (Some (names_table t)) last (first, Some second) = names_row_fault t (unwrap_or (tables.names t) []) (decimal_number first) second
+row_fault tables (Some (names_table t)) last (first, Some second) =
+    names_row_fault t (unwrap_or (tables.names t) []) (decimal_number first) second
 row_fault tables (Some (long_table t)) last (first, None) = Some UnknownLine
-row_fault tables (Some (long_table t)) last (first, Some second) = text_row_fault false t (unwrap_or (tables.long t) no_text) (decimal_number first) second
+row_fault tables (Some (long_table t)) last (first, Some second) =
+    text_row_fault false t (unwrap_or (tables.long t) no_text) (decimal_number first) second
 row_fault tables (Some (short_table t)) last (first, None) = Some UnknownLine
-row_fault tables (Some (short_table t)) last (first, Some second) = text_row_fault (is_subtags t) t (unwrap_or (tables.short t) no_text) (decimal_number first) second
-row_fault tables (Some (emoji_table t)) last (first, None) = emoji_row_fault (unwrap_or (tables.emoji t) no_emoji) last first (braced first)
+row_fault tables (Some (short_table t)) last (first, Some second) =
+    text_row_fault (is_subtags t) t (unwrap_or (tables.short t) no_text) (decimal_number first) second
+row_fault tables (Some (emoji_table t)) last (first, None) =
+    emoji_row_fault (unwrap_or (tables.emoji t) no_emoji) last first (braced first)
 row_fault tables (Some (emoji_table t)) last (first, Some second) = Some UnknownLine
 row_fault tables (Some (scx_table default)) last (first, None) = Some UnknownLine
-row_fault tables (Some (scx_table default)) last (first, Some second) = scx_row_fault last (range first) (decimal_number second)
+row_fault tables (Some (scx_table default)) last (first, Some second) =
+    scx_row_fault last (range first) (decimal_number second)
 row_fault tables (Some (ext_table i script)) last (first, None) = ext_row_fault last (decimal_number first)
 row_fault tables (Some (ext_table i script)) last (first, Some second) = Some UnknownLine
 
@@ -246,7 +255,8 @@ index_fault i (Some (Some s)) = if nat_lt 1023 i then Some TooLarge else value_f
 -- the tests of the header of an extension list
 abbrev pub ext_header_fault : Tables → Option ℕ → Option (Option ℕ) → Option TableErrorKind
 ext_header_fault tables None script = Some BadNumber
-ext_header_fault tables (Some i) script = if is_some (tables.extensions i) then Some TableTwice else index_fault i script
+ext_header_fault tables (Some i) script =
+    if is_some (tables.extensions i) then Some TableTwice else index_fault i script
 
 -- the tests of a header, wherever it stands
 abbrev pub header_fault : Tables → Header → Option TableErrorKind
@@ -257,7 +267,8 @@ header_fault tables (long_header name) = text_header_fault tables.long (text_num
 header_fault tables (short_header name) = text_header_fault tables.short (text_number name)
 header_fault tables (emoji_header name) = emoji_header_fault tables (emoji_number name)
 header_fault tables (scx_header default) = scx_header_fault tables (decimal_number default)
-header_fault tables (ext_header index script) = ext_header_fault tables (decimal_number index) (option_map decimal_number script)
+header_fault tables (ext_header index script) =
+    ext_header_fault tables (decimal_number index) (option_map decimal_number script)
 
 -- a list without a script, and one with a script
 abbrev pub is_plain_list : Option ExtensionList → Bool
@@ -294,6 +305,6 @@ after_end closed = if closed then Some AfterEnd else None
 abbrev pub line_fault : Above → Line → Option TableErrorKind
 line_fault seen blank = None
 line_fault seen other = Some UnknownLine
-line_fault seen closing = or_else (missing_fault seen.tables) (after_end seen.closed)
-line_fault seen (header h) = or_else (header_fault seen.tables h) (after_end seen.closed)
+line_fault seen closing = option_or (missing_fault seen.tables) (after_end seen.closed)
+line_fault seen (header h) = option_or (header_fault seen.tables h) (after_end seen.closed)
 line_fault seen (row r) = if seen.closed then Some UnknownLine else row_fault seen.tables seen.table seen.last r

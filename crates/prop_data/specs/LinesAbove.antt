@@ -1,9 +1,10 @@
 -- What the lines above a line say, the nearest line first.
 use Rattle.std.specs.Prelude.{ℕ, Bool, true, false, nat_eq, List, [], ◌∷◌, Option, Some, None, if◌then◌else◌}
+use Rattle.std.specs.Option.{option_or}
 use Rattle.prop_names.specs.Names.{Names}
 use Rattle.prop_data.specs.Headers.{Table, set_table, map_table, names_table, long_table, short_table, emoji_table, scx_table, ext_table, table_of}
 use Rattle.prop_data.specs.Line.{Row, Line, blank, header, row, closing, other}
-use Rattle.prop_data.specs.Rows.{or_else, last_of, members, value, names_in, texts_in, is_subtags, emoji_members, script_numbers, extension_list}
+use Rattle.prop_data.specs.Rows.{last_of, members, value, names_in, texts_in, is_subtags, emoji_members, script_numbers, extension_list}
 use Rattle.prop_data.specs.Tables.{EmojiMembers, ScriptNumbers, ExtensionList, Tables}
 
 -- `end` stands above
@@ -49,7 +50,7 @@ last_in_table (s ∷ sections) = last_of s.0 s.1
 -- what the nearest section says that says something
 abbrev pub found : {A : Type 0} → (Table → List Row → Option A) → List Section → Option A
 found says [] = None
-found says (s ∷ sections) = or_else (says s.0 s.1) (found says sections)
+found says (s ∷ sections) = option_or (says s.0 s.1) (found says sections)
 
 -- the members of the set with this number
 abbrev pub set_at : ℕ → Table → List Row → Option (ℕ → Bool)

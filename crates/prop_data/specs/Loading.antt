@@ -1,6 +1,6 @@
 -- What the loader keeps of the lines that it has read, and what a line makes of it.
 use Rattle.std.specs.Prelude.{◌≡◌, ℕ, Bool, true, false, ◌||◌, nat_eq, nat_lt, List, [], ◌∷◌, ◌++◌, Option, Some, None, is_some, option_map, option_and_then, Result, Ok, Err, if◌then◌else◌}
-use Rattle.std.specs.Option.{option_copied}
+use Rattle.std.specs.Option.{option_copied, option_or}
 use Rattle.cp_invlist.specs.InversionList.{contains}
 use Rattle.cp_trie.specs.Runs.{value_in}
 use Rattle.prop_names.specs.Names.{with_name}
@@ -30,7 +30,7 @@ use Rattle.prop_data.specs.Database.{tables_of}
 use Rattle.prop_data.specs.Headers.{Table, set_table, map_table, names_table, long_table, short_table, emoji_table, scx_table, ext_table, ext_of, table_of}
 use Rattle.prop_data.specs.Line.{Header, set_header, map_header, names_header, long_header, short_header, emoji_header, scx_header, ext_header, Row, Line, blank, header, row, closing, other}
 use Rattle.prop_data.specs.Numbers.{range, decimal_number}
-use Rattle.prop_data.specs.Rows.{or_else, holds, last_behind, value_of, text_of, value_outside, as_kept, is_subtags, first_scripts}
+use Rattle.prop_data.specs.Rows.{holds, last_behind, value_of, text_of, value_outside, as_kept, is_subtags, first_scripts}
 use Rattle.prop_data.specs.Strings.{is_text, string_in, range_in}
 use Rattle.prop_data.specs.Changes.{with_set, with_map, with_names, with_texts, with_emoji, with_scripts, with_list}
 use Rattle.prop_data.specs.Tables.{EmojiMembers, ScriptNumbers, ExtensionList, Tables}
@@ -131,12 +131,15 @@ tables_begun (Some (names_table n)) tables = with_names n [] tables
 tables_begun (Some (long_table n)) tables = with_texts Long n no_text tables
 tables_begun (Some (short_table n)) tables = with_texts Short n no_text tables
 tables_begun (Some (emoji_table n)) tables = with_emoji n no_emoji tables
-tables_begun (Some (scx_table default)) tables = with_scripts (record { values = value_outside 4 default; named = default ∷ [] }) tables
-tables_begun (Some (ext_table n script)) tables = with_list n (record { has_script = is_some script; scripts = first_scripts script }) tables
+tables_begun (Some (scx_table default)) tables =
+    with_scripts (record { values = value_outside 4 default; named = default ∷ [] }) tables
+tables_begun (Some (ext_table n script)) tables =
+    with_list n (record { has_script = is_some script; scripts = first_scripts script }) tables
 
 -- the names with one more
 abbrev pub with_text : Bool → Row → (ℕ → Option (List ℕ)) → ℕ → Option (List ℕ)
-with_text is_subtag r texts n = if nat_eq (value_of (Some r.0)) n then Some (as_kept is_subtag (text_of r.1)) else texts n
+with_text is_subtag r texts n =
+    if nat_eq (value_of (Some r.0)) n then Some (as_kept is_subtag (text_of r.1)) else texts n
 
 -- the members with those of one more row
 abbrev pub emoji_with : Row → EmojiMembers → EmojiMembers
@@ -160,13 +163,18 @@ list_with r list = record list { scripts = list.scripts ++ value_of (Some r.0) �
 abbrev pub tables_grown : Option Table → Row → Tables → Tables
 tables_grown None r tables = tables
 tables_grown (Some (set_table n)) r tables = record tables {
-  sets = λ t. if nat_eq n t then option_map (λ members c. members c || holds (range r.0) c) (tables.sets t) else tables.sets t;
+  sets = λ t. if nat_eq n t then option_map (λ members c. members c || holds (range r.0) c) (tables.sets t)
+      else tables.sets t;
 }
 tables_grown (Some (map_table n default)) r tables = record tables {
-  maps = λ t. if nat_eq n t then option_map (λ values c. if holds (range r.0) c then value_of r.1 else values c) (tables.maps t) else tables.maps t;
+  maps = λ t. if nat_eq n t
+      then option_map (λ values c. if holds (range r.0) c then value_of r.1 else values c) (tables.maps t)
+      else tables.maps t;
 }
 tables_grown (Some (names_table n)) r tables = record tables {
-  names = λ t. if nat_eq n t then option_map (λ names. with_name names (text_of r.1) (value_of (Some r.0))) (tables.names t) else tables.names t;
+  names = λ t. if nat_eq n t
+      then option_map (λ names. with_name names (text_of r.1) (value_of (Some r.0))) (tables.names t)
+      else tables.names t;
 }
 tables_grown (Some (long_table n)) r tables = record tables {
   long = λ t. if nat_eq n t then option_map (with_text false r) (tables.long t) else tables.long t;
@@ -177,7 +185,8 @@ tables_grown (Some (short_table n)) r tables = record tables {
 tables_grown (Some (emoji_table n)) r tables = record tables {
   emoji = λ t. if nat_eq n t then option_map (emoji_with r) (tables.emoji t) else tables.emoji t;
 }
-tables_grown (Some (scx_table default)) r tables = record tables { scripts = option_map (numbers_with r) tables.scripts }
+tables_grown (Some (scx_table default)) r tables =
+    record tables { scripts = option_map (numbers_with r) tables.scripts }
 tables_grown (Some (ext_table n script)) r tables = record tables {
   extensions = λ t. if nat_eq n t then option_map (list_with r) (tables.extensions t) else tables.extensions t;
 }
@@ -192,7 +201,8 @@ abbrev pub after : Above → Line → Above
 after a blank = a
 after a other = a
 after a closing = record { closed = true; table = None; last = None; tables = a.tables }
-after a (header h) = record { closed = a.closed; table = table_of h; last = None; tables = tables_begun (table_of h) a.tables }
+after a (header h) =
+    record { closed = a.closed; table = table_of h; last = None; tables = tables_begun (table_of h) a.tables }
 after a (row r) = record a { last = last_after a.table r a.last; tables = tables_grown a.table r a.tables }
 
 -- A line was taken, or its fault was told, or memory was refused.
@@ -223,17 +233,21 @@ TakesRow old r n (Ok _) new =
     ((tables : Tables) → row_fault (tables_with (Some old) tables) (Some (table_seen old)) (last_seen old) r ≡ None)
     × (table_seen new ≡ table_seen old)
     × (last_seen new ≡ last_after (Some (table_seen old)) r (last_seen old))
-    × ((tables : Tables) → tables_with (Some new) tables ≡ tables_grown (Some (table_seen old)) r (tables_with (Some old) tables))
+    × ((tables : Tables) →
+    tables_with (Some new) tables ≡ tables_grown (Some (table_seen old)) r (tables_with (Some old) tables))
 TakesRow old r n (Err (TableFault fault)) new =
-    (tables : Tables) → option_map (at_line n) (row_fault (tables_with (Some old) tables) (Some (table_seen old)) (last_seen old) r) ≡ Some fault
+    (tables : Tables) →
+    option_map (at_line n) (row_fault (tables_with (Some old) tables) (Some (table_seen old)) (last_seen old) r)
+    ≡ Some fault
 TakesRow old r n (Err NoMemory) new = Unit {0}
 
 -- An open emoji table took a row that has this fault, or spells this range or this text, or the fault was told, or memory was refused.
-abbrev pub TakesEmoji : OpenEmoji → Option TableErrorKind → Option (ℕ × ℕ) → Option (List ℕ) → ℕ → Result (Unit {0}) LoadError → OpenEmoji → Type 0
+abbrev pub TakesEmoji : OpenEmoji → Option TableErrorKind → Option (ℕ × ℕ) → Option (List ℕ) → ℕ →
+    Result (Unit {0}) LoadError → OpenEmoji → Type 0
 TakesEmoji old found r text n (Ok _) new =
     (found ≡ None)
     × (new.table ≡ old.table)
-    × (new.last ≡ or_else (option_map (λ range. range.1) r) old.last)
+    × (new.last ≡ option_or (option_map (λ range. range.1) r) old.last)
     × ((c : ℕ) → contains new.builder c ≡ (contains old.builder c || holds r c))
     × ((bytes : List ℕ) → contains_text new.strings bytes ≡ (contains_text old.strings bytes || is_text text bytes))
 TakesEmoji old found r text n (Err (TableFault fault)) new = option_map (at_line n) found ≡ Some fault
@@ -241,7 +255,8 @@ TakesEmoji old found r text n (Err NoMemory) new = Unit {0}
 
 -- the script of a header with this index, or the first test that both fail
 abbrev pub IsListed : ℕ → Option (List ℕ) → Result (Option ℕ) TableErrorKind → Type 0
-IsListed i script (Ok s) = (index_fault i (option_map decimal_number script) ≡ None) × (ext_of script i ≡ Some (ext_table i s))
+IsListed i script (Ok s) =
+    (index_fault i (option_map decimal_number script) ≡ None) × (ext_of script i ≡ Some (ext_table i s))
 IsListed i script (Err kind) = index_fault i (option_map decimal_number script) ≡ Some kind
 
 -- the open table was moved into the database

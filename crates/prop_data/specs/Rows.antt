@@ -1,5 +1,6 @@
 -- What the rows of a table mean, the nearest row first.
 use Rattle.std.specs.Prelude.{ℕ, Bool, false, ◌||◌, ◌&&◌, nat_eq, nat_le, nat_lt, List, [], ◌∷◌, ◌++◌, Option, Some, None, is_some, unwrap_or, option_map, option_and_then, if◌then◌else◌}
+use Rattle.std.specs.Option.{option_or}
 use Rattle.prop_values.specs.Subtag.{in_subtag_case}
 use Rattle.prop_values.specs.Tables.{default_number}
 use Rattle.prop_names.specs.Names.{Names, with_name}
@@ -18,16 +19,12 @@ holds (Some r) c = nat_le r.0 c && nat_le c r.1
 abbrev pub end_of : List ℕ → Option ℕ
 end_of field = option_map (λ r. r.1) (range field)
 
-abbrev pub or_else : {A : Type 0} → Option A → Option A → Option A
-or_else None other_one = other_one
-or_else (Some x) other_one = Some x
-
 -- What the next row of the table must be above: the last code point of a row, where rows are ranges, and the script of an extension
 -- list. A string has no last code point, and then that of the row before it stands.
 abbrev pub last_behind : Table → Row → Option ℕ → Option ℕ
 last_behind (set_table n) r last = end_of r.0
 last_behind (map_table n default) r last = end_of r.0
-last_behind (emoji_table n) r last = or_else (option_map (λ range. range.1) (range_in r.0)) last
+last_behind (emoji_table n) r last = option_or (option_map (λ range. range.1) (range_in r.0)) last
 last_behind (scx_table default) r last = end_of r.0
 last_behind (ext_table i script) r last = decimal_number r.0
 last_behind t r last = None
@@ -71,7 +68,8 @@ as_kept is_subtag text = if is_subtag then in_subtag_case text else text
 -- the name of each number: the second field of the row whose first field spells it
 abbrev pub texts_in : Bool → List Row → ℕ → Option (List ℕ)
 texts_in is_subtag [] n = None
-texts_in is_subtag (r ∷ rows) n = if nat_eq (value_of (Some r.0)) n then Some (as_kept is_subtag (text_of r.1)) else texts_in is_subtag rows n
+texts_in is_subtag (r ∷ rows) n =
+    if nat_eq (value_of (Some r.0)) n then Some (as_kept is_subtag (text_of r.1)) else texts_in is_subtag rows n
 
 -- the short names of scripts are subtags
 abbrev pub is_subtags : ℕ → Bool

@@ -1,5 +1,6 @@
 -- The first fault of a table text, and the tables that it means.
 use Rattle.std.specs.Prelude.{ℕ, ◌+◌, List, [], ◌∷◌, map, Option, Some, None, option_map, if◌then◌else◌}
+use Rattle.std.specs.Option.{option_or}
 use Rattle.text_lines.specs.Fields.{fields}
 use Rattle.prop_data.specs.declared.error.TableErrorKind.{TableErrorKind}
 use Rattle.prop_data.specs.declared.error.TableErrorKind.TheVariants.{NoEnd}
@@ -7,7 +8,6 @@ use Rattle.prop_data.specs.declared.error.TableError.{TableError}
 use Rattle.prop_data.specs.Line.{Line, line_of}
 use Rattle.prop_data.specs.LineFault.{above}
 use Rattle.prop_data.specs.LinesAbove.{is_closed, tables_of_lines}
-use Rattle.prop_data.specs.Rows.{or_else}
 use Rattle.prop_data.specs.Tables.{Tables}
 use Rattle.prop_data.specs.Tests.{fault_of_line}
 
@@ -18,7 +18,8 @@ at_line n kind = record { line = n; kind = kind }
 -- line that comes, and the lines to come.
 abbrev pub first_fault : List Line → ℕ → List Line → Option TableError
 first_fault ls n [] = if is_closed ls then None else Some (at_line n NoEnd)
-first_fault ls n (l ∷ more) = or_else (option_map (at_line n) (fault_of_line (above ls) l)) (first_fault (l ∷ ls) (n + 1) more)
+first_fault ls n (l ∷ more) =
+    option_or (option_map (at_line n) (fault_of_line (above ls) l)) (first_fault (l ∷ ls) (n + 1) more)
 
 -- the lines laid on those above, so that the last comes first
 abbrev pub laid_on : List Line → List Line → List Line

@@ -84,7 +84,7 @@ impl PropertyDatabase {
     ghost use Rattle.prop_data.specs.LineFault.{lacks_some_list};
     ghost use Rattle.prop_data.specs.TableText.{table_fault, tables_in};
 
-    /// Reads a text of tables (its rules stand in docs/DEFINITIONS.md). The answer is the database
+    /// Reads a text of tables (its rules stand in docs/TABLES.md). The answer is the database
     /// that the text means, or the first faulty line with the first test that it fails, or that
     /// memory was refused.
     pub fn from_text(alloc: Global, text: &str) -> Result<PropertyDatabase, LoadError>

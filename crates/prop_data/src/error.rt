@@ -10,7 +10,7 @@ use thiserror::Error;
 /// Which test of a line failed.
 #[derive(Clone, Copy, Debug, Drop, PartialEq, Eq)]
 pub enum TableErrorKind {
-    /// The line is no header, no lone `end`, and no row of the table above it.
+    /// The line is no header, no lone `end`, and no row of the table above it. Behind `end` no line is a row.
     UnknownLine,
     /// The header names no table of its kind.
     UnknownTable,
@@ -18,11 +18,12 @@ pub enum TableErrorKind {
     TableTwice,
     /// A number, range or string isn't spelled as it must be, or a number of a string is a surrogate.
     BadNumber,
-    /// A code point is above 10FFFF, or an index above 1023.
+    /// A code point is above 10FFFF, or the index of an extension list above 1023.
     TooLarge,
     /// A range's first code point is above its last, or not above the last of the range before it.
     RangeOrder,
-    /// A value isn't accepted by its type.
+    /// A value, a default or the script of a header isn't accepted by its property, or a number of `names`, `scx` or `ext` is
+    /// above 65535.
     ValueOutOfType,
     /// A name has another character than ASCII letters, digits, `_` and `-`, or as a short name of a script is no four letters.
     BadName,
@@ -38,7 +39,7 @@ pub enum TableErrorKind {
     StringTwice,
     /// At `end`, a number of `scx` has no list of its kind at its index.
     ExtensionMissing,
-    /// No line is `end`.
+    /// No line is `end`. The fault is told of the line behind the last.
     NoEnd,
     /// A header or another `end` stands behind `end`.
     AfterEnd,

@@ -1,5 +1,5 @@
 //! A line of a table text, by its fields.
-ghost use Rattle.std.specs.Prelude.{◌≡◌, ◌∷◌, []};
+ghost use Rattle.std.specs.Prelude.{◌≡◌};
 ghost use Rattle.text_lines.specs.Fields.{fields};
 ghost use Rattle.prop_data.specs.Line.{line_of, line_of_one, line_of_two, line_of_three, is_header_word, is_end};
 ghost use Rattle.prop_data.specs.Loading.{line_seen};

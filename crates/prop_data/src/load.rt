@@ -1,5 +1,5 @@
 //! Reads the lines of a table text one by one.
-ghost use Rattle.std.specs.Prelude.{◌≡◌, ℕ, [], None, true, OnOk, IfOk, IfErr};
+ghost use Rattle.std.specs.Prelude.{◌≡◌, [], None, true, OnOk, IfOk, IfErr};
 ghost use Rattle.text_lines.specs.Fields.{fields};
 ghost use Rattle.prop_data.specs.Line.{line_of, set_header, map_header, names_header, long_header, short_header, emoji_header, scx_header, ext_header, header as header_line, row as row_line, closing};
 ghost use Rattle.prop_data.specs.Loading.{kept, header_seen, row_seen, Takes, TakesRow, TakesFinished, Begins, NoEndFault};

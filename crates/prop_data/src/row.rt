@@ -1,5 +1,5 @@
 //! The tests of a row's range.
-ghost use Rattle.std.specs.Prelude.{◌≡◌, ℕ, None, Some, Bool, List, option_map};
+ghost use Rattle.std.specs.Prelude.{◌≡◌, None, Some, List};
 ghost use Rattle.std.specs.List.{list_any};
 ghost use Rattle.prop_data.specs.LineFault.{overlaps, forbidden, range_fault, syntax_fault, is_behind};
 

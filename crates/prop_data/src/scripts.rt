@@ -67,7 +67,8 @@ impl ScriptWithExtensionsProperty {
         &self.trie
     }
 
-    /// The list of scripts at this index, with the script of its header first, where the header has one.
+    /// The list of scripts at this index, with the script of its header first, where the header has one. `None` where no list has
+    /// the index.
     pub fn extensions(&self, index: u16) -> Option<&[Script]>
         ensures { option_copied result ≡ option_map (λ list. list.scripts) (list_of self.now index) }
     {
@@ -109,9 +110,6 @@ pub(crate) fn keep_list(
     lists.insert(index, list)?;
     Ok(())
 }
-
-/// The numbers from here on count the kind of a number of scripts with extensions.
-const KIND_UNIT: u16 = 1024;
 
 /// The scripts with extensions as a database keeps them.
 #[derive(Drop)]
@@ -159,11 +157,11 @@ fn has_script_list(property: &ScriptWithExtensionsProperty, index: u16) -> bool
 fn lacks_list(property: &ScriptWithExtensionsProperty, number: u16) -> bool
     ensures { result ≡ lacks_list (list_of property.now) number }
 {
-    let kind = number / KIND_UNIT;
-    if kind == 1 || kind == 2 {
-        !has_plain_list(property, number % KIND_UNIT)
-    } else if kind == 3 {
-        !has_script_list(property, number % KIND_UNIT)
+    let place = ScriptWithExt(number);
+    if place.is_common() || place.is_inherited() {
+        !has_plain_list(property, place.list_index())
+    } else if place.is_other() {
+        !has_script_list(property, place.list_index())
     } else {
         false
     }

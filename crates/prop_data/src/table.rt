@@ -1,4 +1,8 @@
 //! The kinds of tables, and their names.
+ghost use Rattle.std.specs.Prelude.{◌≡◌};
+ghost use Rattle.prop_data.specs.declared.table.DataError.TheVariants.{NoMemory as OutOfMemory};
+
+use cp_invlist::NoMemory;
 use prop_binary::{EmojiTable, SetTable};
 use prop_values::{MapTable, NamesTable};
 use thiserror::Error;
@@ -55,4 +59,12 @@ pub enum DataError {
     /// A request for memory was refused.
     #[error("NoMemory")]
     NoMemory,
+}
+
+impl From<NoMemory> for DataError {
+    ghost from_gives = { λ _ e. e ≡ OutOfMemory };
+
+    fn from(_error: NoMemory) -> DataError {
+        DataError::NoMemory
+    }
 }

@@ -25,7 +25,8 @@ loose names query = value_of_folding names (query_folding query)
 -- Names with the same folding have the same value: the value of a name is that of its folding.
 abbrev pub FoldingsAgree : Names → Type 0
 FoldingsAgree names =
-    (name : List ℕ) (value : ℕ) → exact names name ≡ Some value → value_of_folding names (stored_folding name) ≡ Some value
+    (name : List ℕ) (value : ℕ) → exact names name ≡ Some value →
+    value_of_folding names (stored_folding name) ≡ Some value
 
 -- the foldings of names with their values, where names with the same folding have the same value
 pub record AreFoldings (names foldings : Names) : Type 0 where

@@ -14,10 +14,12 @@ closed None rs = rs
 closed (Some begun) rs = begun ∷ rs
 
 -- The ranges of the runs whose values pass the test. The range before, where there is one, touches the first run.
-abbrev pub passing_from : {V : Type 0} → (V → Bool) → Option CodePointRange → List (CodePointMapRange V) → List CodePointRange
+abbrev pub passing_from : {V : Type 0} → (V → Bool) → Option CodePointRange → List (CodePointMapRange V) →
+    List CodePointRange
 passing_from passes begun [] = closed begun []
 passing_from passes begun (r ∷ rs) =
-    if passes r.value then passing_from passes (Some (grown begun r.range)) rs else closed begun (passing_from passes None rs)
+    if passes r.value then passing_from passes (Some (grown begun r.range)) rs
+    else closed begun (passing_from passes None rs)
 
 abbrev pub passing : {V : Type 0} → (V → Bool) → List (CodePointMapRange V) → List CodePointRange
 passing passes rs = passing_from passes None rs

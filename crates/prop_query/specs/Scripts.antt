@@ -46,7 +46,8 @@ script_of table c = if is_code_point c then script_of_number (list_of table) (va
 
 -- the script extensions of a code point, and none past 10FFFF
 abbrev pub extensions_of : ScriptWithExtensionsProperty → ℕ → List ℕ
-extensions_of table c = if is_code_point c then extensions_of_number (list_of table) (value_at (scripts_map table) c) else []
+extensions_of table c =
+    if is_code_point c then extensions_of_number (list_of table) (value_at (scripts_map table) c) else []
 
 -- the script is one of those
 abbrev pub is_among : List ℕ → ℕ → Bool

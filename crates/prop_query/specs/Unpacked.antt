@@ -4,7 +4,8 @@ use Rattle.cp_trie.specs.declared.ranges.CodePointMapRange.{CodePointMapRange}
 use Rattle.prop_data.specs.LineFault.{accepts_value}
 
 -- a run with another value, where there is one, before other runs
-abbrev pub with_value : {V : Type 0} → CodePointMapRange ℕ → Option V → List (CodePointMapRange V) → List (CodePointMapRange V)
+abbrev pub with_value : {V : Type 0} → CodePointMapRange ℕ → Option V → List (CodePointMapRange V) →
+    List (CodePointMapRange V)
 with_value r None rs = rs
 with_value r (Some v) rs = record { range = r.range; value = v } ∷ rs
 

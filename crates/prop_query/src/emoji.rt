@@ -67,10 +67,9 @@ impl EmojiSetData {
                 table: TableName::Emoji(P::TABLE),
             });
         };
-        match set.copy(alloc) {
-            Ok(set) => Ok(EmojiSetData { set }),
-            Err(NoMemory) => Err(DataError::NoMemory),
-        }
+        Ok(EmojiSetData {
+            set: set.copy(alloc)?,
+        })
     }
 
     /// The same set, lent.

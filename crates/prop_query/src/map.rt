@@ -65,10 +65,9 @@ impl<T: EnumeratedProperty> CodePointMapData<T> {
                 table: TableName::Map(T::TABLE),
             });
         };
-        match values_of(alloc, numbers) {
-            Ok(trie) => Ok(CodePointMapData { trie }),
-            Err(NoMemory) => Err(DataError::NoMemory),
-        }
+        Ok(CodePointMapData {
+            trie: values_of(alloc, numbers)?,
+        })
     }
 
     /// As `new`.

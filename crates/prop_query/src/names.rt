@@ -8,7 +8,6 @@ ghost use Rattle.prop_names.specs.ValueNameTables.{subtag_text};
 ghost use Rattle.prop_query.specs.Answers.{NeedsTable, NeedsTableAndMemory};
 ghost use Rattle.prop_query.specs.Borrowed.{names_in, long_in, long_borrowed, short_in, short_borrowed, name_in};
 
-use cp_invlist::NoMemory;
 use cp_trie::TrieValue;
 use prop_data::{DataError, NamedEnumeratedProperty, PropertyDatabase, TableName};
 use prop_names::{PropertyEnumToValueNameLookup, PropertyValueNameToEnumMap};
@@ -75,13 +74,10 @@ impl<T: ParseableEnumeratedProperty> PropertyParser<T> {
                 table: TableName::Names(T::NAMES),
             });
         };
-        match names.copy(alloc) {
-            Ok(names) => Ok(PropertyParser {
-                names,
-                value: PhantomData,
-            }),
-            Err(NoMemory) => Err(DataError::NoMemory),
-        }
+        Ok(PropertyParser {
+            names: names.copy(alloc)?,
+            value: PhantomData,
+        })
     }
 }
 
@@ -120,9 +116,12 @@ impl<'a, T: ParseableEnumeratedProperty> PropertyParserBorrowed<'a, T> {
 }
 
 impl<T: TrieValue> PropertyParserBorrowed<'_, T> {
-    /// The number of the value with this name, compared byte for byte.
+    /// The number of the value with this name, compared byte for byte. A name without white space and hyphens that is
+    /// found so is found loosely too, with the same value.
     pub fn get_strict_u16(self, name: &str) -> Option<u16>
-        ensures { result ≡ exact (names_in self.entry) name.now }
+        ensures value { result ≡ exact (names_in self.entry) name.now }
+        ensures loosely { LacksSpacesAndHyphens name.now →
+            IfSome result (λ value. loose (names_in self.entry) name.now ≡ Some value) }
     {
         self.get_strict_u16_utf8(name.as_bytes())
     }
@@ -156,14 +155,18 @@ impl<T: TrieValue> PropertyParserBorrowed<'_, T> {
     /// The number of the value of the least name that folds as this one (UAX 44, section 5.9): in lower case and
     /// without ASCII white space, `_` and hyphens, where a name that is kept loses its `_` alone. A prefix `is` is kept.
     pub fn get_loose_u16(self, name: &str) -> Option<u16>
-        ensures { result ≡ loose (names_in self.entry) name.now }
+        ensures value { result ≡ loose (names_in self.entry) name.now }
+        ensures strictly { LacksSpacesAndHyphens name.now →
+            IfSome (exact (names_in self.entry) name.now) (λ value. result ≡ Some value) }
     {
         self.get_loose_u16_utf8(name.as_bytes())
     }
 
     /// The number of the value of the least name that folds as this one, as `get_loose_u16`.
     pub fn get_loose_u16_utf8(self, name: &[u8]) -> Option<u16>
-        ensures { result ≡ loose (names_in self.entry) name.now }
+        ensures value { result ≡ loose (names_in self.entry) name.now }
+        ensures strictly { LacksSpacesAndHyphens name.now →
+            IfSome (exact (names_in self.entry) name.now) (λ value. result ≡ Some value) }
     {
         self.names.get_loose_u16(name)
     }
@@ -240,10 +243,9 @@ impl<T: NamedEnumeratedProperty> PropertyNamesLong<T> {
                 table: TableName::Long(T::TABLE),
             });
         };
-        match names.copy(alloc) {
-            Ok(names) => Ok(PropertyNamesLong { names }),
-            Err(NoMemory) => Err(DataError::NoMemory),
-        }
+        Ok(PropertyNamesLong {
+            names: names.copy(alloc)?,
+        })
     }
 
     /// The same names, lent.
@@ -325,10 +327,9 @@ impl<T: NamedEnumeratedProperty> PropertyNamesShort<T> {
                 table: TableName::Short(T::TABLE),
             });
         };
-        match names.copy(alloc) {
-            Ok(names) => Ok(PropertyNamesShort { names }),
-            Err(NoMemory) => Err(DataError::NoMemory),
-        }
+        Ok(PropertyNamesShort {
+            names: names.copy(alloc)?,
+        })
     }
 
     /// The same names, lent.

@@ -1,5 +1,5 @@
 //! The walks over the maximal ranges of code points whose values in a map pass a test.
-ghost use Rattle.std.specs.Prelude.{◌≡◌, ℕ, Bool, [], ◌∷◌, not, MatchOption};
+ghost use Rattle.std.specs.Prelude.{◌≡◌, Bool, not};
 ghost use Rattle.std.specs.Iterator.{YieldsFirst, item_count};
 ghost use Rattle.prop_values.specs.Groups.{has};
 ghost use Rattle.prop_query.specs.Passing.{passing, grown};

@@ -1,10 +1,11 @@
 //! The script and the script extensions of a code point.
-ghost use Rattle.std.specs.Prelude.{◌≡◌, ◌↔◌, ℕ, ◌%◌, List, Some, None, IsErr, IsErrOf, IfOk, IfErr, IsSomeAnd, IsTrue, Contains};
+ghost use Rattle.std.specs.Prelude.{◌≡◌, ◌↔◌, ℕ, ◌%◌, List, Some, IfOk, IsSomeAnd, IsTrue, Contains};
 ghost use Rattle.cp_invlist.specs.InversionList.{contains};
 ghost use Rattle.cp_invlist.specs.Ranges.{in_ranges, AreMaximalRanges};
 ghost use Rattle.cp_invlist.specs.declared.ranges.CodePointRange.{CodePointRange};
 ghost use Rattle.prop_data.specs.Database.{scripts_of};
 ghost use Rattle.prop_data.specs.Extensions.{list_of};
+ghost use Rattle.prop_query.specs.Answers.{NeedsTable, NeedsTableAndMemory};
 ghost use Rattle.prop_query.specs.Scripts.{script_of, extensions_of, has_script, number_has, extensions_of_number, scripts_listed, others, AnswersAs};
 
 mod extensions;
@@ -19,9 +20,6 @@ use prop_data::{DataError, PropertyDatabase, ScriptWithExtensionsProperty, Table
 use prop_values::{Script, ScriptWithExt};
 pub use ranges::ScriptExtensionsRanges;
 use std::alloc::Global;
-
-/// The low ten bits of a number of scripts with extensions are below this one, which its kind counts.
-const KIND_UNIT: u16 = 1024;
 
 /// What a call answers where a database has no scripts with extensions.
 const ABSENT: DataError = DataError::Absent {
@@ -48,8 +46,7 @@ impl ScriptWithExtensions {
         database: &'a PropertyDatabase,
     ) -> Result<ScriptWithExtensionsBorrowed<'a>, DataError>
         ensures table { IfOk result (λ scripts. scripts_of database.now ≡ Some (table_of scripts)) }
-        ensures absent { IsErr result ↔ (scripts_of database.now ≡ None) }
-        ensures error { IfErr result (λ e. e ≡ DataError.Absent TableName.Scripts) }
+        ensures needs { NeedsTable TableName.Scripts (scripts_of database.now) result }
     {
         ScriptWithExtensionsBorrowed::new(database)
     }
@@ -62,13 +59,12 @@ impl ScriptWithExtensions {
     ) -> Result<ScriptWithExtensions, DataError>
         ensures table { IfOk result (λ scripts.
             IsSomeAnd (scripts_of database.now) (AnswersAs (table_owned scripts))) }
-        ensures absent { IsErrOf result (DataError.Absent TableName.Scripts) ↔ (scripts_of database.now ≡ None) }
-        ensures error { (table : TableName) →
-            IsErrOf result (DataError.Absent table) → table ≡ TableName.Scripts }
+        ensures needs { NeedsTableAndMemory TableName.Scripts (scripts_of database.now) result }
     {
         let property = database.scripts().ok_or(ABSENT)?;
-        let property = property.copy(alloc).map_err(|_| DataError::NoMemory)?;
-        Ok(ScriptWithExtensions { property })
+        Ok(ScriptWithExtensions {
+            property: property.copy(alloc)?,
+        })
     }
 
     /// These scripts, borrowed.
@@ -89,8 +85,7 @@ impl<'a> ScriptWithExtensionsBorrowed<'a> {
         database: &'a PropertyDatabase,
     ) -> Result<ScriptWithExtensionsBorrowed<'a>, DataError>
         ensures table { IfOk result (λ scripts. scripts_of database.now ≡ Some (table_of scripts)) }
-        ensures absent { IsErr result ↔ (scripts_of database.now ≡ None) }
-        ensures error { IfErr result (λ e. e ≡ DataError.Absent TableName.Scripts) }
+        ensures needs { NeedsTable TableName.Scripts (scripts_of database.now) result }
     {
         let property = database.scripts().ok_or(ABSENT)?;
         Ok(ScriptWithExtensionsBorrowed { property })
@@ -188,8 +183,7 @@ impl<'a> ScriptWithExtensionsBorrowed<'a> {
     fn list(self, number: ScriptWithExt) -> &'a [Script]
         ensures { result.now ≡ scripts_listed (list_of (table_of self.entry) (number % 1024)) }
     {
-        let index = number.0 % KIND_UNIT;
-        self.property.extensions(index).unwrap_or(&[])
+        self.property.extensions(number.list_index()).unwrap_or(&[])
     }
 
     /// The script extensions that a number stands for.

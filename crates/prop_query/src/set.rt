@@ -65,10 +65,9 @@ fn copied(
             table: TableName::Set(table),
         });
     };
-    match set.copy(alloc) {
-        Ok(set) => Ok(CodePointSetData { set }),
-        Err(NoMemory) => Err(DataError::NoMemory),
-    }
+    Ok(CodePointSetData {
+        set: set.copy(alloc)?,
+    })
 }
 
 impl CodePointSetData {

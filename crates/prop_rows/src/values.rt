@@ -3,7 +3,7 @@ use crate::fixtures::{
     assert_equal, assert_facts, assert_last, assert_names, assert_pairs, assert_unpacks,
 };
 use cp_invlist::CodePointRange;
-use cp_trie::{CodePointMapRange, CodePointTrie, ConvertError, TrieValue, ValueError};
+use cp_trie::{CodePointMapRange, CodePointTrie, ConvertError, TrieValue};
 use prop_values::{
     BidiClass, BidiMirroringGlyph, BidiPairedBracketType, GeneralCategory, GeneralCategoryGroup,
     GeneralCategoryOutOfBoundsError, HangulSyllableType, MapTable, NamesTable, Script,

@@ -51,16 +51,19 @@ by_bits g m b =
     cond ((g == 0 || is_scalar_value g) && not (b == 3)) (Some (record { mirroring_glyph = glyph_of g; mirrored = m == 1; paired_bracket_type = bracket_of b })) None
 
 by_bits_alike : (g g' m m' b b' : ℕ) → g ≡ g' → m ≡ m' → b ≡ b' → by_bits g m b ≡ by_bits g' m' b'
-by_bits_alike g g' m m' b b' x y z = ap (λ k. by_bits k m b) x ∙ (ap (λ k. by_bits g' k b) y ∙ ap (λ k. by_bits g' m' k) z)
+by_bits_alike g g' m m' b b' x y z =
+    ap (λ k. by_bits k m b) x ∙ (ap (λ k. by_bits g' k b) y ∙ ap (λ k. by_bits g' m' k) z)
 
-sum_alike : (g g' m m' b b' : ℕ) → g ≡ g' → m ≡ m' → b ≡ b' → g + m * 2097152 + b * 4194304 ≡ g' + m' * 2097152 + b' * 4194304
+sum_alike : (g g' m m' b b' : ℕ) → g ≡ g' → m ≡ m' → b ≡ b' →
+    g + m * 2097152 + b * 4194304 ≡ g' + m' * 2097152 + b' * 4194304
 sum_alike g g' m m' b b' x y z = omega arith
 
 no_fourth_bracket : (a : Bool) (b : ℕ) → (a && not (b == 3)) ≡ true → b < 4 → b < 3
 no_fourth_bracket a b h bound = grind (arith, nat_tests)
 
 -- the packing of a value that a number unpacks to unpacks to that value
-pub unpacked_glyph-again : (n : ℕ) (v : BidiMirroringGlyph) → unpacked_glyph n ≡ Some v → unpacked_glyph (packed_glyph v) ≡ Some v
+pub unpacked_glyph-again : (n : ℕ) (v : BidiMirroringGlyph) → unpacked_glyph n ≡ Some v →
+    unpacked_glyph (packed_glyph v) ≡ Some v
 unpacked_glyph-again n v h =
     let spelled = cond_some (is_glyph_number n) (glyph_spelled n) v h in
     let g = glyph_bits n in

@@ -20,11 +20,16 @@ glyph_of n = if n == 0 then None else Some n
 -- the value that a number spells by its bits
 abbrev pub glyph_spelled : ℕ → BidiMirroringGlyph
 glyph_spelled n =
-    record { mirroring_glyph = glyph_of (glyph_bits n); mirrored = n / 2097152 % 2 == 1; paired_bracket_type = bracket_of (bracket_bits n) }
+    record {
+      mirroring_glyph = glyph_of (glyph_bits n);
+      mirrored = n / 2097152 % 2 == 1;
+      paired_bracket_type = bracket_of (bracket_bits n);
+    }
 
 abbrev pub unpacked_glyph : ℕ → Option BidiMirroringGlyph
 unpacked_glyph n = if is_glyph_number n then Some (glyph_spelled n) else None
 
 abbrev pub packed_glyph : BidiMirroringGlyph → ℕ
 packed_glyph v =
-    unwrap_or v.mirroring_glyph 0 + (if v.mirrored then 1 else 0) * 2097152 + bracket_number v.paired_bracket_type * 4194304
+    unwrap_or v.mirroring_glyph 0 + (if v.mirrored then 1 else 0) * 2097152
+    + bracket_number v.paired_bracket_type * 4194304

@@ -20,14 +20,16 @@ choice_comes_back true x y h k = h
 choice_comes_back false x y h k = k
 
 -- the bits of a number come back where those of each row and none do
-bits_in-comes_back : (rows : List (ℕ × ℕ)) (n : ℕ) → comes_back 0 ≡ true → all_come_back rows ≡ true → comes_back (bits_in rows n) ≡ true
+bits_in-comes_back : (rows : List (ℕ × ℕ)) (n : ℕ) → comes_back 0 ≡ true → all_come_back rows ≡ true →
+    comes_back (bits_in rows n) ≡ true
 bits_in-comes_back [] n empty all = empty
 bits_in-comes_back (row ∷ rows) n empty all =
     let parts = and_parts (comes_back row.1) (all_come_back rows) all in
     choice_comes_back (row.0 == n) row.1 (bits_in rows n) parts.0 (bits_in-comes_back rows n empty parts.1)
 
 -- the packing of a group that a number unpacks to unpacks to that group
-pub unpacked_group-again : (n group : ℕ) → unpacked_group n ≡ Some group → unpacked_group (packed_group group) ≡ Some group
+pub unpacked_group-again : (n group : ℕ) → unpacked_group n ≡ Some group →
+    unpacked_group (packed_group group) ≡ Some group
 unpacked_group-again n group h =
     let group_is : bits_in packings n ≡ group = (cond_some (nat_lt n 65536) (bits_in packings n) group h).1 in
     let back = bits_in-comes_back packings n refl refl in

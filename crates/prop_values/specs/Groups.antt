@@ -33,7 +33,8 @@ abbrev pub other : ℕ
 other = bits_of (Control ∷ Format ∷ PrivateUse ∷ Surrogate ∷ Unassigned ∷ [])
 
 abbrev pub punctuation : ℕ
-punctuation = bits_of (DashPunctuation ∷ OpenPunctuation ∷ ClosePunctuation ∷ ConnectorPunctuation ∷ OtherPunctuation ∷ InitialPunctuation ∷ FinalPunctuation ∷ [])
+punctuation = bits_of (DashPunctuation ∷ OpenPunctuation ∷ ClosePunctuation ∷ ConnectorPunctuation ∷ OtherPunctuation
+    ∷ InitialPunctuation ∷ FinalPunctuation ∷ [])
 
 abbrev pub symbol : ℕ
 symbol = bits_of (MathSymbol ∷ CurrencySymbol ∷ ModifierSymbol ∷ OtherSymbol ∷ [])

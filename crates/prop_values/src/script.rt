@@ -192,6 +192,13 @@ impl ScriptWithExt {
         self.0 / KIND_UNIT == 3
     }
 
+    /// The index in the low ten bits, of a list where the kind is 1, 2 or 3.
+    pub fn list_index(self) -> u16
+        ensures { result ≡ self % 1024 }
+    {
+        self.0 % KIND_UNIT
+    }
+
     /// Whether the kind is above 0.
     pub fn has_extensions(&self) -> bool
         ensures { result ≡ nat_lt 0 (kind_of self.now) }

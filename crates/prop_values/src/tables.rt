@@ -173,7 +173,7 @@ impl MapTable {
         MAP_TABLE_NAMES[usize::from(self.number)]
     }
 
-    /// The table of this name, compared byte for byte.
+    /// The table of this name, compared byte for byte. `None` where no table has it.
     pub fn from_name(name: &[u8]) -> Option<MapTable>
         ensures { result ≡ position (λ known. bytes_eq known name.now) map_table_names }
     {
@@ -290,7 +290,7 @@ impl NamesTable {
         NAMES_TABLE_NAMES[usize::from(self.number)]
     }
 
-    /// The table of this name, compared byte for byte.
+    /// The table of this name, compared byte for byte. `None` where no table has it.
     pub fn from_name(name: &[u8]) -> Option<NamesTable>
         ensures { result ≡ position (λ known. bytes_eq known name.now) names_table_names }
     {

@@ -13,7 +13,8 @@ number_onto base n (d ∷ digits) = option_and_then (λ value. number_onto base 
 
 -- one to so many digits of the base
 unfoldable pub spelled : ℕ → ℕ → List ℕ → Option ℕ
-spelled base most digits = if nat_le 1 (length digits) && nat_le (length digits) most then number_onto base 0 digits else None
+spelled base most digits =
+    if nat_le 1 (length digits) && nat_le (length digits) most then number_onto base 0 digits else None
 
 -- one to six hexadecimal digits
 abbrev pub hex : List ℕ → Option ℕ

@@ -105,8 +105,9 @@ impl ParseError {
         Ok(())
     }
 
-    /// The fault in words, behind the front of the source through the character at its place and an arrow. The source may be
-    /// any: where the place is past its end, none of it is shown. No character is cut.
+    /// The fault in words, behind the front of the source through the character at its place and an arrow; where more is due at
+    /// the end, behind all of the source. The source may be any: of another fault whose place is past its end, none of it is
+    /// shown. No character is cut.
     pub fn fmt_with_source(&self, alloc: Global, source: &str) -> Result<String, NoMemory>
         ensures { IfOk result (λ text. string_bytes text ≡ encode_utf8_all (shown_with self.now (chars source.now))) }
     {

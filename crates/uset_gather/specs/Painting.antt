@@ -37,7 +37,8 @@ painted_alike r member c b = if in_run r c then member else b
 
 -- whether the code point is in the set that was painted
 unfoldable pub in_painting : Painting → ℕ → Bool
-in_painting s c = if s.complemented then is_code_point c && not (painted s.ranges.items c false) else painted s.ranges.items c false
+in_painting s c = if s.complemented then is_code_point c && not (painted s.ranges.items c false)
+    else painted s.ranges.items c false
 
 -- whether a code point is a member behind the layer, where the Bool says whether it was one below
 abbrev pub behind : Layer → ℕ → Bool → Bool

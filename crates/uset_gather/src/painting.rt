@@ -66,7 +66,7 @@ impl Painting {
         Ok(())
     }
 
-    /// Makes one set of all that was painted. Once more as many ranges as it has, and at least 4096, may be painted before it is
+    /// Makes one set of all that was painted. Twice as many ranges as it has, and at least 4096, may be painted before it is
     /// made anew.
     fn settle(&mut self) -> Result<(), NoMemory>
         ensures { OnOk result ((c : ℕ) → in_painting self.new c ≡ in_painting self.old c) }

@@ -6,6 +6,7 @@ use Rattle.uset_grammar.specs.Text.{Text, skip}
 use Rattle.uset_grammar.specs.Outcome.{eof, Outcome, ended, meaning}
 use Rattle.uset_grammar.specs.Property.{Query, PropertyBegins}
 use Rattle.uset_grammar.specs.Unit.{Meaning, a_string, a_property, UnitBegins, brace_begins, posix_begins, backslash_begins, begins_property}
+use Rattle.uset_grammar.proofs.EscapeMachine.{letter_apart}
 use Rattle.uset_grammar.proofs.StringOutcome as SL
 use Rattle.uset_grammar.proofs.PropertyOutcome as PL
 use Rattle.uset_grammar.proofs.UnitOutcome as BL
@@ -21,12 +22,12 @@ use Rattle.uset_grammar.proofs.OneAnswer.{Runs, stop, go, in_bytes, decided, dec
 module _ (l : Language) (lawful : Lawful l) where
   abbrev pub backslash_of : Bool → Text → Outcome Meaning
   backslash_of both [] = ended
-  backslash_of both (d ∷ t) = BL.backslash_outcome l.white_space lawful.apart lawful.a_letter both (resolves l) (lacks l) (begins_property d) d t
+  backslash_of both (d ∷ t) = BL.backslash_outcome l.white_space lawful both (resolves l) (lacks l) (begins_property d) d t
 
   abbrev pub unit_of : Bool → Text → Outcome Meaning
   unit_of both [] = ended
   unit_of both (c ∷ t) =
-      cond (c == 0x7B) (meaning a_string (SL.outcome l.white_space lawful.apart (c ∷ t)))
+      cond (c == 0x7B) (meaning a_string (SL.outcome l.white_space lawful (c ∷ t)))
       (cond (c == 0x5B) (meaning a_property (PL.outcome l.white_space (resolves l) (lacks l) (c ∷ t))) (backslash_of both t))
 
   abbrev pub property_of : Text → Outcome Query
@@ -34,22 +35,22 @@ module _ (l : Language) (lawful : Lawful l) where
 
   answered_of : (both : Bool) (q : Text) → UnitBegins q → UnitAnswer l both q (unit_of both q)
   answered_of both _ (brace_begins {t}) =
-      subst (λ o. UnitAnswer l both (0x7B ∷ t) o) (BL.string_unit_is l.white_space lawful.apart lawful.a_letter both (resolves l) (lacks l) t t)
-      (BL.one_unit_law l.white_space lawful.apart lawful.a_letter both (resolves l) (lacks l) (0x7B ∷ t) t brace_begins).1
+      subst (λ o. UnitAnswer l both (0x7B ∷ t) o) (BL.string_unit_is l.white_space lawful both (resolves l) (lacks l) t t)
+      (BL.one_unit_law l.white_space lawful both (resolves l) (lacks l) (0x7B ∷ t) t brace_begins).1
   answered_of both _ (posix_begins {t}) =
-      subst (λ o. UnitAnswer l both (0x5B ∷ 0x3A ∷ t) o) (BL.posix_unit_is l.white_space lawful.apart lawful.a_letter both (resolves l) (lacks l) t t)
-      (BL.one_unit_law l.white_space lawful.apart lawful.a_letter both (resolves l) (lacks l) (0x5B ∷ 0x3A ∷ t) t posix_begins).1
+      subst (λ o. UnitAnswer l both (0x5B ∷ 0x3A ∷ t) o) (BL.posix_unit_is l.white_space lawful both (resolves l) (lacks l) t t)
+      (BL.one_unit_law l.white_space lawful both (resolves l) (lacks l) (0x5B ∷ 0x3A ∷ t) t posix_begins).1
   answered_of both _ (backslash_begins {d} {t}) =
-      subst (λ o. UnitAnswer l both (0x5C ∷ d ∷ t) o) (BL.backslash_unit_is l.white_space lawful.apart lawful.a_letter both (resolves l) (lacks l) d t t)
-      (BL.one_unit_law l.white_space lawful.apart lawful.a_letter both (resolves l) (lacks l) (0x5C ∷ d ∷ t) t backslash_begins).1
+      subst (λ o. UnitAnswer l both (0x5C ∷ d ∷ t) o) (BL.backslash_unit_is l.white_space lawful both (resolves l) (lacks l) d t t)
+      (BL.one_unit_law l.white_space lawful both (resolves l) (lacks l) (0x5C ∷ d ∷ t) t backslash_begins).1
 
   unit_is : (both : Bool) (q : Text) → front l q ≡ begins_unit → is_short q ≡ false → unit_at l lawful both q ≡ unit_of both q
   unit_is both q f long = same_outcome _ _ _ q (unit_at l lawful both q) (unit_of both q) (unit_answered l lawful both q f long) (answered_of both q (unit_begins l q f long))
 
   property_answered_of : (q : Text) → PropertyBegins q → PropertyAnswer l q (property_of q)
   property_answered_of q b =
-      subst (λ o. PropertyAnswer l q o) (PL.property_is l.white_space lawful.a_letter (resolves l) (lacks l) q b.0 b.1)
-      (PL.one_property_law l.white_space lawful.a_letter (resolves l) (lacks l) q b.0 b.1).1
+      subst (λ o. PropertyAnswer l q o) (PL.property_is l.white_space (letter_apart l.white_space lawful) (resolves l) (lacks l) q b.0 b.1)
+      (PL.one_property_law l.white_space (letter_apart l.white_space lawful) (resolves l) (lacks l) q b.0 b.1).1
 
   property_is : (q : Text) → first l q ≡ of_property → property_at l lawful q ≡ property_of q
   property_is q f = same_outcome _ _ _ q (property_at l lawful q) (property_of q) (property_answered l lawful q f) (property_answered_of q (property_begins l q f))

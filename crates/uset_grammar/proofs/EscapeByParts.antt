@@ -1,6 +1,7 @@
 -- An escape that is read part by part has the outcome of the machine.
 use Rattle.std.proofs.Common.{◌≡◌, ◌≤◌, ◌<◌, ℕ, zero, suc, ◌+◌, ◌*◌, Bool, true, false, cond, Some, None, List, [], ◌∷◌, ◌++◌, length, refl, sym, ap, ◌∙◌, subst, arith, inl, inr}
 use Rattle.std.specs.Prelude.{◌==◌}
+use Rattle.std.specs.Option.{option_or}
 use mathlib.Core.Logic.{◌⊎◌}
 use Rattle.std.proofs.lemmas.Bool.{cases_Bool, eqb-true}
 use Rattle.std.specs.Char.{digit_value}
@@ -16,7 +17,7 @@ use Rattle.uset_grammar.proofs.UnitMachine.{Next, goes, whole, refuses, Slip, tu
 use Rattle.uset_grammar.proofs.EscapeMachine.{State, start, letters, brace_or, zero_first, zero_second, fixed, awaits, number, at_letter, next_fixed, close_or, next, Sort, digit, brace, white, stray, sort}
 use Rattle.uset_grammar.proofs.EscapeOutcome.{escape_answered, outcome}
 use Rattle.uset_grammar.proofs.Placed.{Placed, placed_tells, further_text}
-use Rattle.uset_grammar.proofs.EscapeMachineSlips.{or_else, letter_slip, second, later, sixth, fixed_slip, within, end_slip, slip}
+use Rattle.uset_grammar.proofs.EscapeMachineSlips.{letter_slip, second, later, sixth, fixed_slip, within, end_slip, slip}
 
 -- the parts by the number of their digits: so many
 abbrev short_in : ℕ → ℕ → Text → Outcome ℕ
@@ -213,18 +214,18 @@ module _ (white_space : ℕ → Bool) (apart : Apart white_space) (a : Around) (
   -- the last digit of a long number
   last_by : (t p w : Text) (n c : ℕ) (b : Bool) → n ≡ value (w ++ c ∷ []) → is_above (value (w ++ c ∷ [])) ≡ b → q ≡ p ++ c ∷ t → (go : Go) →
       Placed q (and_then (cond b (faulty invalid_escape (c ∷ t)) (got n t)) (sole_in a q))
-      (turn (or_else (cond b (Some (invalid_escape, p)) None) (end_slip a (whole (numbers (value (w ++ c ∷ []) ∷ []))))) (whole (numbers (value (w ++ c ∷ []) ∷ []))) go p c t)
+      (turn (option_or (cond b (Some (invalid_escape, p)) None) (end_slip a (whole (numbers (value (w ++ c ∷ []) ∷ []))))) (whole (numbers (value (w ++ c ∷ []) ∷ []))) go p c t)
   last_by t p w n c true e eb h go = (refl, h)
   last_by t p w n c false e eb h go = sole_placed white_space apart a q a n (value (w ++ c ∷ [])) t p go c e
 
   long_by : (t p w : Text) (k n c : ℕ) (h : Bool) → n ≡ value w → q ≡ p ++ c ∷ t →
       ((k : ℕ) (v : ℕ) → v ≡ value (w ++ c ∷ []) → Placed q (and_then (long_in k v t) (sole_in a q)) (machine white_space apart a q (p ++ c ∷ []) (fixed true k (w ++ c ∷ [])) t)) →
       Placed q (and_then (long_step k n c t h) (sole_in a q))
-      (turn (or_else (cond h (fixed_slip p k (value (w ++ c ∷ []))) None) (end_slip a (cond h (next_fixed true k (w ++ c ∷ [])) refuses)))
+      (turn (option_or (cond h (fixed_slip p k (value (w ++ c ∷ []))) None) (end_slip a (cond h (next_fixed true k (w ++ c ∷ [])) refuses)))
       (cond h (next_fixed true k (w ++ c ∷ [])) refuses) (λ s. machine white_space apart a q (p ++ c ∷ []) s t) p c t)
   long_by t p w zero n c true e h ih =
       subst (λ b. Placed q (and_then (cond b (faulty invalid_escape (c ∷ t)) (got (n * 16 + digit_value c) t)) (sole_in a q))
-      (turn (or_else (cond (is_above (value (w ++ c ∷ []))) (Some (invalid_escape, p)) None) (end_slip a (whole (numbers (value (w ++ c ∷ []) ∷ [])))))
+      (turn (option_or (cond (is_above (value (w ++ c ∷ []))) (Some (invalid_escape, p)) None) (end_slip a (whole (numbers (value (w ++ c ∷ []) ∷ [])))))
       (whole (numbers (value (w ++ c ∷ []) ∷ []))) (λ s. machine white_space apart a q (p ++ c ∷ []) s t) p c t))
       (ap is_above (sym (value_snoc w c n e)))
       (last_by t p w (n * 16 + digit_value c) c (is_above (value (w ++ c ∷ []))) (value_snoc w c n e) refl h (λ s. machine white_space apart a q (p ++ c ∷ []) s t))
@@ -255,18 +256,18 @@ module _ (white_space : ℕ → Bool) (apart : Apart white_space) (a : Around) (
 
   -- a later number that is a surrogate
   later_placed : (a' : Around) (ns : List ℕ) (begin b : Text) (v : ℕ) (t p u : Text) (f : ℕ → Text → Outcome Spelled) (y : Slip) (n : Next State Spelled) (go : Go) (c : ℕ) →
-      Placed q (f v t) (turn y n go p c u) → q ≡ b ++ begin → Placed q (and_then (later_in a' ns begin v t) f) (turn (or_else (later a' ns b v) y) n go p c u)
+      Placed q (f v t) (turn y n go p c u) → q ≡ b ++ begin → Placed q (and_then (later_in a' ns begin v t) f) (turn (option_or (later a' ns b v) y) n go p c u)
   later_placed (in_bracket both) ns begin b v t p u f y n go c h e = h
   later_placed in_string [] begin b v t p u f y n go c h e = h
   later_placed in_string (m ∷ ns) begin b v t p u f y n go c h e = by (is_surrogate v)
     where
-      by : (z : Bool) → Placed q (and_then (cond z (faulty invalid_escape begin) (got v t)) f) (turn (or_else (cond z (Some (invalid_escape, b)) None) y) n go p c u)
+      by : (z : Bool) → Placed q (and_then (cond z (faulty invalid_escape begin) (got v t)) f) (turn (option_or (cond z (Some (invalid_escape, b)) None) y) n go p c u)
       by true = (refl, e)
       by false = h
 
   -- the second number
   second_placed : (a' : Around) (ns : List ℕ) (o : Outcome Spelled) (y : Slip) (n : Next State Spelled) (go : Go) (p u : Text) (c : ℕ) →
-      Placed q o (turn y n go p c u) → Placed q (second_in a' q ns o) (turn (or_else (second a' ns) y) n go p c u)
+      Placed q o (turn y n go p c u) → Placed q (second_in a' q ns o) (turn (option_or (second a' ns) y) n go p c u)
   second_placed a' [] o y n go p u c h = h
   second_placed (in_bracket true) (m ∷ []) o y n go p u c h = h
   second_placed (in_bracket false) (m ∷ []) o y n go p u c h = (refl, refl)
@@ -274,7 +275,7 @@ module _ (white_space : ℕ → Bool) (apart : Apart white_space) (a : Around) (
   second_placed (in_bracket both) (m ∷ k ∷ ns) o y n go p u c h = h
   second_placed in_string (m ∷ []) o y n go p u c h = by (is_surrogate m)
     where
-      by : (z : Bool) → Placed q (cond z (faulty invalid_escape q) o) (turn (or_else (cond z (Some (invalid_escape, [])) None) y) n go p c u)
+      by : (z : Bool) → Placed q (cond z (faulty invalid_escape q) o) (turn (option_or (cond z (Some (invalid_escape, [])) None) y) n go p c u)
       by true = (refl, refl)
       by false = h
 
@@ -300,10 +301,10 @@ module _ (white_space : ℕ → Bool) (apart : Apart white_space) (a : Around) (
   behind_placed f t p w b ns m c all (stray h r s) isnt few e = rw (h, r, s) (refused_at p t c (λ s. machine white_space apart a q (p ++ c ∷ []) s t) e)
 
   sixth_placed : (ns : List ℕ) (begin b : Text) (v : ℕ) (t p : Text) (f : ℕ → Text → Outcome Spelled) (s : State) (go : Go) (c : ℕ) → Placed q (f v t) (go s) → q ≡ p ++ c ∷ t → q ≡ b ++ begin →
-      Placed q (and_then (sixth_in a ns begin v (c ∷ t) t) f) (turn (or_else (sixth a p ns 1 b v) (end_slip a (goes s))) (goes s) go p c t)
+      Placed q (and_then (sixth_in a ns begin v (c ∷ t) t) f) (turn (option_or (sixth a p ns 1 b v) (end_slip a (goes s))) (goes s) go p c t)
   sixth_placed ns begin b v t p f s go c h e g = by (is_above v)
     where
-      by : (z : Bool) → Placed q (and_then (cond z (faulty invalid_escape (c ∷ t)) (later_in a ns begin v t)) f) (turn (or_else (cond z (Some (invalid_escape, p)) (later a ns b v)) (end_slip a (goes s))) (goes s) go p c t)
+      by : (z : Bool) → Placed q (and_then (cond z (faulty invalid_escape (c ∷ t)) (later_in a ns begin v t)) f) (turn (option_or (cond z (Some (invalid_escape, p)) (later a ns b v)) (end_slip a (goes s))) (goes s) go p c t)
       by true = (refl, e)
       by false = later_placed a ns begin b v t p t f (end_slip a (goes s)) (goes s) go c (goes_on p t c s go (f v t) h) g
 
@@ -331,11 +332,11 @@ module _ (white_space : ℕ → Bool) (apart : Apart white_space) (a : Around) (
   end_placed : (t : Text) (f : ℕ) (p w b begin : Text) (ns : List ℕ) (m c : ℕ) → Reads f → Sort white_space c → is_hex c ≡ false → length t < f → q ≡ p ++ c ∷ t → q ≡ b ++ begin →
       Placed q (and_then (number_in a ns begin m (value w) (c ∷ t)) (behind f ns)) (machine white_space apart a q p (number ns m w b) (c ∷ t))
   end_placed t f p w b begin ns zero c all sort' h few g i =
-      subst (λ x. Placed q (behind f ns (value w) (c ∷ t)) (turn (or_else x (end_slip a (next white_space p (number ns zero w b) c))) (next white_space p (number ns zero w b) c)
+      subst (λ x. Placed q (behind f ns (value w) (c ∷ t)) (turn (option_or x (end_slip a (next white_space p (number ns zero w b) c))) (next white_space p (number ns zero w b) c)
       (λ s. machine white_space apart a q (p ++ c ∷ []) s t) p c t)) (sym (within_full p w b ns c h)) (behind_placed f t p w b ns zero c all sort' h few g)
   end_placed t f p w b begin ns (suc m) c all sort' h few g i =
       subst (λ o. Placed q (and_then o (behind f ns)) (machine white_space apart a q p (number ns (suc m) w b) (c ∷ t))) (sym (stays_later ns begin m (value w) c t h))
-      (subst (λ x. Placed q (and_then (later_in a ns begin (value w) (c ∷ t)) (behind f ns)) (turn (or_else x (end_slip a (next white_space p (number ns (suc m) w b) c))) (next white_space p (number ns (suc m) w b) c)
+      (subst (λ x. Placed q (and_then (later_in a ns begin (value w) (c ∷ t)) (behind f ns)) (turn (option_or x (end_slip a (next white_space p (number ns (suc m) w b) c))) (next white_space p (number ns (suc m) w b) c)
       (λ s. machine white_space apart a q (p ++ c ∷ []) s t) p c t)) (sym (within_later p w b ns m c h))
       (later_placed a ns begin b (value w) (c ∷ t) p t (behind f ns) (end_slip a (next white_space p (number ns (suc m) w b) c)) (next white_space p (number ns (suc m) w b) c)
       (λ s. machine white_space apart a q (p ++ c ∷ []) s t) c (behind_placed f t p w b ns (suc m) c all sort' h few g) i))
@@ -360,7 +361,7 @@ module _ (white_space : ℕ → Bool) (apart : Apart white_space) (a : Around) (
       Placed q (number_or white_space a q (numbers_in white_space a q f) ns (skip white_space t)) (machine white_space apart a q (p ++ c ∷ []) (awaits ns) t) ⊎ (white_space c ≡ false) →
       Placed q (number_or white_space a q (numbers_in white_space a q f) ns (skip white_space (c ∷ t))) (machine white_space apart a q p (awaits ns) (c ∷ t))
   awaits_by f c t p ns all (digit h r s) few g ih =
-      rw (s, r, h) (subst (λ o. Placed q o (turn (or_else (second a ns) (end_slip a (goes (number ns 5 (c ∷ []) p)))) (goes (number ns 5 (c ∷ []) p)) (λ s. machine white_space apart a q (p ++ c ∷ []) s t) p c t))
+      rw (s, r, h) (subst (λ o. Placed q o (turn (option_or (second a ns) (end_slip a (goes (number ns 5 (c ∷ []) p)))) (goes (number ns 5 (c ∷ []) p)) (λ s. machine white_space apart a q (p ++ c ∷ []) s t) p c t))
       (second_then a q ns (number_in a ns (c ∷ t) 5 (digit_value c) t) (behind f ns) ∙ ap (λ o. and_then (second_in a q ns o) (behind f ns)) (sym (five_left a ns (c ∷ t) (digit_value c) t)))
       (second_placed a ns (and_then (number_in a ns (c ∷ t) 5 (digit_value c) t) (behind f ns)) (end_slip a (goes (number ns 5 (c ∷ []) p))) (goes (number ns 5 (c ∷ []) p))
       (λ s. machine white_space apart a q (p ++ c ∷ []) s t) p t c
@@ -418,7 +419,7 @@ module _ (white_space : ℕ → Bool) (apart : Apart white_space) (a : Around) (
   first_zero_placed (c ∷ t) p g = zero_by t p c zero_second (zero_then (long_digits a q)) (c == 0x30) g (second_zero_placed t (p ++ c ∷ []) (further_text q p t c g))
 
   letter_placed : (t p : Text) (c : ℕ) (l : Letter) → q ≡ p ++ c ∷ t → Placed q (letter_in white_space a q l c t)
-      (turn (or_else (letter_slip p l) (end_slip a (at_letter l c))) (at_letter l c) (λ s. machine white_space apart a q (p ++ c ∷ []) s t) p c t)
+      (turn (option_or (letter_slip p l) (end_slip a (at_letter l c))) (at_letter l c) (λ s. machine white_space apart a q (p ++ c ∷ []) s t) p c t)
   letter_placed t p c four g = goes_on p t c (brace_or 3) (λ s. machine white_space apart a q (p ++ c ∷ []) s t) (R.brace_or white_space a q four_digits_in t) (brace_or_placed t (p ++ c ∷ []) 3 four_digits_in four_are_short (further_text q p t c g))
   letter_placed t p c two g = goes_on p t c (brace_or 1) (λ s. machine white_space apart a q (p ++ c ∷ []) s t) (R.brace_or white_space a q two_digits_in t) (brace_or_placed t (p ++ c ∷ []) 1 two_digits_in two_are_short (further_text q p t c g))
   letter_placed t p c six g = goes_on p t c zero_first (λ s. machine white_space apart a q (p ++ c ∷ []) s t) (long_escape a q t)

@@ -3,7 +3,7 @@ use Rattle.std.proofs.Common.{◌≡◌, ◌≤◌, ℕ, zero, suc, ◌+◌, Boo
 use mathlib.Core.Logic.{◌⊎◌}
 use Rattle.std.specs.Prelude.{◌==◌, nat_le, if◌then◌else◌}
 use Rattle.std.specs.List.{list_all}
-use Rattle.std.proofs.lemmas.Bool.{cases_Bool, eqb-true, le-leb, and_left, and_right}
+use Rattle.std.proofs.lemmas.Bool.{both_ways, cases_Bool, eqb-true, false_from_ne_true, le-leb, and_left, and_right}
 use Rattle.std.proofs.lemmas.Bool.Decides.{nat_tests}
 use Rattle.std.proofs.lemmas.List.Folds.{list_all-append}
 use Rattle.uset_grammar.specs.Text.{Text, ◌>>=◌, behind_code}
@@ -84,6 +84,14 @@ is_brace c h = eqb-true c 0x7D h
 brace_no_digit : is_hex 0x7D ≡ false
 unfolding is_hex
 brace_no_digit = refl
+
+a_is_digit : is_hex 0x61 ≡ true
+unfolding is_hex
+a_is_digit = refl
+
+-- An `a` is a hexadecimal digit, and so no white space.
+pub letter_apart : (white_space : ℕ → Bool) → Apart white_space → white_space 0x61 ≡ false
+letter_apart white_space apart = false_from_ne_true _ (λ e. both_ways _ (apart.no_digit 0x61 e) a_is_digit)
 
 differ : (a : Bool) → a ≡ true → a ≡ false → ⊥
 differ a h k = let e : true ≡ false = sym h ∙ k in cc

@@ -2,6 +2,7 @@
 use Rattle.std.proofs.Common.{◌≡◌, ◌<◌, ◌≤◌, ℕ, zero, suc, ◌+◌, ◌-◌, Bool, true, false, ◌&&◌, cond, List, [], ◌∷◌, ◌++◌, length, Option, Some, None, refl, sym, ap, ◌∙◌, subst, inl, inr, append_assoc, append-nil, arith}
 use mathlib.Core.Logic.{◌⊎◌}
 use Rattle.std.specs.Prelude.{◌==◌, nat_le}
+use Rattle.std.specs.Option.{option_or}
 use Rattle.std.specs.List.{list_all}
 use Rattle.std.proofs.lemmas.Bool.{cases_Bool, eqb-true, leb-true}
 use Rattle.std.proofs.lemmas.Bool.Decides.{nat_tests}
@@ -12,7 +13,7 @@ use Rattle.uset_grammar.specs.EscapeSlips.{Around, in_string, in_bracket, IsNumb
 use Rattle.uset_grammar.proofs.UnitMachine.{Next, goes, whole, refuses, Slip, turn, onward, run, reach, free, run_on, reach_on, whole_from}
 use Rattle.uset_grammar.proofs.EscapeMachine.{State, start, letters, brace_or, zero_first, zero_second, fixed, awaits, number, at_letter, next_fixed, next_digit, close_or, next, read_whole, Digits, digits_number, shape_is_read}
 use Rattle.uset_grammar.proofs.UnitMachineOutcome.{goes_within}
-use Rattle.uset_grammar.proofs.EscapeMachineSlips.{or_else, letter_slip, second, later, sixth, shorter, fixed_slip, within, end_slip, slip, At, letter_name, walk}
+use Rattle.uset_grammar.proofs.EscapeMachineSlips.{letter_slip, second, later, sixth, shorter, fixed_slip, within, end_slip, slip, At, letter_name, walk}
 
 -- a slip is one by the definition
 abbrev pub Fits : (ℕ → Bool) → Around → Text → ℕ → Slip → Type 0
@@ -33,7 +34,7 @@ read_got (faulty k b) v t h = absurd (let e = h in cc)
 read_got ended v t h = absurd (let e = h in cc)
 
 module _ (white_space : ℕ → Bool) (apart : Apart white_space) (a : Around) where
-  fits_or : (p : Text) (c : ℕ) (x y : Slip) → Fits white_space a p c x → Fits white_space a p c y → Fits white_space a p c (or_else x y)
+  fits_or : (p : Text) (c : ℕ) (x y : Slip) → Fits white_space a p c x → Fits white_space a p c y → Fits white_space a p c (option_or x y)
   fits_or p c (Some x) y f g = f
   fits_or p c None y f g = g
 
@@ -333,7 +334,7 @@ module _ (white_space : ℕ → Bool) (apart : Apart white_space) where
   slip_at_law a _ c _ _ (above {ns} {before} {five = w} at six' e) = (number ns 1 w before, reach_in_word ns before w 1 at (five w c six'), rw (six'.sixth, e) refl)
   slip_at_law in_string p c _ _ (sole_surrogate {n} shape sur) =
       let end = ends_shape p c (numbers (n ∷ [])) shape in
-      (end.0, end.1, (λ i. or_else (sole_within p end.0 c n end.2 sur i) (end_slip in_string (end.2 i))) ∙ rw sur refl)
+      (end.0, end.1, (λ i. option_or (sole_within p end.0 c n end.2 sur i) (end_slip in_string (end.2 i))) ∙ rw sur refl)
   slip_at_law in_string p c _ _ (first_surrogate {n} at sur h) = (awaits (n ∷ []), reach_before (n ∷ []) p at, rw (h, sur) refl)
   slip_at_law in_string _ c _ _ (later_surrogate {n} {ns} {before} {five = w} at six' sur) =
       (number (n ∷ ns) 1 w before, reach_in_word (n ∷ ns) before w 1 at (five w c six'), rw (six'.sixth, not_above (value (w ++ c ∷ [])) sur, sur) refl)

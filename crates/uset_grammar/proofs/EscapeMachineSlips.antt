@@ -2,6 +2,7 @@
 use Rattle.std.proofs.Common.{◌≡◌, ℕ, zero, suc, ◌+◌, Bool, true, false, cond, List, [], ◌∷◌, ◌++◌, length, Some, None, refl, sym, ap, ◌∙◌, subst, inl, inr, append_assoc, arith}
 use mathlib.Core.Logic.{◌⊎◌}
 use Rattle.std.specs.Prelude.{◌==◌, if◌then◌else◌}
+use Rattle.std.specs.Option.{option_or}
 use Rattle.std.specs.List.{list_all}
 use Rattle.std.proofs.lemmas.Bool.{eqb-true}
 use Rattle.uset_grammar.specs.Text.{Text}
@@ -10,10 +11,6 @@ use Rattle.uset_grammar.specs.Escape.{Apart, is_hex, value, Spelled, named, itse
 use Rattle.uset_grammar.specs.EscapeSlips.{Around, in_string, in_bracket, BeforeNumber, first, further}
 use Rattle.uset_grammar.proofs.UnitMachine.{Next, goes, whole, refuses, Slip, reach, free, holds_at}
 use Rattle.uset_grammar.proofs.EscapeMachine.{State, start, letters, brace_or, zero_first, zero_second, fixed, awaits, number, at_letter, next_fixed, next_digit, close_or, next, Sort, digit, brace, white, stray, sort, Digits, one_digit, more_digits, digits_number, length_snoc, all_snoc}
-
-abbrev pub or_else : Slip → Slip → Slip
-or_else (Some x) y = Some x
-or_else None y = y
 
 abbrev pub letter_slip : Text → Letter → Slip
 letter_slip p four = None
@@ -70,7 +67,7 @@ end_slip in_string (whole (numbers (n ∷ m ∷ ns))) = None
 
 module _ (white_space : ℕ → Bool) (a : Around) where
   abbrev pub slip : Text → State → ℕ → Slip
-  slip p s c = or_else (within a p s c) (end_slip a (next white_space p s c))
+  slip p s c = option_or (within a p s c) (end_slip a (next white_space p s c))
 
   -- what a text is behind which a state is reached
   abbrev pub At : State → Text → Type 0

@@ -1,6 +1,7 @@
 -- What begins as an escape has one outcome.
 use Rattle.std.proofs.Common.{◌≡◌, ◌<◌, ◌≤◌, ℕ, zero, suc, ◌+◌, ◌*◌, ◌^◌, Bool, true, false, ◌||◌, ◌&&◌, cond, List, [], ◌∷◌, ◌++◌, length, Option, Some, None, refl, sym, ap, ◌∙◌, subst, inl, inr, append_assoc, arith}
 use Rattle.std.specs.Prelude.{◌==◌, nat_le}
+use Rattle.std.specs.Option.{option_or}
 use Rattle.std.specs.List.{list_all}
 use Rattle.std.proofs.lemmas.Bool.{cases_Bool, and_parts, and_right}
 use Rattle.std.proofs.lemmas.Bool.Decides.{nat_tests}
@@ -14,7 +15,7 @@ use Rattle.uset_grammar.proofs.Binding.{bound}
 use Rattle.uset_grammar.proofs.UnitMachine.{Next, goes, whole, refuses, Slip, turn, Halts, run, reach, Stopped, free, run_on, Keeps, read_fits}
 use Rattle.uset_grammar.proofs.EscapeMachine.{State, start, letters, brace_or, zero_first, zero_second, fixed, awaits, number, at_letter, next_fixed, next_digit, close_or, next, read_whole, Sort, digit, brace, white, stray, sort, Digits, one_digit, more_digits, shape_is_read, braces_read, inner, finish, length_snoc, all_snoc}
 use Rattle.uset_grammar.proofs.UnitMachineOutcome.{Describes, answered}
-use Rattle.uset_grammar.proofs.EscapeMachineSlips.{or_else, letter_slip, second, later, sixth, shorter, fixed_slip, within, end_slip, slip}
+use Rattle.uset_grammar.proofs.EscapeMachineSlips.{letter_slip, second, later, sixth, shorter, fixed_slip, within, end_slip, slip}
 use Rattle.uset_grammar.proofs.EscapeMachineMeaning.{read_got, at_slip_law, slip_at_law, not_above}
 
 zeros : ℕ → Text
@@ -165,9 +166,9 @@ close_fits a [] f e = tt
 close_fits a (n ∷ []) f e = one_fits a n f e
 close_fits a (n ∷ m ∷ ns) f e = f
 
-pub or_else_none : (x y : Slip) → or_else x y ≡ None → (x ≡ None) × (y ≡ None)
-or_else_none (Some z) y h = absurd (let e = h in cc)
-or_else_none None y h = (refl, h)
+pub option_or-none : (x y : Slip) → option_or x y ≡ None → (x ≡ None) × (y ≡ None)
+option_or-none (Some z) y h = absurd (let e = h in cc)
+option_or-none None y h = (refl, h)
 
 later_last : (a : Around) (ns : List ℕ) (b : Text) (v : ℕ) → is_above v ≡ false → later a ns b v ≡ None → Last a a ns v
 later_last (in_bracket both) ns b v h e = h
@@ -262,7 +263,7 @@ module _ (white_space : ℕ → Bool) (apart : Apart white_space) (a : Around) w
   -- what is read without a slip is allowed
   pub read_allowed : (p t : Text) (s : State) (v : Spelled) (r : Text) → Fine a s → run (next white_space) (slip white_space a) p s t ≡ got v r → allowed a v ≡ true
   read_allowed = read_fits (next white_space) (slip white_space a) (Fine a) (λ v. allowed a v ≡ true)
-      (λ p s c f e. let n = or_else_none (within a p s c) (end_slip a (next white_space p s c)) e in good p s c f n.0 n.1)
+      (λ p s c f e. let n = option_or-none (within a p s c) (end_slip a (next white_space p s c)) e in good p s c f n.0 n.1)
 
 -- WHAT IS ALLOWED HAS NO SLIP
 not_among : (test : ℕ → Bool) (ns ms : List ℕ) (v : ℕ) → test v ≡ false → list_all test (ns ++ v ∷ ms) ≡ false
@@ -434,7 +435,7 @@ module _ (white_space : ℕ → Bool) (apart : Apart white_space) where
   lost_within a p (awaits ns) c x e t r v read ok = let is = cond_some a (is_hex c) (second a ns) x e in lost_awaits a p ns c x is.0 is.1 t r v read ok
   lost_within a p (number ns m w b) c x e t r v read ok = lost_number a p ns m w b c x (is_hex c) refl e t r v read ok
 
-  pub lost_by : (a : Around) (p : Text) (s : State) (c : ℕ) (y : Kind × Text) (x : Slip) → within a p s c ≡ x → or_else x (end_slip a (next white_space p s c)) ≡ Some y → Lost a p s c
+  pub lost_by : (a : Around) (p : Text) (s : State) (c : ℕ) (y : Kind × Text) (x : Slip) → within a p s c ≡ x → option_or x (end_slip a (next white_space p s c)) ≡ Some y → Lost a p s c
   lost_by a p s c y (Some x) ex e = lost_within a p s c x ex
   lost_by a p s c y None ex e = lost_end a p s c (next white_space p s c) y refl e
 

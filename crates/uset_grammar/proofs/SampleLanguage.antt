@@ -106,4 +106,4 @@ unfolding is_hex
 spaces_are_no_digits = (refl, (refl, (refl, (refl, (refl, (refl, (refl, (refl, (refl, (refl, refl))))))))))
 
 pub lawful : Lawful sample
-lawful = record { apart = record { no_digit = λ c e. no_digit_among spaces spaces_are_no_digits c e; no_brace = refl; no_backslash = refl }; a_letter = refl }
+lawful = record { no_digit = λ c e. no_digit_among spaces spaces_are_no_digits c e; no_brace = refl; no_backslash = refl }

@@ -233,7 +233,7 @@ module _ (white_space : ℕ → Bool) (apart : Apart white_space) where
   good p start c f x = good_start (c == 0x7B)
   good p (pieces ps) c f x = good_pieces p c ps (c == 0x7D) (white_space c) (c == 0x5C) f
   good p (inside ps b q e) c f x =
-      let none = L.or_else_none (S.within in_string q e c) (S.end_slip in_string (E.next white_space q e c)) (behind_none b (S.slip white_space in_string q e c) x) in
+      let none = L.option_or-none (S.within in_string q e c) (S.end_slip in_string (E.next white_space q e c)) (behind_none b (S.slip white_space in_string q e c) x) in
       good_lift ps b (q ++ c ∷ []) (E.next white_space q e c) f.0 (L.good white_space apart in_string q e c f.1 none.0 none.1)
 
   -- WHAT HAS CHARACTERS ALONE HAS NO SLIP

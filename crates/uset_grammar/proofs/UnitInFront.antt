@@ -6,6 +6,7 @@ use Rattle.uset_grammar.specs.Text.{Text, behind_code}
 use Rattle.uset_grammar.specs.Outcome.{Kind, Outcome, got, faulty, ended, HasOutcome}
 use Rattle.uset_grammar.specs.Property.{Query, PropertyBegins, PropertyRead, PropertyShape, PropertySlips}
 use Rattle.uset_grammar.specs.Unit.{Meaning, UnitBegins, brace_begins, posix_begins, backslash_begins, UnitShape, UnitSlips, UnitRead}
+use Rattle.uset_grammar.proofs.EscapeMachine.{letter_apart}
 use Rattle.uset_grammar.proofs.UnitOutcome.{one_unit_law}
 use Rattle.uset_grammar.proofs.PropertyOutcome.{one_property_law}
 use Rattle.uset_grammar.specs.Language.{Language, Lawful, resolves, lacks}
@@ -106,10 +107,10 @@ module _ (l : Language) where
 
   module _ (lawful : Lawful l) where
     the_unit : (both : Bool) (q : Text) → UnitBegins q → (o : Outcome Meaning) × UnitAnswer both q o
-    the_unit both q b = one_unit_law l.white_space lawful.apart lawful.a_letter both (resolves l) (lacks l) q q b
+    the_unit both q b = one_unit_law l.white_space lawful both (resolves l) (lacks l) q q b
 
     the_property : (q : Text) → PropertyBegins q → (o : Outcome Query) × PropertyAnswer q o
-    the_property q b = one_property_law l.white_space lawful.a_letter (resolves l) (lacks l) q b.0 b.1
+    the_property q b = one_property_law l.white_space (letter_apart l.white_space lawful) (resolves l) (lacks l) q b.0 b.1
 
     unit_by : Bool → (q : Text) (f : Front) (x : Bool) → front l q ≡ f → is_short q ≡ x → Outcome Meaning
     unit_by both q begins_unit false f long = (the_unit both q (unit_begins q f long)).0

@@ -2,6 +2,7 @@
 use Rattle.std.proofs.Common.{◌≡◌, ◌≢◌, ◌↔◌, arith, ℕ, Bool, true, false, ◌||◌, cond, length, List, [], ◌∷◌, ◌++◌, Option, Some, None, refl, sym, ap, ◌∙◌, subst, inl, inr, append_assoc, append-nil}
 use mathlib.Core.Logic.{◌⊎◌}
 use Rattle.std.specs.Prelude.{◌==◌}
+use Rattle.std.specs.Option.{option_or}
 use Rattle.std.proofs.lemmas.Bool.{eqb-true}
 use Rattle.uset_grammar.specs.Text.{Text, ◌>>=◌, behind_code}
 use Rattle.uset_grammar.specs.Outcome.{Kind, Outcome, got, faulty, ended, Enough, Begins, NoSlip, Sound, FailsAt, slips, unfit, Faulty, HasOutcome, meaning}
@@ -12,7 +13,8 @@ use Rattle.uset_grammar.specs.Property.{Query, PropertyShape, PropertySlips, Pro
 use Rattle.uset_grammar.specs.Laws.{KindsTell}
 use Rattle.uset_grammar.proofs.UnitMachine.{goes, refuses, onward, reach, free}
 use Rattle.uset_grammar.proofs.EscapeMachine as E
-use Rattle.uset_grammar.proofs.EscapeMachineSlips.{or_else, letter_slip, slip, letter_name}
+use Rattle.uset_grammar.proofs.EscapeMachine.{letter_apart}
+use Rattle.uset_grammar.proofs.EscapeMachineSlips.{letter_slip, slip, letter_name}
 use Rattle.uset_grammar.proofs.EscapeMachineMeaning.{slip_at_law, SlipsHere}
 use Rattle.uset_grammar.proofs.EscapeOutcome.{one_escape_law}
 use Rattle.uset_grammar.proofs.StringOutcome.{one_string_law}
@@ -100,7 +102,7 @@ heads h = cc
 tails : {c d : ℕ} {t u : Text} → c ∷ t ≡ d ∷ u → t ≡ u
 tails h = cc
 
-module _ (white_space : ℕ → Bool) (apart : Apart white_space) (a_letter : white_space 0x61 ≡ false) (both : Bool) (resolves lacks : Query → Bool) where
+module _ (white_space : ℕ → Bool) (apart : Apart white_space) (both : Bool) (resolves lacks : Query → Bool) where
   abbrev Slips : Text → ℕ → Kind → Text → Type 0
   Slips = UnitSlips white_space both resolves lacks
 
@@ -181,7 +183,7 @@ module _ (white_space : ℕ → Bool) (apart : Apart white_space) (a_letter : wh
       second d u s' true e h =
           absurd (let g = ap (λ l. onward {V = Spelled} None (E.at_letter l d) (λ z. reach (E.next white_space) free (0x5C ∷ d ∷ []) z u)) (property_letter d e) in let n : None ≡ Some s' = sym g ∙ h in cc)
 
-      one : (l : Letter) → letter c ≡ l → or_else (letter_slip (0x5C ∷ []) l) None ≡ Some (k, b) → c ≡ 0x4E
+      one : (l : Letter) → letter c ≡ l → option_or (letter_slip (0x5C ∷ []) l) None ≡ Some (k, b) → c ≡ 0x4E
       one four e h = absurd (let f = h in cc)
       one two e h = absurd (let f = h in cc)
       one six e h = absurd (let f = h in cc)
@@ -315,11 +317,11 @@ module _ (white_space : ℕ → Bool) (apart : Apart white_space) (a_letter : wh
 
   a_property_begins : Begins (PropertyShape white_space) (0x5C ∷ [])
   unfolding is_key
-  a_property_begins = record { next = 0x70; more = 0x7B ∷ 0x61 ∷ 0x7D ∷ []; shape = (record { negated = false; key = 0x61 ∷ []; value = None }, rw a_letter refl) }
+  a_property_begins = record { next = 0x70; more = 0x7B ∷ 0x61 ∷ 0x7D ∷ []; shape = (record { negated = false; key = 0x61 ∷ []; value = None }, rw (letter_apart white_space apart) refl) }
 
   a_unit_begins : Begins (UnitShape white_space) (0x5C ∷ [])
   unfolding is_key
-  a_unit_begins = record { next = 0x70; more = 0x7B ∷ 0x61 ∷ 0x7D ∷ []; shape = property_shaped (record { negated = false; key = 0x61 ∷ []; value = None }, rw a_letter refl) }
+  a_unit_begins = record { next = 0x70; more = 0x7B ∷ 0x61 ∷ 0x7D ∷ []; shape = property_shaped (record { negated = false; key = 0x61 ∷ []; value = None }, rw (letter_apart white_space apart) refl) }
 
   -- ESCAPES
   escape_agrees : (d : ℕ) (t : Text) → begins_property d ≡ false → Agree (EscapeShape white_space) (UnitShape white_space) (EscapeSlips white_space (in_bracket both)) Slips (0x5C ∷ d ∷ t)
@@ -431,7 +433,7 @@ module _ (white_space : ℕ → Bool) (apart : Apart white_space) (a_letter : wh
   -- THE LAW
   backslash_unit : (d : ℕ) (t : Text) (b : Bool) → begins_property d ≡ b → (o : Outcome Meaning) × HasOutcome Read (UnitShape white_space) Slips (0x5C ∷ d ∷ t) o
   backslash_unit d t true is =
-      let a = one_property_law white_space a_letter resolves lacks (0x5C ∷ d ∷ t) (d ∷ t) (inr refl) in
+      let a = one_property_law white_space (letter_apart white_space apart) resolves lacks (0x5C ∷ d ∷ t) (d ∷ t) (inr refl) in
       (meaning a_property a.0, perl_unit d t a.0 is a.1)
   backslash_unit d t false is =
       let a = one_escape_law white_space apart (in_bracket both) (d ∷ t) in
@@ -440,7 +442,7 @@ module _ (white_space : ℕ → Bool) (apart : Apart white_space) (a_letter : wh
   pub one_unit_law : (q t : Text) → UnitBegins q → (o : Outcome Meaning) × HasOutcome Read (UnitShape white_space) Slips q o
   one_unit_law _ t (brace_begins {t = u}) = let a = one_string_law white_space apart u in (meaning a_string a.0, string_unit u a.0 a.1)
   one_unit_law _ t (posix_begins {t = u}) =
-      let a = one_property_law white_space a_letter resolves lacks (0x5B ∷ 0x3A ∷ u) u (inl refl) in
+      let a = one_property_law white_space (letter_apart white_space apart) resolves lacks (0x5B ∷ 0x3A ∷ u) u (inl refl) in
       (meaning a_property a.0, posix_unit (0x3A ∷ u) a.0 a.1)
   one_unit_law _ t (backslash_begins {d} {t = u}) = backslash_unit d u (begins_property d) refl
 
@@ -455,11 +457,11 @@ module _ (white_space : ℕ → Bool) (apart : Apart white_space) (a_letter : wh
 
   pub posix_unit_is : (t u : Text) → (one_unit_law (0x5B ∷ 0x3A ∷ t) u posix_begins).0 ≡ meaning a_property (PL.outcome white_space resolves lacks (0x5B ∷ 0x3A ∷ t))
   unfolding one_unit_law
-  posix_unit_is t u = ap (λ o. meaning a_property o) (PL.property_is white_space a_letter resolves lacks (0x5B ∷ 0x3A ∷ t) t (inl refl))
+  posix_unit_is t u = ap (λ o. meaning a_property o) (PL.property_is white_space (letter_apart white_space apart) resolves lacks (0x5B ∷ 0x3A ∷ t) t (inl refl))
 
   backslash_is : (d : ℕ) (t : Text) (b : Bool) (e : begins_property d ≡ b) → (backslash_unit d t b e).0 ≡ backslash_outcome b d t
   unfolding backslash_unit
-  backslash_is d t true e = ap (λ o. meaning a_property o) (PL.property_is white_space a_letter resolves lacks (0x5C ∷ d ∷ t) (d ∷ t) (inr refl))
+  backslash_is d t true e = ap (λ o. meaning a_property o) (PL.property_is white_space (letter_apart white_space apart) resolves lacks (0x5C ∷ d ∷ t) (d ∷ t) (inr refl))
   backslash_is d t false e = ap (λ o. meaning an_escape o) (EL.escape_is white_space apart (in_bracket both) (d ∷ t))
 
   pub backslash_unit_is : (d : ℕ) (t u : Text) → (one_unit_law (0x5C ∷ d ∷ t) u backslash_begins).0 ≡ backslash_outcome (begins_property d) d t
@@ -467,9 +469,9 @@ module _ (white_space : ℕ → Bool) (apart : Apart white_space) (a_letter : wh
   backslash_unit_is d t u = backslash_is d t (begins_property d) refl
 
 pub units_of_kinds : KindsTell
-units_of_kinds white_space apart a_letter both resolves lacks = record {
-  escapes = λ d t o is a. escape_unit white_space apart a_letter both resolves lacks d t o is a;
-  strings = λ t o a. string_unit white_space apart a_letter both resolves lacks t o a;
-  posix_properties = λ t o a. posix_unit white_space apart a_letter both resolves lacks t o a;
-  perl_properties = λ d t o is a. perl_unit white_space apart a_letter both resolves lacks d t o is a;
+units_of_kinds white_space apart both resolves lacks = record {
+  escapes = λ d t o is a. escape_unit white_space apart both resolves lacks d t o is a;
+  strings = λ t o a. string_unit white_space apart both resolves lacks t o a;
+  posix_properties = λ t o a. posix_unit white_space apart both resolves lacks t o a;
+  perl_properties = λ d t o is a. perl_unit white_space apart both resolves lacks d t o is a;
 }

@@ -21,7 +21,8 @@ pub record IsFinite (members : Member → Bool) : Type 0 where
   pub code_points : IsBounded (λ c. members (point c))
   pub texts : List Text
   pub are_strings : All IsString texts
-  pub only : (bytes : List ℕ) → members (string bytes) ≡ true → list_any (λ t. bytes_eq (encode_utf8_all t) bytes) texts ≡ true
+  pub only : (bytes : List ℕ) → members (string bytes) ≡ true →
+      list_any (λ t. bytes_eq (encode_utf8_all t) bytes) texts ≡ true
 
 -- a string is no single character, and a set is finite
 abbrev pub IsFiniteValue : Value → Type 0

@@ -1,7 +1,6 @@
 -- What a pattern is read by: the three tables of the syntax (UAX 31), the variables (UTS 35, Unicode Sets), and what
 -- the properties resolve to (UAX 44, 5.9).
-use Rattle.std.specs.Prelude.{◌≡◌, ℕ, Bool, true, false, [], ◌∷◌, Option, Some, None, is_some}
-use Prim.Native.Char.{code}
+use Rattle.std.specs.Prelude.{ℕ, Bool, true, false, [], ◌∷◌, Option, Some, None, is_some}
 use Rattle.cp_invlist.specs.InversionList.{differ}
 use Rattle.uset_grammar.specs.Text.{Text}
 use Rattle.uset_grammar.specs.Escape.{Apart, codes_of}
@@ -69,8 +68,6 @@ stands_for l (an_escape v) = chars (codes_of v)
 stands_for l (a_string ss) = text_item (text_of ss)
 stands_for l (a_property q) = nested (property_tree l q)
 
--- White space is no hexadecimal digit, no closing brace, no backslash and no `a`: below U+0021 alone it is ASCII (UAX
--- 31, R3a).
-pub record Lawful (l : Language) : Type 0 where
-  pub apart : Apart l.white_space
-  pub a_letter : l.white_space (code "a") ≡ false
+-- White space is no hexadecimal digit, no closing brace and no backslash: below U+0021 alone it is ASCII (UAX 31, R3a).
+abbrev pub Lawful : Language → Type 0
+Lawful l = Apart l.white_space

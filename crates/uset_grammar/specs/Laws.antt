@@ -52,7 +52,7 @@ OneProperty = (white_space : ℕ → Bool) → white_space (code "a") ≡ false 
 
 -- Every text that begins as a unit in a bracket has one outcome, whether an escape of several numbers fits or not.
 abbrev pub OneUnit : Type 0
-OneUnit = (white_space : ℕ → Bool) → Apart white_space → white_space (code "a") ≡ false →
+OneUnit = (white_space : ℕ → Bool) → Apart white_space →
     (both : Bool) (resolves lacks : Query → Bool) (q : Text) → UnitBegins q →
     (o : Outcome Meaning) × UnitOutcome white_space both resolves lacks q o
 
@@ -84,7 +84,7 @@ pub record UnitsOfKinds (white_space : ℕ → Bool) (both : Bool) (resolves lac
       UnitOutcome white_space both resolves lacks (code "\\" ∷ d ∷ t) (meaning a_property o)
 
 abbrev pub KindsTell : Type 0
-KindsTell = (white_space : ℕ → Bool) → Apart white_space → white_space (code "a") ≡ false →
+KindsTell = (white_space : ℕ → Bool) → Apart white_space →
     (both : Bool) (resolves lacks : Query → Bool) → UnitsOfKinds white_space both resolves lacks
 
 -- An escape that is read part by part has its outcome.
@@ -118,7 +118,8 @@ TurnsMean = (l : Language) (units : UnitReader l) (source : Text) (bs : List Ope
 
 -- What is read at a place that is reached is what the source denotes.
 abbrev pub ReadAtLast : Type 0
-ReadAtLast = (l : Language) (units : UnitReader l) (source : Text) (bs : List OpenBracket) (t : Text) (tree : Tree) (rest : Text) →
+ReadAtLast = (l : Language) (units : UnitReader l) (source : Text) (bs : List OpenBracket) (t : Text) (tree : Tree)
+    (rest : Text) →
     Reached l source bs t → Accepts l units source bs t tree rest → Reads l source tree rest
 
 -- A move goes on to a rest of the source.
@@ -137,7 +138,8 @@ pub record RestsAreBehind (l : Language) : Type 0 where
   pub names : (q n r : Text) → front l q ≡ of_name n r → IsBehind q r
   pub first_names : (t n r : Text) → first l t ≡ of_variable n r → IsBehind t r
   pub singles : (q r : Text) (i : Item) → front l q ≡ single i r → IsBehind q r
-  pub units : (both : Bool) (q r : Text) (m : Meaning) → UnitRead l.white_space both (resolves l) (lacks l) q m r → IsBehind q r
+  pub units : (both : Bool) (q r : Text) (m : Meaning) → UnitRead l.white_space both (resolves l) (lacks l) q m r →
+      IsBehind q r
 
 abbrev pub AllRestsAreBehind : Type 0
 AllRestsAreBehind = (l : Language) → RestsAreBehind l

@@ -26,4 +26,5 @@ with_piece_in more read (Some (Some s)) t = more (read ++ s ∷ []) t
 -- the pieces behind those that were read and the closing brace, at most so many
 abbrev pub pieces_in : (ℕ → Bool) → ℕ → List Spelled → Text → Outcome (List Spelled)
 pieces_in white_space zero read t = ended
-pieces_in white_space (suc most) read t = and_then (piece_in white_space t) (with_piece_in (pieces_in white_space most) read)
+pieces_in white_space (suc most) read t =
+    and_then (piece_in white_space t) (with_piece_in (pieces_in white_space most) read)

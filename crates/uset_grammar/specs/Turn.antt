@@ -83,7 +83,8 @@ module _ (l : Language) (units : UnitReader l) (source : Text) where
   judged b bs q s i r false = stops (refusal s q r (reversed_code i (fit (b.items ++ greatest ∷ []))))
 
   abbrev pub taken : OpenBracket → List OpenBracket → Text → Sort → Item → Text → Turn
-  taken b bs q s i r = if is_last_property s i r then stops (rejected eof None) else judged b bs q s i r (fit (b.items ++ i ∷ []))
+  taken b bs q s i r =
+      if is_last_property s i r then stops (rejected eof None) else judged b bs q s i r (fit (b.items ++ i ∷ []))
 
   abbrev pub named_turn : OpenBracket → List OpenBracket → Text → Text → Option Value → Turn
   named_turn b bs q r None = stops (rejected unknown_variable (Some (last_at r)))
@@ -141,9 +142,12 @@ module _ (l : Language) (units : UnitReader l) (source : Text) where
 
   -- what is read at last
   pub data Accepts : List OpenBracket → Text → Tree → Text → Type 0 where
-    variable_read : {t n r : Text} {members : Member → Bool} → first l t ≡ of_variable n r → l.variable n ≡ Some (set members) → Accepts [] t (given members) r
-    property_read : {t r : Text} {n : Query} → first l t ≡ of_property → PropertyRead l.white_space (resolves l) (lacks l) t n r → Accepts [] t (property_tree l n) r
-    bracket_read : {t r : Text} {b : OpenBracket} {steps : Steps} → front l (skip l.white_space t) ≡ closing r → Body b.items steps → Accepts (b ∷ []) t (tree_of b.header steps) r
+    variable_read : {t n r : Text} {members : Member → Bool} → first l t ≡ of_variable n r →
+        l.variable n ≡ Some (set members) → Accepts [] t (given members) r
+    property_read : {t r : Text} {n : Query} → first l t ≡ of_property →
+        PropertyRead l.white_space (resolves l) (lacks l) t n r → Accepts [] t (property_tree l n) r
+    bracket_read : {t r : Text} {b : OpenBracket} {steps : Steps} → front l (skip l.white_space t) ≡ closing r →
+        Body b.items steps → Accepts (b ∷ []) t (tree_of b.header steps) r
 
   abbrev pub Means : List OpenBracket → Text → Turn → Type 0
   Means bs t (goes cs u) = Moves l source bs t cs u

@@ -30,5 +30,8 @@ BracketsAreRead = (l : Language) → LeavesEscapes l.white_space → (rs : List 
 
 -- So it is under tables that a database may hold, those of the syntax among them, and all variables.
 abbrev pub BracketsAreReadUnder : Type 0
-BracketsAreReadUnder = (tables : Tables) → AreAllowed tables → (variable : Text → Option Value) (l : Language) → language_of variable tables ≡ Some l →
-    (rs : List CodePointRange) → All IsRange rs → (rest : Text) → IsReadBack l (chars (brackets_text rs)) (is_written rs []) rest
+BracketsAreReadUnder =
+    (tables : Tables) → AreAllowed tables → (variable : Text → Option Value) (l : Language) →
+    language_of variable tables ≡ Some l →
+    (rs : List CodePointRange) → All IsRange rs → (rest : Text) →
+    IsReadBack l (chars (brackets_text rs)) (is_written rs []) rest

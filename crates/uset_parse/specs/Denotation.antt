@@ -14,5 +14,7 @@ pub record IsKept (set : StringSet) : Type 0 where
 
 -- Two sources, each in its language, of which sets were read: where what they denote has the same members, the sets are one value.
 abbrev pub EqualDenotations : Type 0
-EqualDenotations = (l k : Option Language) (source other : List ℕ) (set again : StringSet) (n o : ℕ) → IsKept set → IsKept again →
-    (first : IsRead l source set n) → (second : IsRead k other again o) → ((m : Member) → has first.tree m ≡ has second.tree m) → set ≡ again
+EqualDenotations = (l k : Option Language) (source other : List ℕ) (set again : StringSet) (n o : ℕ) → IsKept set →
+    IsKept again →
+    (first : IsRead l source set n) → (second : IsRead k other again o) →
+    ((m : Member) → has first.tree m ≡ has second.tree m) → set ≡ again

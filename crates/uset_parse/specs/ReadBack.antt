@@ -55,13 +55,15 @@ pub record IsStringSet (set : StringSet) : Type 0 where
 -- Ranges and strings that are written in escapes are read back, whatever follows them, in every language whose white space leaves
 -- escapes alone.
 abbrev pub EscapesAreRead : Type 0
-EscapesAreRead = (l : Language) → LeavesEscapes l.white_space → (rs : List CodePointRange) (ss : List (List ℕ)) → All IsRange rs → All IsLongText ss →
+EscapesAreRead = (l : Language) → LeavesEscapes l.white_space → (rs : List CodePointRange) (ss : List (List ℕ)) →
+    All IsRange rs → All IsLongText ss →
     (rest : Text) → IsReadBack l (chars (pattern_text rs ss)) (is_written rs ss) rest
 
 -- Under tables that a database may hold, those of the syntax among them, and all variables a set with strings that is written as a
 -- pattern is read back, whatever follows it.
 abbrev pub Inverse : Type 0
-Inverse = (tables : Tables) → AreAllowed tables → (variable : Text → Option Value) (l : Language) → language_of variable tables ≡ Some l →
+Inverse = (tables : Tables) → AreAllowed tables → (variable : Text → Option Value) (l : Language) →
+    language_of variable tables ≡ Some l →
     (set : StringSet) → IsStringSet set → (rs : List CodePointRange) → AreMaximalRanges (contains set.code_points) rs →
     (rest : Text) → IsReadBack l (chars (pattern_text rs set.strings)) (in_set set) rest
 

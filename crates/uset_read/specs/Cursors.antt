@@ -21,4 +21,5 @@ IsPlace offset cursor =
 -- the offset is the number of bytes of the text before the last character in front of what is left
 abbrev pub IsLastPlace : ℕ → Cursor → Type 0
 IsLastPlace offset cursor =
-    (before : Text) (last : ℕ) → chars (source_of cursor) ≡ before ++ last ∷ chars (left_of cursor) → offset ≡ size before
+    (before : Text) (last : ℕ) → chars (source_of cursor) ≡ before ++ last ∷ chars (left_of cursor) →
+    offset ≡ size before

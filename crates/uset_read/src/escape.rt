@@ -1,8 +1,6 @@
 //! Escapes.
-ghost use Rattle.std.specs.Prelude.{◌≡◌, ℕ, ◌<◌, ◌≤◌, ◌∷◌, [], false, true, length, max, IfOk, IfErr};
+ghost use Rattle.std.specs.Prelude.{◌≡◌, ◌<◌, ◌≤◌, ◌∷◌, false, true, length, max, IfOk, IfErr};
 ghost use Rattle.std.specs.Str.{chars};
-ghost use Rattle.uset_grammar.specs.Text.{Text};
-ghost use Rattle.uset_grammar.specs.Outcome.{got};
 ghost use Rattle.uset_grammar.specs.Escape.{is_hex, is_surrogate, plain};
 ghost use Rattle.uset_read.specs.Stops.{left_at, with_rest, Tells};
 ghost use Rattle.uset_read.specs.Spelled.{spelled_read, next_seen, behind_next, later_at, further_at, number_at, sole_at, all_at, number_behind_at, behind_white_at, next_at, braced_at, two_at, four_at, six_at, letters_at, EscapeIs, EscapeStops};

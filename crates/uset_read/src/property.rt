@@ -1,13 +1,12 @@
 //! Properties, up to their end mark and behind it.
-ghost use Rattle.std.specs.Prelude.{◌≡◌, ◌<◌, ◌≤◌, ◌∷◌, [], length, IfOk, IfErr};
+ghost use Rattle.std.specs.Prelude.{◌≡◌, ◌<◌, ◌≤◌, length, IfOk, IfErr};
 ghost use Rattle.std.specs.Str.{chars};
 ghost use Rattle.std.specs.String.{string_bytes};
 ghost use Rattle.cp_invlist.specs.InversionList.{contains};
 ghost use Rattle.uset_grammar.specs.Outcome.{got};
 ghost use Rattle.uset_grammar.specs.Property.{mark};
 ghost use Rattle.uset_read.specs.Stops.{left_at, with_rest, Tells};
-ghost use Rattle.uset_read.specs.Pieces.{Appended};
-ghost use Rattle.uset_grammar.specs.PropertyParts.{is_nothing, caret_in, posix_front_in, perl_front_in, front_in, key_part, close_in};
+ghost use Rattle.uset_grammar.specs.PropertyParts.{is_nothing, posix_front_in, perl_front_in, front_in, key_part, close_in};
 ghost use Rattle.uset_read.specs.Queries.{form_seen, key_part_seen, key_read, value_read, query_read, key_at, value_at, with_value_at, query_at, PropertyIs, PropertyStops};
 
 use crate::stop::{Kind, Stop};
@@ -30,9 +29,9 @@ pub enum Form {
 pub struct Query {
     /// Whether an odd number of the `^` behind `[:`, the `P` and the `≠` stands there.
     pub negated: bool,
-    /// The key, which isn't empty.
+    /// The key. That of a property which was read isn't empty.
     pub key: String,
-    /// The value behind `=` or `≠`, which isn't empty. `None` where the key stands alone.
+    /// The value behind `=` or `≠`, which isn't empty either. `None` where the key stands alone.
     pub value: Option<String>,
 }
 

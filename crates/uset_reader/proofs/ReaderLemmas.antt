@@ -42,7 +42,7 @@ use Rattle.uset_reader.specs.Readings.{IsReading, IsRefusal}
 use Rattle.uset_reader.proofs.TurnLemmas.{tells, tells_too, tells_nothing}
 
 pub lawful : (s : Syntax) → Lawful (language_seen s)
-lawful s = record { apart = s.apart; a_letter = s.letter }
+lawful s = s.apart
 
 -- the brackets that are open stand for ones that are reached
 pub record OpenAt (l : Language) (source left : List ℕ) (outer : List CodeBracket) (b : CodeBracket) : Type 0 where

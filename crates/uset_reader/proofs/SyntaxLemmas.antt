@@ -35,7 +35,7 @@ lawful_by tables allows variable (Some w) (Some s) None there l h = cc
 lawful_by tables allows variable (Some w) (Some s) (Some c) there l h =
     let is : language_by w s c variable tables ≡ l = cc in
     let allowed = allows 51 w there in
-    let lawful : Lawful (language_by w s c variable tables) = record { apart = allowed-apart w allowed; a_letter = allowed _ refl } in
+    let lawful : Lawful (language_by w s c variable tables) = allowed-apart w allowed in
     subst Lawful is lawful
 
 -- the language of tables that a database may hold is lawful

@@ -127,7 +127,7 @@ module _ (s : Syntax) (kinds : KindsTell) (several : Bool) (text : List ℕ) whe
   Outcomes = UnitOutcome l.white_space several (resolves l) (lacks l)
 
   abbrev units : UnitsOfKinds l.white_space several (resolves l) (lacks l)
-  units = kinds l.white_space s.apart s.letter several (resolves l) (lacks l)
+  units = kinds l.white_space s.apart several (resolves l) (lacks l)
 
   of_string : (inner : Text) → chars text ≡ 0x7B ∷ inner → (o : Outcome (List Spelled)) → StringOutcome l.white_space (chars text) o → Outcomes (chars text) (meaning a_string o)
   of_string inner e o h = subst (λ z. Outcomes z (meaning a_string o)) (sym e) (units.strings inner o (subst (λ z. StringOutcome l.white_space z o) e h))

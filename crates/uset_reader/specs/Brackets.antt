@@ -29,7 +29,8 @@ opening_seen o = record { negated = o.negated; leading = o.leading }
 
 -- the set is what the steps make of another, whatever steps follow
 abbrev pub Follows : Gathering → (Steps → Steps) → Gathering → Type 0
-Follows old steps new = (rest : Steps) (m : Member) → gathers (steps rest) m (gathering_in old m) ≡ gathers rest m (gathering_in new m)
+Follows old steps new =
+    (rest : Steps) (m : Member) → gathers (steps rest) m (gathering_in old m) ≡ gathers rest m (gathering_in new m)
 
 -- the same, and it fits each meaning of the names that the other fits, and keeps the same sets at their places
 pub record Becomes (old : Gathering) (steps : Steps → Steps) (new : Gathering) : Type 0 where
@@ -44,11 +45,13 @@ pub record BecomesWith (l : Language) (old : Gathering) (steps : Steps → Steps
 
 -- the set is what an item's own steps make of another, or an operation with an operand
 abbrev pub GathersItem : Operation → CodeItem → Gathering → Gathering → Type 0
-GathersItem operation item old new = (l : Language) (tree : Tree) → NamesFit (sets_of l) old → IsTreeOf l old item tree →
+GathersItem operation item old new =
+    (l : Language) (tree : Tree) → NamesFit (sets_of l) old → IsTreeOf l old item tree →
     BecomesWith l old (own_steps operation (item_seen tree item)) new
 
 abbrev pub GathersSet : Operation → Operand → Gathering → Gathering → Type 0
-GathersSet operation operand old new = (l : Language) (tree : Tree) → NamesFit (sets_of l) old → IsOperand l old operand tree →
+GathersSet operation operand old new =
+    (l : Language) (tree : Tree) → NamesFit (sets_of l) old → IsOperand l old operand tree →
     BecomesWith l old (operated operation tree) new
 
 -- What the code keeps of an open bracket: what it begins with and where, what is awaited behind its items, and what
@@ -101,7 +104,9 @@ Became l old Unfit new o i = Refused o i None
 
 -- what became of the item, for every bracket that the code's stands for
 abbrev pub Takes : CodeBracket → CodeItem → Taken → CodeBracket → Type 0
-Takes old item taken new = (l : Language) (o : OpenBracket) (i : Item) → Stands l old o → IsItem l old.gathered item i → Became l old taken new o i
+Takes old item taken new =
+    (l : Language) (o : OpenBracket) (i : Item) → Stands l old o → IsItem l old.gathered item i →
+    Became l old taken new o i
 
 -- a bracket without items that begins so
 abbrev pub IsBegun : CodeOpening → ℕ → CodeBracket → Type 0
@@ -110,7 +115,8 @@ IsBegun opening place b = (l : Language) (before : Text) → place ≡ size befo
 -- whether a `]` fits, and what is gathered then
 abbrev pub EndedAs : Option Steps → Gathering → Gathering → Bool → Type 0
 EndedAs None old new ends = ends ≡ false
-EndedAs (Some last) old new ends = (ends ≡ true) × ((m : Member) → gathers last m (gathering_in old m) ≡ gathering_in new m)
+EndedAs (Some last) old new ends =
+    (ends ≡ true) × ((m : Member) → gathers last m (gathering_in old m) ≡ gathering_in new m)
 
 -- the set is that of the bracket, whose items are arranged to these steps
 pub record Closed (o : OpenBracket) (set : Gathered) : Type 0 where

@@ -26,6 +26,7 @@ IsBefore cursor rest offset =
 abbrev pub IsStop : Cursor → Stop → ParseError → Type 0
 IsStop cursor (Fault kind rest) error =
     (kind_told (kind_of error) ≡ Some (kind_seen kind))
-    × ((before : Text) → chars (source_of cursor) ≡ before ++ chars rest.now → offset_in error ≡ offset_of (kind_seen kind) (Some before))
+    × ((before : Text) → chars (source_of cursor) ≡ before ++ chars rest.now →
+    offset_in error ≡ offset_of (kind_seen kind) (Some before))
 IsStop cursor Ended error = (kind_told (kind_of error) ≡ Some eof) × (offset_in error ≡ None)
 IsStop cursor OutOfMemory error = (kind_told (kind_of error) ≡ None) × (offset_in error ≡ None)

@@ -40,7 +40,8 @@ abbrev pub IsBehindFront : CodeFront → List ℕ → Type 0
 IsBehindFront Nothing text = Unit {0}
 IsBehindFront (Closing rest) text = length rest.now < length text
 IsBehindFront (Opening o inner) text = length inner.now < length text
-IsBehindFront (Single item rest) text = IsProper item × ((l : Language) (g : Gathering) → IsTreeOf l g item no_tree) × length rest.now < length text
+IsBehindFront (Single item rest) text =
+    IsProper item × ((l : Language) (g : Gathering) → IsTreeOf l g item no_tree) × length rest.now < length text
 IsBehindFront (Name name rest) text = length rest.now < length text
 IsBehindFront BeginsUnit text = Unit {0}
 IsBehindFront Caret text = Unit {0}
@@ -56,4 +57,5 @@ IsBehindFirst Property text = Unit {0}
 -- what a bracket begins with, behind its `[`, and what stands behind that; or a unit begins there
 abbrev pub IsOpening : Language → Text → Option (CodeOpening × Bor (List ℕ)) → Type 0
 IsOpening l t result =
-    MatchOption result (bracket_or_unit l t ≡ begins_unit) (λ p. bracket_or_unit l t ≡ opening (opening_seen p.0) (chars p.1.now))
+    MatchOption result (bracket_or_unit l t ≡ begins_unit)
+    (λ p. bracket_or_unit l t ≡ opening (opening_seen p.0) (chars p.1.now))

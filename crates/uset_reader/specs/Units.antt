@@ -54,7 +54,8 @@ OperandInFitting l g text operand rest = NamesFit (sets_of l) g → OperandIn l 
 -- the property there stops so
 abbrev pub OperandStops : Language → List ℕ → Stop → Type 0
 OperandStops l text stop =
-    PropertyBegins (chars text) → StopsAt (PropertyOutcome l.white_space (resolves l) (lacks l) (chars text)) (chars text) stop
+    PropertyBegins (chars text) →
+    StopsAt (PropertyOutcome l.white_space (resolves l) (lacks l) (chars text)) (chars text) stop
 
 -- the same in a bracket, whose names stand for the sets that it keeps
 abbrev pub OperandStopsIn : Language → Gathering → List ℕ → Stop → Type 0
@@ -62,11 +63,13 @@ OperandStopsIn l g text stop = NamesFit (sets_of l) g → OperandStops l text st
 
 -- every property that asks this in front of its mark is this one, up to this rest
 abbrev pub NamedBehind : Syntax → Form → CodeQuery → List ℕ → Named → List ℕ → Type 0
-NamedBehind s form query mark named rest = (text : List ℕ) → PropertyIs s.white_space.now text form query mark → OperandIs (language_seen s) text named rest
+NamedBehind s form query mark named rest =
+    (text : List ℕ) → PropertyIs s.white_space.now text form query mark → OperandIs (language_seen s) text named rest
 
 -- every property that asks this in front of its mark stops so
 abbrev pub StopsBehind : Syntax → Form → CodeQuery → List ℕ → Stop → Type 0
-StopsBehind s form query mark stop = (text : List ℕ) → PropertyIs s.white_space.now text form query mark → OperandStops (language_seen s) text stop
+StopsBehind s form query mark stop =
+    (text : List ℕ) → PropertyIs s.white_space.now text form query mark → OperandStops (language_seen s) text stop
 
 -- the unit at the front of the bytes is this item
 pub record IsReadUnit (l : Language) (g : Gathering) (several : Bool) (text : List ℕ) (item : CodeItem) (rest : List ℕ) : Type 0 where

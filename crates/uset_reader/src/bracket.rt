@@ -63,7 +63,7 @@ pub(crate) enum Taken {
 }
 
 impl<'a> OpenBracket<'a> {
-    ghost use Rattle.std.specs.Prelude.{◌≡◌, ◌≤◌, ◌∷◌, [], All, IfOk, IfSome, OnOk};
+    ghost use Rattle.std.specs.Prelude.{◌≡◌, ◌≤◌, ◌∷◌, All, IfOk, IfSome, OnOk};
     ghost use Rattle.uset_grammar.specs.Tree.{Tree, add};
     ghost use Rattle.uset_grammar.specs.Body.{add_each};
     ghost use Rattle.uset_grammar.specs.Arranging.{went, next, ending};

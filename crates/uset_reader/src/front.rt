@@ -2,7 +2,7 @@
 ghost use Rattle.std.specs.Prelude.{◌≡◌, ◌≤◌, ◌<◌, length, IfSome};
 ghost use Rattle.std.specs.Str.{chars};
 ghost use Rattle.uset_grammar.specs.Text.{optional_code};
-ghost use Rattle.uset_grammar.specs.Front.{front, first, header};
+ghost use Rattle.uset_grammar.specs.Front.{front, first};
 ghost use Rattle.uset_grammar.specs.Reached.{is_short};
 ghost use Rattle.uset_reader.specs.Syntaxes.{language_seen};
 ghost use Rattle.uset_reader.specs.Fronts.{front_seen, first_seen, IsBehindFront, IsBehindFirst, IsOpening};

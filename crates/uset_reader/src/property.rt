@@ -1,5 +1,5 @@
 //! Properties that are read and resolved (UTS 18, 1.2; UAX 44, 5.9).
-ghost use Rattle.std.specs.Prelude.{◌≡◌, ◌≤◌, ◌<◌, length, IfOk, IfErr};
+ghost use Rattle.std.specs.Prelude.{◌≤◌, ◌<◌, length, IfOk, IfErr};
 ghost use Rattle.prop_data.specs.Database.{tables_of};
 ghost use Rattle.uset_read.specs.Queries.{query_seen};
 ghost use Rattle.uset_read.specs.Stops.{left_at};

@@ -12,7 +12,6 @@ use crate::front::{First, look_at_first};
 use crate::property::read_named;
 use crate::syntax::Syntax;
 use crate::turn::{Progress, turn};
-use cp_invlist::NoMemory;
 use std::alloc::Global;
 use uset_fault::{ParseError, ParseErrorKind};
 use uset_gather::Gathered;

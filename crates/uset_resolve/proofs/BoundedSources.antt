@@ -1,4 +1,5 @@
 -- The sources that properties resolve to end.
+use Rattle.std.specs.Option.{option_or}
 use Rattle.std.proofs.Common.{◌≡◌, ℕ, Bool, false, ◌&&◌, ◌==◌, List, Option, Some, None, refl, ap, subst, arith}
 use Rattle.std.proofs.lemmas.Bool.Decides.{nat_tests}
 use Rattle.cp_invlist.specs.InversionList.{is_code_point}
@@ -8,7 +9,7 @@ use Rattle.uset_grammar.specs.Text.{◌>>=◌}
 use Rattle.uset_grammar.specs.Finite.{IsBounded}
 use Rattle.uset_grammar.specs.Language.{Resolved}
 use Rattle.uset_resolve.specs.Keys.{Asked, categories, extensions, values, key_of, falsy}
-use Rattle.uset_resolve.specs.Resolution.{Source, in_group, with_extension, or_else, loosely, of_number, of_group, of_script, of_extension, of_binary, number_of_value, of_key, of_value, resolved, with_value, resolve_bytes}
+use Rattle.uset_resolve.specs.Resolution.{Source, in_group, with_extension, loosely, of_number, of_group, of_script, of_extension, of_binary, number_of_value, of_key, of_value, resolved, with_value, resolve_bytes}
 
 -- code points that pass a test are code points
 points_end : (test : ℕ → Bool) → IsBounded (λ c. is_code_point c && test c)
@@ -31,7 +32,7 @@ then_ends : {A : Type 0} (o : Option A) (f : A → Option Source) → ((a : A) �
 then_ends None f ends = nothing_ends
 then_ends (Some a) f ends = ends a
 
-else_ends : (a b : Option Source) → Ends a → Ends b → Ends (or_else a b)
+else_ends : (a b : Option Source) → Ends a → Ends b → Ends (option_or a b)
 else_ends None b first second = second
 else_ends (Some s) b first second = first
 

@@ -1,6 +1,7 @@
 -- What the key and the value of a property resolve to, step by step (UTS 18, 1.2; UAX 44, 5.9; ECMA-262, binary Unicode
 -- properties). A table that is absent gives nothing. Keys, values and names are told by their bytes.
 use Rattle.std.specs.Prelude.{ℕ, Bool, false, ◌&&◌, ◌||◌, ◌==◌, List, encode_utf8_all, Option, Some, None, is_some, is_none, option_map, if◌then◌else◌}
+use Rattle.std.specs.Option.{option_or}
 use Rattle.cp_invlist.specs.InversionList.{is_code_point}
 use Rattle.prop_binary.specs.Ecma262.{ecma262_number}
 use Rattle.prop_names.specs.Names.{loose}
@@ -41,11 +42,6 @@ with_extension lists map script c = is_code_point c && is_among (extensions_of_n
 
 -- The steps.
 
--- the first, where it is something, and else the second
-abbrev pub or_else : {A : Type 0} → Option A → Option A → Option A
-or_else None second = second
-or_else (Some a) second = Some a
-
 -- the number of the value with this name in a table of names, loosely
 abbrev pub loosely : Tables → ℕ → List ℕ → Option ℕ
 loosely tables t name = tables.names t >>= λ names. loose names name
@@ -64,7 +60,9 @@ of_script tables name = of_number tables 4 (loosely tables 4 name)
 
 -- the code points with a script among their extensions
 abbrev pub of_extension : Tables → List ℕ → Option Source
-of_extension tables name = loosely tables 4 name >>= λ script. tables.scripts >>= λ scripts. Some (with_extension tables.extensions scripts.values script)
+of_extension tables name =
+    loosely tables 4 name >>= λ script. tables.scripts >>= λ scripts.
+    Some (with_extension tables.extensions scripts.values script)
 
 -- the set of the binary property with this name in ECMA-262, byte for byte
 abbrev pub of_binary : Tables → List ℕ → Option Source
@@ -77,11 +75,11 @@ written t value = if t == 11 then decimal 255 value else if t == 1 then decimal 
 
 -- the number of a value: that of its name, or the one that it writes, where the table of names is there
 abbrev pub number_of_value : Tables → ℕ → List ℕ → Option ℕ
-number_of_value tables t value = tables.names t >>= λ names. or_else (loose names value) (written t value)
+number_of_value tables t value = tables.names t >>= λ names. option_or (loose names value) (written t value)
 
 -- Without a value, a key names a group of categories, a script or a binary property.
 abbrev pub of_key : Tables → List ℕ → Option Source
-of_key tables key = or_else (of_group tables key) (or_else (of_script tables key) (of_binary tables key))
+of_key tables key = option_or (of_group tables key) (option_or (of_script tables key) (of_binary tables key))
 
 -- the code points of the value behind a key
 abbrev pub of_value : Tables → Asked → List ℕ → Option Source
@@ -107,7 +105,8 @@ resolve_bytes tables key (Some value) = with_value tables key value (key_of key)
 
 -- The names of blocks are absent, or a block was found and the map of blocks is absent.
 abbrev pub lacks_block : Tables → List ℕ → Bool
-lacks_block tables value = is_none (tables.names 1) || (is_some (number_of_value tables 1 value) && is_none (tables.maps 1))
+lacks_block tables value =
+    is_none (tables.names 1) || (is_some (number_of_value tables 1 value) && is_none (tables.maps 1))
 
 abbrev pub lacks_for : Tables → List ℕ → Option Asked → Bool
 lacks_for tables value None = false

@@ -1,7 +1,7 @@
 //! Whole runs of the program in memory.
 #![tactic(auto)]
 
-ghost use Rattle.std.specs.Prelude.{◌≡◌, ◌≢◌, [], map};
+ghost use Rattle.std.specs.Prelude.{◌≢◌, [], map};
 ghost use Rattle.std.specs.String.{string_bytes};
 ghost use Rattle.uset_tool.specs.Run.{Answers, IsWritten};
 

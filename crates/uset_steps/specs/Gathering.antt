@@ -81,5 +81,7 @@ StandsForSome g name = (sets : Sets) → Fits sets g → is_some (sets name) ≡
 
 -- The set that is kept at the place was gathered, which is the one that its name stands for.
 abbrev pub GathersKept : Operation → Place → Gathering → Gathering → Type 0
-GathersKept operation place old new = (sets : Sets) (name : Name) (set : Member → Bool) → Fits sets old → IsPlaceOf old name place → StandsFor sets name set →
+GathersKept operation place old new =
+    (sets : Sets) (name : Name) (set : Member → Bool) → Fits sets old → IsPlaceOf old name place →
+    StandsFor sets name set →
     BecomesWith sets new (λ m. operated operation (set m) (gathering_in old m))

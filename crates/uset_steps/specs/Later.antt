@@ -15,11 +15,13 @@ later_done later m b = steps_done later.sets.items later.steps.items m b
 
 -- the set that is kept at the place is the one that the name stands for
 abbrev pub IsKeptAt : Sets → List NamedSet → Name → ℕ → Type 0
-IsKeptAt sets kept name place = (set : NamedSet) × (slice_get kept place ≡ Some set) × StandsFor sets name (named_in set)
+IsKeptAt sets kept name place =
+    (set : NamedSet) × (slice_get kept place ≡ Some set) × StandsFor sets name (named_in set)
 
 -- Each set that is kept is the one that its name stands for.
 abbrev pub KeptFit : Sets → Later → Type 0
-KeptFit sets later = (name : Name) (place : ℕ) → IsPlaceIn later.places name place → IsKeptAt sets later.sets.items name place
+KeptFit sets later =
+    (name : Name) (place : ℕ) → IsPlaceIn later.places name place → IsKeptAt sets later.sets.items name place
 
 -- the same, and the steps name no set but those that are kept
 pub record LaterFits (sets : Sets) (later : Later) : Type 0 where
@@ -44,9 +46,11 @@ pub record Gathers (sets : Sets) (operation : Operation) (set : Member → Bool)
 
 -- the named set was gathered last, where its name and those of the sets that were kept stand for them
 abbrev pub GathersNamed : Operation → Named → Later → Later → Type 0
-GathersNamed operation named old new = (sets : Sets) → LaterFits sets old → IsSetOf sets named → Gathers sets operation (named_in named.set) old new
+GathersNamed operation named old new =
+    (sets : Sets) → LaterFits sets old → IsSetOf sets named → Gathers sets operation (named_in named.set) old new
 
 -- the same of the set that is kept at a place
 abbrev pub GathersAgain : Operation → ℕ → Later → Later → Type 0
-GathersAgain operation place old new = (sets : Sets) (name : Name) (set : Member → Bool) → LaterFits sets old → IsPlaceIn old.places name place →
+GathersAgain operation place old new =
+    (sets : Sets) (name : Name) (set : Member → Bool) → LaterFits sets old → IsPlaceIn old.places name place →
     StandsFor sets name set → Gathers sets operation set old new

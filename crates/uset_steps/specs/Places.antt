@@ -15,7 +15,8 @@ query_cmp = (query_order.ghosts).cmp
 -- the set with this name is kept at this place
 abbrev pub IsPlaceIn : Places → Name → ℕ → Type 0
 IsPlaceIn places (variable name) place = get_by_text places.variables name ≡ Some place
-IsPlaceIn places (property query) place = (asked : Query) × (query_seen asked ≡ query) × (get query_cmp places.properties asked ≡ Some place)
+IsPlaceIn places (property query) place =
+    (asked : Query) × (query_seen asked ≡ query) × (get query_cmp places.properties asked ≡ Some place)
 
 abbrev pub HasPlace : Places → Name → Type 0
 HasPlace places name = (place : ℕ) × IsPlaceIn places name place
@@ -26,4 +27,5 @@ HasNoPlace places name = (place : ℕ) → IsPlaceIn places name place → ⊥
 -- the name has this place, and each other name has one only where it had it before
 pub record Adds (name : Name) (place : ℕ) (old new : Places) : Type 0 where
   pub placed : IsPlaceIn new name place
-  pub others : (other : Name) (at : ℕ) → IsPlaceIn new other at → IsPlaceIn old other at ⊎ ((other ≡ name) × (at ≡ place))
+  pub others : (other : Name) (at : ℕ) → IsPlaceIn new other at →
+      IsPlaceIn old other at ⊎ ((other ≡ name) × (at ≡ place))

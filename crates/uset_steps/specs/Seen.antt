@@ -15,4 +15,6 @@ IsRepeated seen step = (outside : Bool) × (place : ℕ) × (is_about outside pl
 
 -- no more is marked than before, but for what the step is about
 abbrev pub MarksOnly : Seen → Step → Seen → Type 0
-MarksOnly old step new = (outside : Bool) (place : ℕ) → IsSeen new outside place → IsSeen old outside place ⊎ (is_about outside place step ≡ true)
+MarksOnly old step new =
+    (outside : Bool) (place : ℕ) → IsSeen new outside place →
+    IsSeen old outside place ⊎ (is_about outside place step ≡ true)

@@ -36,7 +36,8 @@ steps_done sets (s ∷ ss) m b = steps_done sets ss m (step_done sets s m b)
 
 -- both lists of steps make the same of every set, whatever sets are kept
 abbrev pub MakeSame : List Step → List Step → Type 0
-MakeSame ss others = (sets : List NamedSet) (m : Member) (b : Bool) → steps_done sets ss m b ≡ steps_done sets others m b
+MakeSame ss others =
+    (sets : List NamedSet) (m : Member) (b : Bool) → steps_done sets ss m b ≡ steps_done sets others m b
 
 -- the step names no set that is kept but one of so many
 abbrev pub IsWithin : ℕ → Step → Type 0

@@ -22,7 +22,7 @@ impl Drop for Places {
 }
 
 impl Places {
-    ghost use Rattle.std.specs.Prelude.{◌≡◌, ℕ, IfSome, IfNone, OnOk};
+    ghost use Rattle.std.specs.Prelude.{IfSome, IfNone, OnOk};
     ghost use Rattle.uset_read.specs.Queries.{query_seen};
     ghost use Rattle.uset_steps.specs.Names.{Name as SeenName, property, name_seen};
     ghost use Rattle.uset_steps.specs.Places.{IsPlaceIn, HasNoPlace, Adds};

@@ -10,7 +10,7 @@ use Rattle.uset_tool.specs.declared.status.Status.{Status}
 use Rattle.uset_tool.specs.declared.status.Status.TheVariants.{Done, SomeErr, Usage, Tables, ReadFault, WriteFault, NoMemory, NotText, TooLong}
 use Rattle.uset_tool.specs.Device.{Rose, NoFault}
 use Rattle.uset_tool.specs.Generated.{pattern_of}
-use Rattle.uset_tool.specs.Run.{table_lines, script_lines, text_lines, Evaluates, faulty_tables, script, Counts, faulty_text, counted, Generates, faulty_database, generated, Results, Answers, usage, too_long, not_text, evaluates, IsWhole, IsWritten, Writes, AppendsWhole, AppendsAnswer, IsSettled, IsAccepted, IsAnswered}
+use Rattle.uset_tool.specs.Run.{table_lines, script_lines, text_lines, Evaluates, faulty_tables, script, Counts, faulty_text, counted, Generates, faulty_database, generated, Results, Answers, usage, too_long, not_text, evaluates, IsWhole, IsWritten, Writes, AppendsWhole, AppendsAnswer, HasStatus, IsSettled, IsAccepted, IsAnswered}
 use Rattle.uset_tool.specs.Laws.{OneAnswer}
 use Rattle.uset_tool.proofs.Existence.{answer_exists}
 use Rattle.uset_tool.proofs.Once.{RunLaws, laws_of, script_once, sizes_once}
@@ -68,6 +68,18 @@ pub one_answer_law : RunLaws → OneAnswer
 one_answer_law laws = λ words input.
     let (text, status, answer) = answer_exists laws words input in
     (text, status, answer, λ other s h. answered_once laws words input other text s status h answer)
+
+-- a status of an answer is that of the answer
+has_status : (A : List ℕ → Status → Type 0) (old new : Option (List ℕ)) (result : Status) → AppendsAnswer A old new result → HasStatus A result
+has_status A old new Done (text, answer, appended) = (text, answer)
+has_status A old new SomeErr (text, answer, appended) = (text, answer)
+has_status A old new Usage (text, answer, appended) = (text, answer)
+has_status A old new Tables (text, answer, appended) = (text, answer)
+has_status A old new NotText (text, answer, appended) = (text, answer)
+has_status A old new TooLong (text, answer, appended) = (text, answer)
+has_status A old new ReadFault h = tt
+has_status A old new WriteFault h = tt
+has_status A old new NoMemory h = tt
 
 -- a whole answer has its status
 whole_settles : (words : List (List ℕ)) (input : List ℕ) (old new : Option (List ℕ)) (result : Status) → AppendsWhole (Answers words input) old new result → IsSettled (Answers words input) result
@@ -135,6 +147,11 @@ pub written_run : (words : List (List ℕ)) (left old new : Option (List ℕ)) (
     IfSome left (λ input. AppendsAnswer (Answers words input) old new result) → IfSome left (λ input. Writes (Answers words input) old new result)
 written_run words None old new result h = tt
 written_run words (Some input) old new result h = answer_writes (Answers words input) old new result h
+
+pub status_run : (words : List (List ℕ)) (left old new : Option (List ℕ)) (result : Status) →
+    IfSome left (λ input. AppendsAnswer (Answers words input) old new result) → IfSome left (λ input. HasStatus (Answers words input) result)
+status_run words None old new result h = tt
+status_run words (Some input) old new result h = has_status (Answers words input) old new result h
 
 pub settled_run : OneAnswer → (words : List (List ℕ)) (left old new : Option (List ℕ)) (result : Status) (a b c d : ℕ) → (result ≡ ReadFault → Rose a b) → (result ≡ WriteFault → Rose c d) →
     IfSome left (λ input. AppendsAnswer (Answers words input) old new result) →

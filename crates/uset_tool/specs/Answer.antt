@@ -80,7 +80,8 @@ string_or_character (c ∷ d ∷ t) = string_value (c ∷ d ∷ t)
 
 -- The answer to a pattern, and whether it is an `err` line.
 pub data PatternAnswer (l : Option Language) (source : List ℕ) : List ℕ → Bool → Type 0 where
-  read : {tree : Tree} {rest : Text} (n : ℕ) (rs : List CodePointRange) (ss : List (List ℕ)) → ReadsUnder (chars source) tree rest l →
+  read : {tree : Tree} {rest : Text} (n : ℕ) (rs : List CodePointRange) (ss : List (List ℕ)) →
+      ReadsUnder (chars source) tree rest l →
       n + size rest ≡ length source → AreMaximalRanges (λ c. has tree (point c)) rs →
       AreStrings (λ bytes. has tree (string bytes)) ss → PatternAnswer l source (read_text n rs ss) false
   fault : {kind : Kind} {offset : Option ℕ} → IsFault l (chars source) kind offset →
@@ -98,44 +99,59 @@ text_after_text n = codes "err text after the set at byte " ++ (decimal n ++ lin
 
 -- The answer to a name that is bound to nothing, with what it is to be bound to, whether it is an `err` line, and the
 -- variables behind it.
-pub data DefinitionAnswer (tables : Tables) (variables : Variables) (name : List ℕ) : Definition → List ℕ → Bool → Variables → Type 0 where
-  a_character : {c : ℕ} → DefinitionAnswer tables variables name (character_definition c) (bound_text name) false (with_binding name (character c) variables)
-  a_string : {t : List ℕ} → DefinitionAnswer tables variables name (string_definition t) (bound_text name) false (with_binding name (string_or_character t) variables)
+pub data DefinitionAnswer (tables : Tables) (variables : Variables) (name : List ℕ) : Definition → List ℕ → Bool →
+    Variables → Type 0 where
+  a_character : {c : ℕ} →
+      DefinitionAnswer tables variables name (character_definition c) (bound_text name) false
+      (with_binding name (character c) variables)
+  a_string : {t : List ℕ} →
+      DefinitionAnswer tables variables name (string_definition t) (bound_text name) false
+      (with_binding name (string_or_character t) variables)
   a_set : {source : List ℕ} {tree : Tree} → ReadsUnder (chars source) tree [] (language_of variables tables) →
-      DefinitionAnswer tables variables name (set_definition source) (bound_text name) false (with_binding name (set_value (has tree)) variables)
-  text_after : {source : List ℕ} {tree : Tree} {c : ℕ} {rest : Text} (n : ℕ) → ReadsUnder (chars source) tree (c ∷ rest) (language_of variables tables) →
-      n + size (c ∷ rest) ≡ length source → DefinitionAnswer tables variables name (set_definition source) (text_after_text n) true variables
-  no_set : {source : List ℕ} {kind : Kind} {offset : Option ℕ} → IsFault (language_of variables tables) (chars source) kind offset →
+      DefinitionAnswer tables variables name (set_definition source) (bound_text name) false
+      (with_binding name (set_value (has tree)) variables)
+  text_after : {source : List ℕ} {tree : Tree} {c : ℕ} {rest : Text} (n : ℕ) →
+      ReadsUnder (chars source) tree (c ∷ rest) (language_of variables tables) →
+      n + size (c ∷ rest) ≡ length source →
+      DefinitionAnswer tables variables name (set_definition source) (text_after_text n) true variables
+  no_set : {source : List ℕ} {kind : Kind} {offset : Option ℕ} →
+      IsFault (language_of variables tables) (chars source) kind offset →
       DefinitionAnswer tables variables name (set_definition source) (fault_text kind offset source) true variables
 
 -- The answer to a `let` line: a name is bound once.
-pub data BindingAnswer (tables : Tables) (variables : Variables) (name : List ℕ) (d : Definition) : List ℕ → Bool → Variables → Type 0 where
-  bound_before : is_some (variables (chars name)) ≡ true → BindingAnswer tables variables name d (is_bound_text name) true variables
+pub data BindingAnswer (tables : Tables) (variables : Variables) (name : List ℕ) (d : Definition) : List ℕ → Bool →
+    Variables → Type 0 where
+  bound_before : is_some (variables (chars name)) ≡ true →
+      BindingAnswer tables variables name d (is_bound_text name) true variables
   free : {text : List ℕ} {err : Bool} {new : Variables} → is_some (variables (chars name)) ≡ false →
       DefinitionAnswer tables variables name d text err new → BindingAnswer tables variables name d text err new
 
 -- the answer to a line of a script, and the variables behind it
 abbrev pub LineAnswer : Tables → Variables → ScriptLine → List ℕ → Bool → Variables → Type 0
 LineAnswer tables variables silent text err new = (text ≡ []) × (err ≡ false) × (new ≡ variables)
-LineAnswer tables variables (pattern source) text err new = PatternAnswer (language_of variables tables) source text err × (new ≡ variables)
+LineAnswer tables variables (pattern source) text err new =
+    PatternAnswer (language_of variables tables) source text err × (new ≡ variables)
 LineAnswer tables variables (binding name d) text err new = BindingAnswer tables variables name d text err new
 LineAnswer tables variables bad text err new = (text ≡ bad_line_text) × (err ≡ true) × (new ≡ variables)
 
 -- the answers to the lines of a script, one behind another, and whether an `err` line is among them
 pub data ScriptAnswer (tables : Tables) : Variables → List (List ℕ) → List ℕ → Bool → Type 0 where
   ends : {variables : Variables} → ScriptAnswer tables variables [] [] false
-  answers : {variables new : Variables} {line : List ℕ} {lines : List (List ℕ)} (first rest : List ℕ) (err errs : Bool) →
+  answers : {variables new : Variables} {line : List ℕ} {lines : List (List ℕ)} (first rest : List ℕ)
+      (err errs : Bool) →
       LineAnswer tables variables (script_line line) first err new → ScriptAnswer tables new lines rest errs →
       ScriptAnswer tables variables (line ∷ lines) (first ++ rest) (err || errs)
 
 -- the maximal ranges of the set were appended
 abbrev pub AppendsMembers : List ℕ → List ℕ → (ℕ → Bool) → Type 0
-AppendsMembers old new members = (rs : List CodePointRange) × AreMaximalRanges members rs × (new ≡ old ++ flat_map range_text rs)
+AppendsMembers old new members =
+    (rs : List CodePointRange) × AreMaximalRanges members rs × (new ≡ old ++ flat_map range_text rs)
 
 -- the answer for a set of which so many bytes are read
 abbrev pub IsReadAnswer : ℕ → StringSet → Answer → Type 0
 IsReadAnswer n set answer =
-    (rs : List CodePointRange) × AreMaximalRanges (contains set.code_points) rs × AreCanonical set.strings × (string_bytes answer.text ≡ read_text n rs set.strings) × (answer.is_err ≡ false)
+    (rs : List CodePointRange) × AreMaximalRanges (contains set.code_points) rs × AreCanonical set.strings ×
+    (string_bytes answer.text ≡ read_text n rs set.strings) × (answer.is_err ≡ false)
 
 -- the answer for a fault of a source, which want of memory is not
 pub record IsFaultAnswer (error : ParseError) (source : List ℕ) (answer : Answer) : Type 0 where

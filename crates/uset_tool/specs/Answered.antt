@@ -15,14 +15,17 @@ use Rattle.uset_tool.specs.Device.{Appends, IsProperFront, IsFront}
 
 -- a definition is answered with this, and the new variables are those behind it
 abbrev pub AnswersDefinition : PropertyDatabase → List ℕ → Definition → VariableMap → VariableMap → Answer → Type 0
-AnswersDefinition database name d old new a = DefinitionAnswer (tables_of database) (variables_of old) name d (string_bytes a.text) a.is_err (variables_of new)
+AnswersDefinition database name d old new a =
+    DefinitionAnswer (tables_of database) (variables_of old) name d (string_bytes a.text) a.is_err (variables_of new)
 
 -- the same of a `let` line, and of any line
 abbrev pub AnswersBinding : PropertyDatabase → List ℕ → Definition → VariableMap → VariableMap → Answer → Type 0
-AnswersBinding database name d old new a = BindingAnswer (tables_of database) (variables_of old) name d (string_bytes a.text) a.is_err (variables_of new)
+AnswersBinding database name d old new a =
+    BindingAnswer (tables_of database) (variables_of old) name d (string_bytes a.text) a.is_err (variables_of new)
 
 abbrev pub AnswersLine : PropertyDatabase → ScriptLine → VariableMap → VariableMap → Answer → Type 0
-AnswersLine database line old new a = LineAnswer (tables_of database) (variables_of old) line (string_bytes a.text) a.is_err (variables_of new)
+AnswersLine database line old new a =
+    LineAnswer (tables_of database) (variables_of old) line (string_bytes a.text) a.is_err (variables_of new)
 
 -- where the sink failed, not all of the answer was appended, and where memory was refused, a front of it
 abbrev pub StopsWithin : WriteError → List ℕ → List ℕ → List ℕ → Type 0
@@ -31,8 +34,10 @@ StopsWithin NoMemory before now text = IsFront before now text
 
 -- The answers to the lines, and whether an `err` line is among them, which is known also where the sink tells nothing; or
 -- how far they came.
-abbrev pub AnswersScript : Tables → Variables → List (List ℕ) → Option (List ℕ) → Option (List ℕ) → Result Bool WriteError → Type 0
-AnswersScript tables variables lines old new (Ok errs) = (text : List ℕ) × ScriptAnswer tables variables lines text errs × Appends old new text
+abbrev pub AnswersScript : Tables → Variables → List (List ℕ) → Option (List ℕ) → Option (List ℕ) →
+    Result Bool WriteError → Type 0
+AnswersScript tables variables lines old new (Ok errs) =
+    (text : List ℕ) × ScriptAnswer tables variables lines text errs × Appends old new text
 AnswersScript tables variables lines old new (Err e) = IfSome old (λ before. (now : List ℕ) × (new ≡ Some now)
     × ((text : List ℕ) (errs : Bool) → ScriptAnswer tables variables lines text errs → StopsWithin e before now text))
 

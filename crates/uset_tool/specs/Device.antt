@@ -46,7 +46,8 @@ Stays old new = IfSome old (λ bytes. new ≡ Some bytes)
 -- nothing was left; a read that failed took nothing.
 abbrev pub ReadsFront : {E : Type 0} → Option (List ℕ) → Option (List ℕ) → Result ℕ E → List ℕ → Type 0
 ReadsFront old new (Ok n) buf =
-    IfSome old (λ bytes. (n ≤ length bytes) × (take n buf ≡ take n bytes) × (new ≡ Some (drop n bytes)) × (n ≡ 0 → bytes ≡ []))
+    IfSome old (λ bytes.
+    (n ≤ length bytes) × (take n buf ≡ take n bytes) × (new ≡ Some (drop n bytes)) × (n ≡ 0 → bytes ≡ []))
 ReadsFront old new (Err e) buf = Stays old new
 
 -- a write appended the front of the piece, and a write that was refused nothing
@@ -76,7 +77,8 @@ pub record IsFront (old new : List ℕ) (text : List ℕ) : Type 0 where
 -- what a write of a whole text appended
 abbrev pub WritesText : {X E : Type 0} → Option (List ℕ) → Option (List ℕ) → Result X E → List ℕ → Type 0
 WritesText old new (Ok _) text = Appends old new text
-WritesText old new (Err _) text = IfSome old (λ before. (now : List ℕ) × (new ≡ Some now) × IsProperFront before now text)
+WritesText old new (Err _) text =
+    IfSome old (λ before. (now : List ℕ) × (new ≡ Some now) × IsProperFront before now text)
 
 -- the most bytes that an input may have
 abbrev pub limit : ℕ

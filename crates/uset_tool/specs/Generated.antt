@@ -43,16 +43,20 @@ pattern_of n = codes "[" ++ (elements n 0 n ++ codes "]")
 -- how many bytes are read, how many ranges there are, and how many code points they have together
 abbrev pub sizes_text : ℕ → List CodePointRange → List ℕ
 sizes_text n rs =
-    codes "bytes " ++ (decimal n ++ (codes "\nranges " ++ (decimal (length rs) ++ (codes "\npoints " ++ (decimal (sum_by range_size rs) ++ line_end)))))
+    codes "bytes " ++ (decimal n
+    ++ (codes "\nranges " ++ (decimal (length rs)
+    ++ (codes "\npoints " ++ (decimal (sum_by range_size rs) ++ line_end)))))
 
 -- The answer to a pattern that is measured, and whether it is an `err` line.
 pub data SizesAnswer (l : Option Language) (source : List ℕ) : List ℕ → Bool → Type 0 where
   measured : {tree : Tree} {rest : Text} (n : ℕ) (rs : List CodePointRange) → ReadsUnder (chars source) tree rest l →
-      n + size rest ≡ length source → AreMaximalRanges (λ c. has tree (point c)) rs → SizesAnswer l source (sizes_text n rs) false
+      n + size rest ≡ length source → AreMaximalRanges (λ c. has tree (point c)) rs →
+      SizesAnswer l source (sizes_text n rs) false
   unread : {kind : Kind} {offset : Option ℕ} → IsFault l (chars source) kind offset →
       SizesAnswer l source (fault_text kind offset source) true
 
 -- the answer for a set of which so many bytes are read
 abbrev pub IsSizesAnswer : ℕ → List ℕ → Answer → Type 0
 IsSizesAnswer n set answer =
-    (rs : List CodePointRange) × AreMaximalRanges (contains set) rs × (string_bytes answer.text ≡ sizes_text n rs) × (answer.is_err ≡ false)
+    (rs : List CodePointRange) × AreMaximalRanges (contains set) rs × (string_bytes answer.text ≡ sizes_text n rs) ×
+    (answer.is_err ≡ false)

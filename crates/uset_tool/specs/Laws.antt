@@ -15,11 +15,13 @@ use Rattle.uset_tool.specs.Run.{Answers}
 
 -- any words and any input have one answer, and no other
 abbrev pub OneAnswer : Type 0
-OneAnswer = (words : List (List ℕ)) (input : List ℕ) → (text : List ℕ) × (status : Status) × Answers words input text status
+OneAnswer = (words : List (List ℕ)) (input : List ℕ) →
+    (text : List ℕ) × (status : Status) × Answers words input text status
     × ((other : List ℕ) (s : Status) → Answers words input other s → (other ≡ text) × (s ≡ status))
 
 -- Under tables that a database may hold, those of the syntax among them, and no variables the pattern that a number tells is
 -- read, whatever follows it.
 abbrev pub GeneratedPatternsAreRead : Type 0
-GeneratedPatternsAreRead = (n : ℕ) (tables : Tables) → AreAllowed tables → (l : Language) → language_of no_variables tables ≡ Some l →
+GeneratedPatternsAreRead =
+    (n : ℕ) (tables : Tables) → AreAllowed tables → (l : Language) → language_of no_variables tables ≡ Some l →
     (rest : Text) → (tree : Tree) × Reads l (chars (pattern_of n) ++ rest) tree rest

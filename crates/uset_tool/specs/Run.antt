@@ -38,13 +38,15 @@ pub data Evaluates (input : List ℕ) : List ℕ → Status → Type 0 where
 
 -- The number of tables of each kind in an input that is a table text and nothing else.
 pub data Counts (input : List ℕ) : List ℕ → Status → Type 0 where
-  faulty_text : (fault : TableError) → table_fault (lines input) ≡ Some fault → Counts input (table_fault_text fault) Tables
+  faulty_text : (fault : TableError) → table_fault (lines input) ≡ Some fault →
+      Counts input (table_fault_text fault) Tables
   counted : table_fault (lines input) ≡ None → Counts input (counts_text (tables_in (lines input))) Done
 
 -- The sizes of the set of the pattern that a number tells, under no variables and an input that is a table text and nothing
 -- else.
 pub data Generates (n : ℕ) (input : List ℕ) : List ℕ → Status → Type 0 where
-  faulty_database : (fault : TableError) → table_fault (lines input) ≡ Some fault → Generates n input (table_fault_text fault) Tables
+  faulty_database : (fault : TableError) → table_fault (lines input) ≡ Some fault →
+      Generates n input (table_fault_text fault) Tables
   generated : table_fault (lines input) ≡ None → (text : List ℕ) (err : Bool) →
       SizesAnswer (language_of no_variables (tables_in (lines input))) (pattern_of n) text err →
       Generates n input text (if err then SomeErr else Done)
@@ -59,8 +61,10 @@ Results (generate n) input text status = Generates n input text status
 pub data Answers (words : List (List ℕ)) (input : List ℕ) : List ℕ → Status → Type 0 where
   usage : is_known words ≡ false → Answers words input usage_text Usage
   too_long : is_known words ≡ true → limit < length input → Answers words input too_long_text TooLong
-  not_text : is_known words ≡ true → length input ≤ limit → is_utf8 input ≡ false → Answers words input not_text_text NotText
-  evaluates : {text : List ℕ} {status : Status} (command : Command) → command_of words ≡ Some command → length input ≤ limit → is_utf8 input ≡ true →
+  not_text : is_known words ≡ true → length input ≤ limit → is_utf8 input ≡ false →
+      Answers words input not_text_text NotText
+  evaluates : {text : List ℕ} {status : Status} (command : Command) → command_of words ≡ Some command →
+      length input ≤ limit → is_utf8 input ≡ true →
       Results command input text status → Answers words input text status
 
 -- the answers of an input, each a text and a status
@@ -104,6 +108,18 @@ AppendsAnswer A old new ReadFault = Writes A old new ReadFault
 AppendsAnswer A old new WriteFault = Writes A old new WriteFault
 AppendsAnswer A old new NoMemory = Writes A old new NoMemory
 
+-- a status of an answer is that of one of these
+abbrev pub HasStatus : AnswersOf → Status → Type 0
+HasStatus A Done = (text : List ℕ) × A text Done
+HasStatus A SomeErr = (text : List ℕ) × A text SomeErr
+HasStatus A Usage = (text : List ℕ) × A text Usage
+HasStatus A Tables = (text : List ℕ) × A text Tables
+HasStatus A NotText = (text : List ℕ) × A text NotText
+HasStatus A TooLong = (text : List ℕ) × A text TooLong
+HasStatus A ReadFault = Unit {0}
+HasStatus A WriteFault = Unit {0}
+HasStatus A NoMemory = Unit {0}
+
 -- the statuses that an input which is text can have
 abbrev pub is_of_text : Status → Bool
 is_of_text Done = true
@@ -119,8 +135,10 @@ is_of_text TooLong = false
 -- The text was said, with the status that was wanted; or the sink failed, or refused memory.
 pub data Says (old new : Option (List ℕ)) (text : List ℕ) (wanted : Status) : Status → Type 0 where
   said : Appends old new text → Says old new text wanted wanted
-  failed : IfSome old (λ before. (now : List ℕ) × (new ≡ Some now) × IsProperFront before now text) → Says old new text wanted WriteFault
-  refused : IfSome old (λ before. (now : List ℕ) × (new ≡ Some now) × IsProperFront before now text) → Says old new text wanted NoMemory
+  failed : IfSome old (λ before. (now : List ℕ) × (new ≡ Some now) × IsProperFront before now text) →
+      Says old new text wanted WriteFault
+  refused : IfSome old (λ before. (now : List ℕ) × (new ≡ Some now) × IsProperFront before now text) →
+      Says old new text wanted NoMemory
 
 -- the fault was said, or nothing where memory was refused
 abbrev pub SaysError : LoadError → Option (List ℕ) → Option (List ℕ) → Status → Type 0
@@ -134,7 +152,8 @@ SaysCounts tables old new result = Says old new (counts_text tables) Done result
 -- the sizes, or the fault, of the pattern that a number tells were said, or nothing where memory was refused
 abbrev pub SaysSizes : Members → ℕ → Option (List ℕ) → Option (List ℕ) → Status → Type 0
 SaysSizes tables n old new result =
-    ((text : List ℕ) × (err : Bool) × SizesAnswer (language_of no_variables tables) (pattern_of n) text err × Says old new text (if err then SomeErr else Done) result)
+    ((text : List ℕ) × (err : Bool) × SizesAnswer (language_of no_variables tables) (pattern_of n) text err ×
+    Says old new text (if err then SomeErr else Done) result)
     ⊎ ((new ≡ old) × (result ≡ NoMemory))
 
 -- the answers to the lines of a script with a status
@@ -174,7 +193,8 @@ text_lines (generate n) input = lines input
 
 -- where the words ask for the pattern that a number tells, one of the three tables of the syntax is absent
 abbrev pub LacksSyntax : List (List ℕ) → List ℕ → Type 0
-LacksSyntax words input = (n : ℕ) → command_of words ≡ Some (generate n) → language_of no_variables (tables_in (lines input)) ≡ None
+LacksSyntax words input =
+    (n : ℕ) → command_of words ≡ Some (generate n) → language_of no_variables (tables_in (lines input)) ≡ None
 
 -- the words are known, and the input is within the limit, is text, and has a table text without a fault
 pub record IsAccepted (words : List (List ℕ)) (input : List ℕ) : Type 0 where

@@ -79,7 +79,8 @@ definition_by None None None = None
 
 -- `char ` and a number; `str` and any numbers; `set ` and a pattern
 abbrev pub definition_of : List ℕ → Option Definition
-definition_of text = definition_by (stripped (codes "char ") text) (stripped (codes "str") text) (stripped (codes "set ") text)
+definition_of text =
+    definition_by (stripped (codes "char ") text) (stripped (codes "str") text) (stripped (codes "set ") text)
 
 abbrev pub binding_or_bad : List ℕ → Option Definition → ScriptLine
 binding_or_bad name None = bad

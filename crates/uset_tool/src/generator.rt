@@ -1,9 +1,6 @@
 //! Patterns that numbers tell, and the sizes of their sets.
-ghost use Rattle.std.specs.Prelude.{◌≡◌, ◌++◌, IfOk, OnOk, List, length};
+ghost use Rattle.std.specs.Prelude.{◌≡◌, ◌++◌, IfOk, OnOk, length};
 ghost use Rattle.std.specs.String.{string_bytes};
-ghost use Rattle.cp_invlist.specs.declared.ranges.CodePointRange.{CodePointRange};
-ghost use Rattle.cp_invlist.specs.InversionList.{contains};
-ghost use Rattle.cp_invlist.specs.Ranges.{AreMaximalRanges};
 ghost use Rattle.prop_data.specs.Database.{tables_of};
 ghost use Rattle.uset_reader.specs.Syntaxes.{language_of};
 ghost use Rattle.uset_variables.specs.Variables.{no_variables};

@@ -2,7 +2,7 @@
 ghost use Rattle.std.specs.Prelude.{◌≡◌, IfOk, option_map};
 ghost use Rattle.std.specs.Str.{chars};
 ghost use Rattle.std.specs.String.{string_bytes};
-ghost use Rattle.uset_tool.specs.Script.{character, string, script_line, stripped, is_silent, at_space, as_character, character_of, spaced, characters_of, string_of, definition_of, let_or_bad, binding_or_bad, named};
+ghost use Rattle.uset_tool.specs.Script.{character, string, script_line, stripped, is_silent, at_space, as_character, character_of, spaced, characters_of, string_of, definition_of, named};
 ghost use Rattle.uset_tool.specs.Lines.{line_seen, definition_seen};
 
 use cp_invlist::NoMemory;

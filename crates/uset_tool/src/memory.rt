@@ -1,5 +1,5 @@
 //! Sources and sinks in memory that pass few bytes a call, and whose calls fail where that is asked.
-ghost use Rattle.std.specs.Prelude.{◌≡◌, ◌<◌, ◌≤◌, ◌+◌, min, length, vec_len, is_err, ◌↔◌, true, Err, IfOk, OnErr, if◌then◌else◌};
+ghost use Rattle.std.specs.Prelude.{◌≡◌, ◌<◌, ◌≤◌, ◌+◌, min, length, vec_len, is_err, ◌↔◌, true, Err, IfOk};
 ghost use Rattle.uset_tool.specs.Device.{ReadsFront, WritesFront, count_after, has_failed, one_more};
 ghost use Rattle.uset_tool.specs.Memory.{is_among};
 

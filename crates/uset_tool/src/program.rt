@@ -1,14 +1,14 @@
 //! A run of the program.
-ghost use Rattle.std.specs.Prelude.{◌≡◌, true, false, map, IfSome, codes, if◌then◌else◌};
+ghost use Rattle.std.specs.Prelude.{◌≡◌, true, false, map, IfSome, if◌then◌else◌};
 ghost use Rattle.std.specs.String.{string_bytes};
 ghost use Rattle.uset_tool.specs.Device.{Rose, NoFault, count_after};
 ghost use Rattle.uset_tool.specs.Commands.{command_seen};
 ghost use Rattle.uset_tool.specs.Status.{is_read_fault, is_write_fault};
-ghost use Rattle.uset_tool.specs.Words.{is_known, table_fault_text};
+ghost use Rattle.uset_tool.specs.Words.{is_known, table_fault_text, usage_text};
 ghost use Rattle.text_lines.specs.Lines.{lines};
 ghost use Rattle.prop_data.specs.Database.{tables_of};
 ghost use Rattle.prop_data.specs.Forbidden.{AreAllowed};
-ghost use Rattle.uset_tool.specs.Run.{Answers, Results, Evaluates, Counts, SaysCounts, Generates, SaysSizes, LacksSyntax, Writes, AppendsAnswer, IsLeft, IsSettled, IsAccepted, IsAnswered, EndsAs, Says, SaysError, ScriptWrites, is_of_text};
+ghost use Rattle.uset_tool.specs.Run.{Answers, Results, Evaluates, Counts, SaysCounts, Generates, SaysSizes, LacksSyntax, Writes, AppendsAnswer, IsLeft, HasStatus, IsSettled, IsAccepted, IsAnswered, EndsAs, Says, SaysError, ScriptWrites, is_of_text};
 
 use crate::count::Count;
 use crate::counts::counts_text;
@@ -185,9 +185,11 @@ fn answer_words<S: Source, K: Sink>(
         (K.written sink.old) (K.written sink.new) result) }
     ensures left { IfSome (S.left source.old) (λ input. IsLeft input (S.left source.new) result) }
     ensures usage { result ≡ Status.Usage → is_known (map string_bytes words.now.items) ≡ false }
-    ensures unknown { is_known (map string_bytes words.now.items) ≡ false → EndsAs Status.Usage result }
+    ensures unknown { is_known (map string_bytes words.now.items) ≡ false →
+        Says (K.written sink.old) (K.written sink.new) usage_text Status.Usage result }
     ensures untouched { is_known (map string_bytes words.now.items) ≡ false → source.new ≡ source.old }
     ensures read_fault_words { result ≡ Status.ReadFault → is_known (map string_bytes words.now.items) ≡ true }
+    ensures silent { result ≡ Status.ReadFault → K.written sink.new ≡ K.written sink.old }
     ensures reads_counted { S.faults source.new ≡ count_after (is_read_fault result) (S.faults source.old) }
     ensures writes_counted { K.faults sink.new ≡ count_after (is_write_fault result) (K.faults sink.old) }
 {
@@ -223,11 +225,17 @@ pub fn run<S: Source, K: Sink>(
         Writes (Answers (map string_bytes words.now.items) input) (K.written sink.old) (K.written sink.new) result) }
     ensures left { IfSome (S.left source.old) (λ input. IsLeft input (S.left source.new) result) }
 
-    // Why the run ended before an answer.
+    // A status of an answer is that of this input's, also where the sink tells nothing.
+    ensures status { IfSome (S.left source.old) (λ input.
+        HasStatus (Answers (map string_bytes words.now.items) input) result) }
+
+    // Why the run ended before an answer, also where the source tells nothing.
     ensures usage { result ≡ Status.Usage → is_known (map string_bytes words.now.items) ≡ false }
-    ensures unknown { is_known (map string_bytes words.now.items) ≡ false → EndsAs Status.Usage result }
+    ensures unknown { is_known (map string_bytes words.now.items) ≡ false →
+        Says (K.written sink.old) (K.written sink.new) usage_text Status.Usage result }
     ensures untouched { is_known (map string_bytes words.now.items) ≡ false → source.new ≡ source.old }
     ensures read_fault_words { result ≡ Status.ReadFault → is_known (map string_bytes words.now.items) ≡ true }
+    ensures silent { result ≡ Status.ReadFault → K.written sink.new ≡ K.written sink.old }
     ensures read_fault { result ≡ Status.ReadFault → Rose (S.faults source.old) (S.faults source.new) }
     ensures write_fault { result ≡ Status.WriteFault → Rose (K.faults sink.old) (K.faults sink.new) }
 

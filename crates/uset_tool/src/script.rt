@@ -1,5 +1,5 @@
 //! The answers to a script.
-ghost use Rattle.std.specs.Prelude.{◌≡◌, ◌≤◌, Err};
+ghost use Rattle.std.specs.Prelude.{◌≡◌};
 ghost use Rattle.text_lines.specs.Lines.{lines};
 ghost use Rattle.prop_data.specs.Database.{tables_of};
 ghost use Rattle.prop_data.specs.Forbidden.{AreAllowed};

@@ -26,4 +26,5 @@ Inserts old key value (Err e) new = IsSame old new
 
 -- this holds of the map once the answer isn't used any longer
 abbrev pub EndsInserted : MutBor VariableMap → List ℕ → VariableValue → Result (Unit {0}) InsertError → Fml
-EndsInserted map key value result = follows_so the_row the_row map.ghost_name none (λ _ _. ⊤) (Inserts map.now key value result)
+EndsInserted map key value result =
+    follows_so the_row the_row map.ghost_name none (λ _ _. ⊤) (Inserts map.now key value result)

@@ -108,6 +108,7 @@ impl VariableMap {
     /// Frees the name. The answer is the value that it was bound to, as it was kept, and `None` where it was bound to nothing.
     pub fn remove(&mut self, key: &str) -> Option<VariableValue>
         ensures value { result ≡ bound self.old key.now }
+        ensures kept { IfSome result (λ v. is_kept v ≡ true) }
         ensures removes { Binds self.old key.now None self.new }
     {
         match self.values.remove(key) {

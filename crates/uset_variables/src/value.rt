@@ -142,7 +142,8 @@ impl KeptValue {
 
     /// The value itself.
     pub(crate) fn into_value(self) -> VariableValue
-        ensures { result ≡ self.value }
+        ensures value { result ≡ self.value }
+        ensures kept { is_kept result ≡ true }
     {
         self.value
     }

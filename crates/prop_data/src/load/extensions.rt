@@ -1,5 +1,5 @@
 //! The extension list whose rows are being read.
-ghost use Rattle.std.specs.Prelude.{◌≡◌, [], ◌∷◌, ◌++◌, None, Some, IfOk, OnOk, option_map, if◌then◌else◌};
+ghost use Rattle.std.specs.Prelude.{◌≡◌, [], ◌∷◌, ◌++◌, None, Some, IfOk, OnOk};
 ghost use Rattle.std.specs.Option.{option_copied};
 ghost use Rattle.prop_data.specs.LineFault.{order_fault};
 ghost use Rattle.prop_data.specs.Loading.{TakesRow, TakesFinished, IsListed, row_seen};

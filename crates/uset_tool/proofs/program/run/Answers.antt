@@ -1,10 +1,13 @@
 use Rattle.uset_tool.proofs.CountLemmas.{read_rose, write_rose}
-use Rattle.uset_tool.proofs.Complete.{written_run, settled_run, complete_run}
+use Rattle.uset_tool.proofs.Complete.{written_run, status_run, settled_run, complete_run}
 use Rattle.uset_tool.proofs.GeneratedLemmas.{lacking_run}
 use Rattle.uset_tool.proofs.program.run.Goals as goal
 
 pub returns-clause-written : goal.returns-clause-written
 returns-clause-written g c = written_run _ _ _ _ _ c.answer_words.ensures.written
+
+pub returns-clause-status : goal.returns-clause-status
+returns-clause-status g c = status_run _ _ _ _ _ c.answer_words.ensures.written
 
 pub returns-clause-settled : goal.returns-clause-settled
 returns-clause-settled g c =

@@ -1,5 +1,5 @@
+use Rattle.std.specs.Option.{option_or}
 use Rattle.std.proofs.Common.{ap, sym, ◌∙◌}
-use Rattle.prop_data.specs.Rows.{or_else}
 use Rattle.prop_data.specs.Loading.{header_seen, kept, tables_begun}
 use Rattle.prop_data.specs.LineFault.{header_fault, after_end}
 use Rattle.prop_data.proofs.AboveLemmas.{same_above}
@@ -11,8 +11,8 @@ returns c =
     let begins = c.in_ok-open_table.ensures in
     let same = c.in_ok-finish_table.ensures.tables in
     let closed = c.in_ok-finish_table.ensures.closed in (
-      ap (λ t. or_else (header_fault t (header_seen c.args.header)) (after_end (kept c.args.self.now).closed)) (sym same)
-          ∙ (ap (λ o. or_else o (after_end (kept c.args.self.now).closed)) begins.0 ∙ ap after_end (sym closed ∙ c.if-self.false)),
+      ap (λ t. option_or (header_fault t (header_seen c.args.header)) (after_end (kept c.args.self.now).closed)) (sym same)
+          ∙ (ap (λ o. option_or o (after_end (kept c.args.self.now).closed)) begins.0 ∙ ap after_end (sym closed ∙ c.if-self.false)),
       same_above _ _ closed (sym begins.1) (last_seen-new c.in_ok-open_table.open_table begins.2)
           (tables_with-new c.in_ok-open_table.open_table _ _ begins.2 same ∙ ap (λ t. tables_begun t (kept c.args.self.now).tables) (sym begins.1)),
     )
