@@ -6,7 +6,7 @@ use cp_strset::{CodePointInversionListAndStringList, Strings};
 use std::alloc::Global;
 
 /// A set in the making. A bracket that closes gives it to the one around it, and only that of the outermost
-/// one is made a list.
+/// one is made a list. After want of memory nothing is said of it, and it is to be let go.
 pub struct Gathered {
     code_points: Painting,
     strings: Strings,

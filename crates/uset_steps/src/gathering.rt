@@ -11,7 +11,7 @@ use uset_read::Query;
 
 /// What a bracket gathers. From the first large set with a name on, steps are put off until the set is needed, or about 8 MB
 /// are kept: then a set that was named again and again is gathered no more than twice. So each step costs no more than its name
-/// does.
+/// does. After want of memory nothing is said of it, and it is to be let go.
 pub struct Gathering<'a> {
     gathered: Gathered,
     later: Option<Box<Later<'a>>>,

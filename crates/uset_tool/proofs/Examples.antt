@@ -19,7 +19,7 @@ use Rattle.uset_grammar.specs.Answers.{absent}
 use Rattle.uset_tool.specs.Answer.{range_text, string_text, read_text, fault_text, bad_line_text, bound_text, is_bound_text, text_after_text, fault, a_character, free, bound_before as bound_earlier, ends, answers}
 use Rattle.uset_tool.specs.Script.{silent, pattern, binding, bad, script_line, character, string, set}
 use Rattle.uset_tool.specs.Generated.{pattern_of, sizes_text, unread}
-use Rattle.uset_tool.specs.Words.{generate, count_of, command_of, is_known, table_fault_text}
+use Rattle.uset_tool.specs.Words.{generate, pattern_number_of, command_of, is_known, table_fault_text}
 use Rattle.uset_tool.specs.Run.{table_lines, script_lines, Answers, usage, Evaluates, faulty_tables, script, Generates, generated}
 use Rattle.uset_tool.specs.declared.status.Status.TheVariants.{Usage, Tables, SomeErr}
 
@@ -99,27 +99,27 @@ tables_is_known : is_known (codes "tables" ∷ []) ≡ true
 tables_is_known = refl
 
 gen_is_known : is_known (codes "gen" ∷ codes "1" ∷ []) ≡ true
-unfolding count_of spelled
+unfolding pattern_number_of spelled
 gen_is_known = refl
 
 gen_is_known_up_to_ten_thousand : command_of (codes "gen" ∷ codes "10000" ∷ []) ≡ Some (generate 10000)
-unfolding count_of spelled
+unfolding pattern_number_of spelled
 gen_is_known_up_to_ten_thousand = refl
 
 nothing_is_generated : is_known (codes "gen" ∷ codes "0" ∷ []) ≡ false
-unfolding count_of spelled
+unfolding pattern_number_of spelled
 nothing_is_generated = refl
 
 no_leading_zero : is_known (codes "gen" ∷ codes "01" ∷ []) ≡ false
-unfolding count_of spelled
+unfolding pattern_number_of spelled
 no_leading_zero = refl
 
 one_too_many : is_known (codes "gen" ∷ codes "10001" ∷ []) ≡ false
-unfolding count_of spelled
+unfolding pattern_number_of spelled
 one_too_many = refl
 
 no_sign : is_known (codes "gen" ∷ codes "+1" ∷ []) ≡ false
-unfolding count_of spelled
+unfolding pattern_number_of spelled
 no_sign = refl
 
 no_number : is_known (codes "gen" ∷ []) ≡ false

@@ -6,4 +6,4 @@ use Rattle.uset_tool.specs.Words.{Command, evaluate, count_tables, generate}
 abbrev pub command_seen : CodeCommand → Command
 command_seen Eval = evaluate
 command_seen Tables = count_tables
-command_seen (Gen count) = generate count.number
+command_seen (Gen number) = generate number.value

@@ -16,15 +16,15 @@ pub data Command : Type 0 where
   generate : ℕ → Command
 
 -- the number is one that tells a pattern
-abbrev pub as_count : ℕ → Option ℕ
-as_count n = if nat_le 1 n && nat_le n 10000 then Some n else None
+abbrev pub as_pattern_number : ℕ → Option ℕ
+as_pattern_number n = if nat_le 1 n && nat_le n 10000 then Some n else None
 
 -- one to five decimal digits, the first of them no `0`, that spell such a number
-unfoldable pub count_of : List ℕ → Option ℕ
-count_of [] = None
-count_of (d ∷ digits) =
+unfoldable pub pattern_number_of : List ℕ → Option ℕ
+pattern_number_of [] = None
+pattern_number_of (d ∷ digits) =
     if d == code "0" || nat_lt 5 (length (d ∷ digits)) then None
-    else option_and_then as_count (decimal_number (d ∷ digits))
+    else option_and_then as_pattern_number (decimal_number (d ∷ digits))
 
 -- the one word is that of a command
 abbrev pub command_named : List ℕ → Option Command
@@ -36,7 +36,7 @@ command_named word =
 abbrev pub command_of : List (List ℕ) → Option Command
 command_of [] = None
 command_of (word ∷ []) = command_named word
-command_of (word ∷ number ∷ []) = if bytes_eq word (codes "gen") then option_map generate (count_of number) else None
+command_of (word ∷ number ∷ []) = if bytes_eq word (codes "gen") then option_map generate (pattern_number_of number) else None
 command_of (word ∷ number ∷ other ∷ more) = None
 
 -- the words are a known list

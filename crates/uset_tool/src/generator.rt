@@ -7,7 +7,7 @@ ghost use Rattle.uset_variables.specs.Variables.{no_variables};
 ghost use Rattle.uset_tool.specs.Generated.{next, element, pattern_of, IsSizesAnswer, SizesAnswer};
 
 use crate::answer::{Answer, answer_fault};
-use crate::count::Count;
+use crate::pattern_number::PatternNumber;
 use cp_invlist::{CodePointInversionList, NoMemory};
 use prop_data::PropertyDatabase;
 use std::alloc::Global;
@@ -32,12 +32,12 @@ fn push_element(text: &mut String, x: u32, place: u32) -> Result<(), NoMemory>
 }
 
 /// The pattern that the number tells.
-fn pattern_of(alloc: Global, count: Count) -> Result<String, NoMemory>
-    ensures { IfOk result (λ text. string_bytes text ≡ pattern_of count.number) }
+fn pattern_of(alloc: Global, number: PatternNumber) -> Result<String, NoMemory>
+    ensures { IfOk result (λ text. string_bytes text ≡ pattern_of number.value) }
 {
     let mut text = String::from_str(alloc, "[")?;
-    let mut x = count.number;
-    for place in 0..count.number {
+    let mut x = number.value;
+    for place in 0..number.value {
         x = next(x);
         push_element(&mut text, x, place)?;
     }
@@ -65,14 +65,14 @@ fn answer_sizes(
 /// Reads the pattern that the number tells, with no variables, and answers the sizes of its set, or its fault.
 pub(crate) fn answer_generated(
     alloc: Global,
-    count: Count,
+    number: PatternNumber,
     database: &PropertyDatabase,
 ) -> Result<Answer, NoMemory>
     ensures { IfOk result (λ a.
-        SizesAnswer (language_of no_variables (tables_of database.now)) (pattern_of count.number)
+        SizesAnswer (language_of no_variables (tables_of database.now)) (pattern_of number.value)
         (string_bytes a.text) a.is_err) }
 {
-    let source = pattern_of(alloc, count)?;
+    let source = pattern_of(alloc, number)?;
     match parse_unstable(alloc, &source, database) {
         Ok((set, length)) => answer_sizes(alloc, set.code_points(), length),
         Err(error) => answer_fault(alloc, &source, error),

@@ -3,13 +3,13 @@
 
 mod answer;
 mod binding;
-mod count;
 mod counts;
 mod generator;
 mod input;
 pub mod laws;
 mod line;
 mod memory;
+mod pattern_number;
 mod program;
 mod script;
 mod sink;

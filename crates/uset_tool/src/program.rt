@@ -10,11 +10,11 @@ ghost use Rattle.prop_data.specs.Database.{tables_of};
 ghost use Rattle.prop_data.specs.Forbidden.{AreAllowed};
 ghost use Rattle.uset_tool.specs.Run.{Answers, Results, Evaluates, Counts, SaysCounts, Generates, SaysSizes, LacksSyntax, Writes, AppendsAnswer, IsLeft, HasStatus, IsSettled, IsAccepted, IsAnswered, EndsAs, Says, SaysError, ScriptWrites, is_of_text};
 
-use crate::count::Count;
 use crate::counts::counts_text;
 use crate::generator::answer_generated;
 use crate::input::{InputError, read_input};
 use crate::laws::{generated, one_answer};
+use crate::pattern_number::PatternNumber;
 use crate::script::answer_script;
 use crate::sink::{Sink, WriteError, write_all};
 use crate::source::Source;
@@ -88,14 +88,14 @@ fn status_of(is_err: bool) -> Status
 /// Says the sizes of the set of the pattern that the number tells, or its fault.
 fn say_sizes<K: Sink>(
     alloc: Global,
-    count: Count,
+    number: PatternNumber,
     database: &PropertyDatabase,
     sink: &mut K,
 ) -> Status
-    ensures says { SaysSizes (tables_of database.now) count.number (K.written sink.old) (K.written sink.new) result }
+    ensures says { SaysSizes (tables_of database.now) number.value (K.written sink.old) (K.written sink.new) result }
     ensures counted { K.faults sink.new ≡ count_after (is_write_fault result) (K.faults sink.old) }
 {
-    match answer_generated(alloc, count, database) {
+    match answer_generated(alloc, number, database) {
         Ok(answer) => say(sink, &answer.text, status_of(answer.is_err)),
         Err(_) => Status::NoMemory,
     }
@@ -131,7 +131,7 @@ fn eval<K: Sink>(alloc: Global, input: &str, sink: &mut K) -> Status
 }
 
 /// Answers an input that is text and a table text alone: how many tables of each kind it has.
-fn count<K: Sink>(alloc: Global, input: &str, sink: &mut K) -> Status
+fn count_tables<K: Sink>(alloc: Global, input: &str, sink: &mut K) -> Status
     ensures written { AppendsAnswer (Counts input.now) (K.written sink.old) (K.written sink.new) result }
     ensures status { is_of_text result ≡ true }
     ensures counted { K.faults sink.new ≡ count_after (is_write_fault result) (K.faults sink.old) }
@@ -143,8 +143,8 @@ fn count<K: Sink>(alloc: Global, input: &str, sink: &mut K) -> Status
 }
 
 /// Answers an input that is text and a table text alone: the sizes of the set of the pattern that the number tells.
-fn generate<K: Sink>(alloc: Global, count: Count, input: &str, sink: &mut K) -> Status
-    ensures written { AppendsAnswer (Generates count.number input.now) (K.written sink.old)
+fn generate<K: Sink>(alloc: Global, number: PatternNumber, input: &str, sink: &mut K) -> Status
+    ensures written { AppendsAnswer (Generates number.value input.now) (K.written sink.old)
         (K.written sink.new) result }
     ensures status { is_of_text result ≡ true }
     ensures counted { K.faults sink.new ≡ count_after (is_write_fault result) (K.faults sink.old) }
@@ -154,7 +154,7 @@ fn generate<K: Sink>(alloc: Global, count: Count, input: &str, sink: &mut K) -> 
     one_answer_of_a_source();
     one_list_of_ranges();
     match PropertyDatabase::from_text(alloc, input) {
-        Ok(database) => say_sizes(alloc, count, &database, sink),
+        Ok(database) => say_sizes(alloc, number, &database, sink),
         Err(error) => say_load_error(alloc, error, sink),
     }
 }
@@ -168,7 +168,7 @@ fn answer_text<K: Sink>(alloc: Global, command: Command, input: &str, sink: &mut
 {
     match command {
         Command::Eval => eval(alloc, input, sink),
-        Command::Tables => count(alloc, input, sink),
+        Command::Tables => count_tables(alloc, input, sink),
         Command::Gen(number) => generate(alloc, number, input, sink),
     }
 }

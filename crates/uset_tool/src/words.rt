@@ -4,7 +4,7 @@ ghost use Rattle.std.specs.String.{string_bytes};
 ghost use Rattle.uset_tool.specs.Words.{command_named, command_of};
 ghost use Rattle.uset_tool.specs.Commands.{command_seen};
 
-use crate::count::{Count, count_of};
+use crate::pattern_number::{PatternNumber, pattern_number_of};
 
 /// What the words ask for.
 #[derive(Clone, Copy, Drop)]
@@ -14,7 +14,7 @@ pub(crate) enum Command {
     /// `tables`: the input is a table text, whose tables are counted.
     Tables,
     /// `gen` and a number: the input is a table text, under which the pattern of the number is read and its set measured.
-    Gen(Count),
+    Gen(PatternNumber),
 }
 
 /// The command of one word.
@@ -36,7 +36,7 @@ pub(crate) fn find_command(words: &[String]) -> Option<Command>
 {
     match words {
         [word] => command_named(word),
-        [word, number] if word.as_str() == "gen" => Some(Command::Gen(count_of(number)?)),
+        [word, number] if word.as_str() == "gen" => Some(Command::Gen(pattern_number_of(number)?)),
         _ => None,
     }
 }

@@ -16,7 +16,7 @@ returns-in-Ok c =
     let source = c.deref.result.now in
     let same = c.deref.ensures ∙ c.in_ok-source.ensures in
     IfOk-weaker c.answer_sizes.result (IsSizesAnswer c.in-Ok.length c.code_points.result.now)
-    (λ (a : Answer). SizesAnswer l (pattern_of c.args.count.number) (string_bytes a.text) a.is_err)
+    (λ (a : Answer). SizesAnswer l (pattern_of c.args.number.value) (string_bytes a.text) a.is_err)
     (λ a h. subst (λ (s : List ℕ). SizesAnswer l s (string_bytes a.text) a.is_err) same
     (measured_answer l source c.in-Ok.length c.in-Ok.set a c.in-Ok.ensures.read
     (subst (λ (s : List ℕ). IsSizesAnswer c.in-Ok.length s a) c.code_points.ensures h)))
@@ -28,7 +28,7 @@ returns c =
     let same = c.deref.ensures ∙ c.in_ok-source.ensures in
     let again = c.deref-in-Err.ensures ∙ sym c.deref.ensures in
     IfOk-weaker c.answer_fault.result (IsFaultAnswer c.in-Err.error c.deref-in-Err.result.now)
-    (λ (a : Answer). SizesAnswer l (pattern_of c.args.count.number) (string_bytes a.text) a.is_err)
+    (λ (a : Answer). SizesAnswer l (pattern_of c.args.number.value) (string_bytes a.text) a.is_err)
     (λ a h. subst (λ (s : List ℕ). SizesAnswer l s (string_bytes a.text) a.is_err) same
     (unmeasured_answer l c.deref.result.now c.in-Err.error a c.in-Err.ensures.refused
     (subst (λ (s : List ℕ). IsFaultAnswer c.in-Err.error s a) again h)))

@@ -1,5 +1,5 @@
 use Rattle.uset_tool.proofs.RunLemmas.{counts_write, counts_status, count_error_writes}
-use Rattle.uset_tool.proofs.program.count.Goals as goal
+use Rattle.uset_tool.proofs.program.count_tables.Goals as goal
 
 pub returns-in-Ok-clause-written : goal.returns-in-Ok-clause-written
 returns-in-Ok-clause-written g c = counts_write c.args.input.now _ _ _ _ c.in-Ok.ensures.whole c.in-Ok.ensures.tables c.say_counts.ensures.says
