@@ -3,8 +3,7 @@
 
 A variable of 100,000 ranges, or of 10,000 strings, is joined, taken away or kept ever more often in one bracket, and
 named in ever more brackets one behind another, and in brackets inside one another, which stand open at once. With tables, properties
-are named so too. The time of binding the variable, or of reading the tables, and of printing the set once is taken off, and so is
-the memory.
+are named so too. The time of binding the variable, or of reading the tables, and of printing the set once is taken off.
 """
 
 import sys
@@ -22,7 +21,7 @@ MOST_BYTES = 1 << 23
 BRACKETS = (1, 10, 100)
 
 # In how many that stand open at once: of properties, and of variables, which are larger.
-OPEN_PROPERTIES, OPEN_VARIABLES = 10_000, 100
+OPEN_PROPERTIES, OPEN_VARIABLES = 50_000, 100
 
 RANGES = "[" + "".join(element(2 * index) for index in range(100_000)) + "]"
 
@@ -72,16 +71,15 @@ def named_in_brackets(program, before, sets):
 
 
 def named_inside_one_another(program, before, sets, count):
-    """Prints the time and the memory of brackets inside one another that each have the set, or the set without an element."""
+    """Prints the time and the memory of brackets inside one another that each have the set, or the set without an element. The
+    memory is what as many brackets more take: a process begins with what the one that starts it has resident."""
     print_head("set", "in each bracket", "open brackets", "us each", "kB each")
     for label, name in sets:
-        once = before + f"pat [{name}]\n"
-        start, _ = seconds(program, once)
-        held = peak(program, once)
+        start, _ = seconds(program, before + f"pat [{name}]\n")
         for inside in (name, f"[{name}-[b]]"):
-            text = before + "pat " + f"[{inside}" * count + "]" * count + "\n"
-            taken, _ = seconds(program, text)
-            kept = peak(program, text) - held
+            few, many = (before + "pat " + f"[{inside}" * times + "]" * times + "\n" for times in (count, 2 * count))
+            taken, _ = seconds(program, few)
+            kept = peak(program, many) - peak(program, few)
             print(f"| {label} | `{inside}` | {count:,} | {(taken - start) * 1e6 / count:.0f} | {kept / count / 1e3:.1f} |", flush=True)
 
 
