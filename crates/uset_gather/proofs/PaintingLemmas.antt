@@ -1,14 +1,16 @@
 -- Sets of code points in the making, code point by code point.
-use Rattle.std.proofs.Common.{◌≡◌, ℕ, Bool, true, false, not, length, take, eqb, arith, inl, inr, ◌||◌, ◌&&◌, if◌then◌else◌, List, [], ◌∷◌, ◌++◌, refl, sym, ap, ◌∙◌}
+use Rattle.std.proofs.Common.{◌≡◌, ℕ, Bool, true, false, not, length, take, eqb, arith, inl, inr, ◌||◌, ◌&&◌, if◌then◌else◌, List, [], ◌∷◌, ◌++◌, refl, sym, ap, ◌∙◌, subst}
+use Rattle.std.proofs.Math.Bool.{and-false}
 use Rattle.std.specs.Bool.{OnTrue}
 use Rattle.std.proofs.lemmas.Bool.{cases_Bool, eqb-true}
 use Rattle.std.proofs.lemmas.List.{take_all}
-use Rattle.cp_invlist.specs.InversionList.{contains, is_code_point}
-use Rattle.cp_invlist.specs.Ranges.{in_range, in_code_points, is_outside}
+use Rattle.cp_invlist.specs.InversionList.{contains, differ, is_code_point}
+use Rattle.cp_invlist.specs.Ranges.{in_range, in_code_points}
+use Rattle.uset_gather.specs.declared.layers.Layer.{Layer}
 use Rattle.cp_invlist.specs.declared.ranges.CodePointRange.{CodePointRange}
 use Rattle.uset_gather.specs.declared.painting.PaintedRange.{PaintedRange}
 use Rattle.uset_gather.specs.declared.painting.Painting.{Painting}
-use Rattle.uset_gather.specs.Painting.{covered, painted, in_painting}
+use Rattle.uset_gather.specs.Painting.{covered, painted, behind, behind_all, IsPutOnto, in_painting}
 
 -- one more range
 pub painted_more : (ps : List PaintedRange) (p : PaintedRange) (c : ℕ) (b : Bool) →
@@ -18,77 +20,91 @@ painted_more (q ∷ ps) p c b = painted_more ps p c (if in_code_points q.range c
 
 -- how a set is seen, by whether it is complemented, the number is a code point and it was painted
 seen : Bool → Bool → Bool → Bool
-seen complemented code b = if complemented then code && not b else b
+seen complemented code b = code && differ complemented b
 
 seen_range : (complemented inside code b : Bool) →
     seen complemented code (if inside && code then not complemented else b) ≡ (seen complemented code b || (inside && code))
 unfolding seen
 seen_range true true true true = refl
 seen_range true true true false = refl
-seen_range true true false b = refl
 seen_range true false true true = refl
 seen_range true false true false = refl
-seen_range true false false b = refl
 seen_range false true true true = refl
 seen_range false true true false = refl
-seen_range false true false true = refl
-seen_range false true false false = refl
-seen_range false false code true = refl
-seen_range false false code false = refl
+seen_range false false true true = refl
+seen_range false false true false = refl
+seen_range complemented true false b = refl
+seen_range complemented false false b = refl
 
--- the same ranges
-pub painting_same : (old new : Painting) → new.complemented ≡ old.complemented → new.ranges.items ≡ old.ranges.items → (c : ℕ) → in_painting new c ≡ in_painting old c
+-- the same of a set of code points
+seen_set : (complemented inside code b : Bool) → (inside && code) ≡ inside →
+    seen complemented code (if inside then not complemented else b) ≡ (seen complemented code b || inside)
+seen_set complemented inside code b within =
+    subst (λ is. seen complemented code (if is then not complemented else b) ≡ (seen complemented code b || is)) within (seen_range complemented inside code b)
+
+-- the same layers and ranges
+pub painting_same : (old new : Painting) → new.complemented ≡ old.complemented → new.layers.items ≡ old.layers.items →
+    new.ranges.items ≡ old.ranges.items → (c : ℕ) → in_painting new c ≡ in_painting old c
 unfolding in_painting seen
-painting_same old new kept same c = λ i. seen (kept i) (is_code_point c) (painted (same i) c false)
+painting_same old new kept below same c = λ i. seen (kept i) (is_code_point c) (painted (same i) c (behind_all (below i) c false))
 
 -- a range was painted as members
-pub range_painted : (old new : Painting) (r : CodePointRange) → new.complemented ≡ old.complemented →
+pub range_painted : (old new : Painting) (r : CodePointRange) → new.complemented ≡ old.complemented → new.layers.items ≡ old.layers.items →
     new.ranges.items ≡ old.ranges.items ++ record { range = r; member = not old.complemented } ∷ [] →
     (c : ℕ) → in_painting new c ≡ (in_painting old c || in_code_points r c)
 unfolding in_painting seen
-range_painted old new r kept more c =
-    (λ i. seen (kept i) (is_code_point c) (painted (more i) c false))
-    ∙ (ap (seen old.complemented (is_code_point c)) (painted_more old.ranges.items (record { range = r; member = not old.complemented }) c false)
-    ∙ seen_range old.complemented (in_range r c) (is_code_point c) (painted old.ranges.items c false))
+range_painted old new r kept below more c =
+    let b = behind_all old.layers.items c false in
+    (λ i. seen (kept i) (is_code_point c) (painted (more i) c (behind_all (below i) c false)))
+    ∙ (ap (seen old.complemented (is_code_point c)) (painted_more old.ranges.items (record { range = r; member = not old.complemented }) c b)
+    ∙ seen_range old.complemented (in_range r c) (is_code_point c) (painted old.ranges.items c b))
 
-within_step : (inside code member b : Bool) → (b && code) ≡ b → ((if inside && code then member else b) && code) ≡ (if inside && code then member else b)
-within_step true true true b h = refl
-within_step true true false b h = refl
-within_step true false member b h = h
-within_step false code member b h = h
+-- the ranges became a layer
+pub painting_settled : (old new : Painting) (l : Layer) → new.complemented ≡ old.complemented → new.ranges.items ≡ [] →
+    IsPutOnto old.layers.items l new.layers.items → ((c : ℕ) (b : Bool) → behind l c b ≡ painted old.ranges.items c b) →
+    (c : ℕ) → in_painting new c ≡ in_painting old c
+unfolding in_painting seen
+painting_settled old new l kept none put is c =
+    (λ i. seen (kept i) (is_code_point c) (painted (none i) c (behind_all new.layers.items c false)))
+    ∙ ap (seen old.complemented (is_code_point c)) (put c false ∙ is c (behind_all old.layers.items c false))
 
-painted_within : (ps : List PaintedRange) (c : ℕ) (b : Bool) → (b && is_code_point c) ≡ b → (painted ps c b && is_code_point c) ≡ painted ps c b
-painted_within [] c b h = h
-painted_within (p ∷ ps) c b h =
-    painted_within ps c (if in_code_points p.range c then p.member else b) (within_step (in_range p.range c) (is_code_point c) p.member b h)
+-- a set was painted as a layer, as members
+pub layer_painted : (old new : Painting) (l : Layer) (set : List ℕ) → new.complemented ≡ old.complemented → old.ranges.items ≡ [] →
+    new.ranges.items ≡ [] → IsPutOnto old.layers.items l new.layers.items →
+    ((c : ℕ) (b : Bool) → behind l c b ≡ (if contains set c then not old.complemented else b)) →
+    (c : ℕ) → (contains set c && is_code_point c) ≡ contains set c → in_painting new c ≡ (in_painting old c || contains set c)
+unfolding in_painting seen
+layer_painted old new l set kept none still put is c within =
+    let b = behind_all old.layers.items c false in
+    (λ i. seen (kept i) (is_code_point c) (painted (still i) c (behind_all new.layers.items c false)))
+    ∙ (ap (seen old.complemented (is_code_point c)) (put c false ∙ is c b)
+    ∙ (seen_set old.complemented (contains set c) (is_code_point c) b within
+    ∙ ap (λ rs. seen old.complemented (is_code_point c) (painted rs c b) || contains set c) (sym none)))
 
-seen_within : (complemented code b : Bool) → (b && code) ≡ b → (seen complemented code b && code) ≡ seen complemented code b
-unfolding seen
-seen_within true true true h = refl
-seen_within true true false h = refl
-seen_within true false b h = refl
-seen_within false code b h = h
+within_code : (code b : Bool) → ((code && b) && code) ≡ (code && b)
+within_code true true = refl
+within_code true false = refl
+within_code false b = refl
 
 -- the members of a set in the making are code points
 pub painting_within : (s : Painting) (c : ℕ) → (in_painting s c && is_code_point c) ≡ in_painting s c
-unfolding in_painting seen
-painting_within s c = seen_within s.complemented (is_code_point c) (painted s.ranges.items c false) (painted_within s.ranges.items c false refl)
+unfolding in_painting
+painting_within s c = within_code (is_code_point c) (differ s.complemented (painted s.ranges.items c (behind_all s.layers.items c false)))
 
-seen_other_way : (complemented code b : Bool) → (b && code) ≡ b → seen (not complemented) code b ≡ (code && not (seen complemented code b))
+seen_other_way : (complemented code b : Bool) → seen (not complemented) code b ≡ (code && not (seen complemented code b))
 unfolding seen
-seen_other_way true true true h = refl
-seen_other_way true true false h = refl
-seen_other_way true false true h = sym h
-seen_other_way true false false h = refl
-seen_other_way false code b h = refl
+seen_other_way true true true = refl
+seen_other_way true true false = refl
+seen_other_way false true b = refl
+seen_other_way complemented false b = refl
 
 -- the other way round
-pub painting_complemented : (old new : Painting) → new.complemented ≡ not old.complemented → new.ranges.items ≡ old.ranges.items →
-    (c : ℕ) → in_painting new c ≡ (is_code_point c && not (in_painting old c))
+pub painting_complemented : (old new : Painting) → new.complemented ≡ not old.complemented → new.layers.items ≡ old.layers.items →
+    new.ranges.items ≡ old.ranges.items → (c : ℕ) → in_painting new c ≡ (is_code_point c && not (in_painting old c))
 unfolding in_painting seen
-painting_complemented old new turned kept c =
-    (λ i. seen (turned i) (is_code_point c) (painted (kept i) c false))
-    ∙ seen_other_way old.complemented (is_code_point c) (painted old.ranges.items c false) (painted_within old.ranges.items c false refl)
+painting_complemented old new turned below kept c =
+    (λ i. seen (turned i) (is_code_point c) (painted (kept i) c (behind_all (below i) c false)))
+    ∙ seen_other_way old.complemented (is_code_point c) (painted old.ranges.items c (behind_all old.layers.items c false))
 
 removed_step : (code x y : Bool) → (x && code) ≡ x → (code && not ((code && not x) || y)) ≡ (x && not y)
 removed_step true true y h = refl
@@ -140,20 +156,23 @@ on_equal m n f = elim (cases_Bool (eqb m n)) [
   | inr is ↦ rw is tt
 ]
 
--- all ranges were painted as members
-pub plain : (s : Painting) (n len : ℕ) → len ≡ length s.ranges.items → s.complemented ≡ false → ((c : ℕ) (b : Bool) → painted (take n s.ranges.items) c b ≡ (b || covered (take n s.ranges.items) c)) →
+covered_step : (inside code rest : Bool) → (code && rest) ≡ rest → (code && ((inside && code) || rest)) ≡ ((inside && code) || rest)
+covered_step inside true rest h = refl
+covered_step true false rest h = h
+covered_step false false rest h = h
+
+-- ranges cover code points alone
+covered_within : (ps : List PaintedRange) (c : ℕ) → (is_code_point c && covered ps c) ≡ covered ps c
+covered_within [] c = and-false (is_code_point c)
+covered_within (p ∷ ps) c = covered_step (in_range p.range c) (is_code_point c) (covered ps c) (covered_within ps c)
+
+-- there are no layers, and all ranges were painted as members
+pub plain : (s : Painting) (n len : ℕ) → len ≡ length s.ranges.items → s.layers.items ≡ [] → s.complemented ≡ false →
+    ((c : ℕ) (b : Bool) → painted (take n s.ranges.items) c b ≡ (b || covered (take n s.ranges.items) c)) →
     OnTrue (eqb n len) ((c : ℕ) → in_painting s c ≡ covered s.ranges.items c)
 unfolding in_painting seen
-plain s n len all_of straight members = on_equal n len (λ e c.
+plain s n len all_of none straight members = on_equal n len (λ e c.
     let all = take_all n s.ranges.items (omega (arith, e, all_of)) in
-    (λ i. seen (straight i) (is_code_point c) (painted (sym all i) c false)) ∙ (members c false ∙ ap (λ ps. covered ps c) all))
-
--- a complemented set has what the set of its ranges lacks
-pub painting_outside : (s : Painting) (set : List ℕ) (c : ℕ) → s.complemented ≡ true → contains set c ≡ painted s.ranges.items c false → is_outside set c ≡ in_painting s c
-unfolding in_painting seen
-painting_outside s set c turned flat = ap (λ b. is_code_point c && not b) flat ∙ ap (λ f. seen f (is_code_point c) (painted s.ranges.items c false)) (sym turned)
-
--- any other has what the set of its ranges has
-pub painting_inside : (s : Painting) (set : List ℕ) (c : ℕ) → s.complemented ≡ false → contains set c ≡ painted s.ranges.items c false → contains set c ≡ in_painting s c
-unfolding in_painting seen
-painting_inside s set c straight flat = flat ∙ ap (λ f. seen f (is_code_point c) (painted s.ranges.items c false)) (sym straight)
+    (λ i. seen (straight i) (is_code_point c) (painted (sym all i) c (behind_all (none i) c false)))
+    ∙ (ap (λ b. is_code_point c && b) (members c false ∙ ap (λ ps. covered ps c) all)
+    ∙ covered_within s.ranges.items c))

@@ -1,7 +1,7 @@
 -- Sets of code points in the making: what was painted, and the layers that are made of it.
 use Rattle.std.specs.Prelude.{◌≡◌, ℕ, Bool, false, not, ◌&&◌, ◌||◌, if◌then◌else◌, List, [], ◌∷◌}
 use Rattle.std.specs.List.{list_any}
-use Rattle.cp_invlist.specs.InversionList.{contains, is_code_point}
+use Rattle.cp_invlist.specs.InversionList.{contains, differ, is_code_point}
 use Rattle.cp_invlist.specs.Ranges.{in_code_points}
 use Rattle.cp_invlist.specs.declared.ranges.CodePointRange.{CodePointRange}
 use Rattle.uset_gather.specs.declared.painting.PaintedRange.{PaintedRange}
@@ -35,11 +35,6 @@ in_run r c = contains r.builder c || in_some r.aside.items c
 abbrev pub painted_alike : Run → Bool → ℕ → Bool → Bool
 painted_alike r member c b = if in_run r c then member else b
 
--- whether the code point is in the set that was painted
-unfoldable pub in_painting : Painting → ℕ → Bool
-in_painting s c = if s.complemented then is_code_point c && not (painted s.ranges.items c false)
-    else painted s.ranges.items c false
-
 -- whether a code point is a member behind the layer, where the Bool says whether it was one below
 abbrev pub behind : Layer → ℕ → Bool → Bool
 behind l c b = contains l.added c || (b && not (contains l.removed c))
@@ -48,6 +43,11 @@ behind l c b = contains l.added c || (b && not (contains l.removed c))
 abbrev pub behind_all : List Layer → ℕ → Bool → Bool
 behind_all [] c b = b
 behind_all (l ∷ ls) c b = behind_all ls c (behind l c b)
+
+-- Whether the code point is in the set that was painted: where it is not complemented, if the ranges, painted over the layers, make
+-- it a member, and else if they don't.
+unfoldable pub in_painting : Painting → ℕ → Bool
+in_painting s c = is_code_point c && differ s.complemented (painted s.ranges.items c (behind_all s.layers.items c false))
 
 -- the layer was put onto the others
 abbrev pub IsPutOnto : List Layer → Layer → List Layer → Type 0

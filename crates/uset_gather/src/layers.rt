@@ -1,5 +1,5 @@
 //! Layers: what painted ranges make of a set, and how many of them become one.
-ghost use Rattle.std.specs.Prelude.{◌≡◌, ◌≤◌, ℕ, Bool, false, IfOk, OnOk, IfNone, option_to_list, [], ◌++◌, length, take};
+ghost use Rattle.std.specs.Prelude.{◌≡◌, ◌≤◌, ℕ, Bool, false, if◌then◌else◌, IfOk, OnOk, IfNone, option_to_list, [], ◌++◌, length, take};
 ghost use Rattle.cp_invlist.specs.InversionList.{contains};
 ghost use Rattle.uset_gather.specs.Painting.{in_changed, AreMembers, IsPutOnto, painted, painted_alike, behind, behind_all};
 
@@ -16,6 +16,31 @@ pub(crate) struct Layer {
     added: CodePointInversionListBuilder,
     /// How many ranges it was made of.
     size: usize,
+}
+
+impl Layer {
+    /// The layer of a set of about so many ranges that is painted: as members, or as no members.
+    pub(crate) fn new(
+        alloc: Global,
+        set: CodePointInversionListBuilder,
+        size: usize,
+        member: bool,
+    ) -> Layer
+        ensures { (c : ℕ) (b : Bool) → behind result c b ≡ (if contains set c then member else b) }
+    {
+        let none = CodePointInversionListBuilder::new(alloc);
+        let (removed, added) = if member { (none, set) } else { (set, none) };
+        Layer {
+            removed,
+            added,
+            size,
+        }
+    }
+}
+
+/// About how many ranges the layers were made of: the lowest of as many as all others together, or more.
+pub(crate) fn size_of(layers: &[Layer]) -> usize {
+    layers.first().map_or(0, |lowest| lowest.size)
 }
 
 /// The set without one set, and with another.
@@ -42,7 +67,9 @@ fn over(lower: Layer, upper: Layer) -> Result<Layer, NoMemory>
 {
     let covered = upper.removed.build();
     let mut removed = lower.removed;
-    removed.add_set(&covered)?;
+    if !covered.is_empty() {
+        removed.add_set(&covered)?;
+    }
     Ok(Layer {
         removed,
         added: without_and_with(lower.added, &covered, upper.added)?,
@@ -52,7 +79,7 @@ fn over(lower: Layer, upper: Layer) -> Result<Layer, NoMemory>
 
 /// Puts the layer onto the others. It is merged with the one below as long as that one isn't at least twice
 /// as large: so there are few layers, and each range is merged a logarithm of times.
-fn push(layers: &mut Vec<Layer>, layer: Layer) -> Result<(), NoMemory>
+pub(crate) fn push(layers: &mut Vec<Layer>, layer: Layer) -> Result<(), NoMemory>
     ensures { OnOk result (IsPutOnto layers.old.items layer layers.new.items) }
 {
     let mut top = layer;
@@ -82,22 +109,8 @@ fn merged(mut layers: Vec<Layer>, last: Layer) -> Result<Layer, NoMemory>
 fn layer_of(alloc: Global, run: Run, member: bool) -> Result<Layer, NoMemory>
     ensures { IfOk result (λ layer. (c : ℕ) (b : Bool) → behind layer c b ≡ painted_alike run member c b) }
 {
-    let none = CodePointInversionListBuilder::new(alloc);
     let size = run.len();
-    let set = run.into_builder()?;
-    Ok(if member {
-        Layer {
-            removed: none,
-            added: set,
-            size,
-        }
-    } else {
-        Layer {
-            removed: set,
-            added: none,
-            size,
-        }
-    })
+    Ok(Layer::new(alloc, run.into_builder()?, size, member))
 }
 
 /// From this capacity on a list gives back the room that falls free.
@@ -116,7 +129,7 @@ fn take_last(ranges: &mut Vec<PaintedRange>) -> Option<PaintedRange>
 }
 
 /// The layer of ranges in the order in which they were painted. Their room is given back while it is made.
-fn layered(alloc: Global, mut ranges: Vec<PaintedRange>) -> Result<Layer, NoMemory>
+pub(crate) fn layered(alloc: Global, mut ranges: Vec<PaintedRange>) -> Result<Layer, NoMemory>
     ensures { IfOk result (λ layer. (c : ℕ) (b : Bool) → behind layer c b ≡ painted ranges.items c b) }
 {
     let mut layers = Vec::new(alloc);
@@ -134,14 +147,15 @@ fn layered(alloc: Global, mut ranges: Vec<PaintedRange>) -> Result<Layer, NoMemo
     merged(layers, layer_of(alloc, run, member)?)
 }
 
-/// The set of ranges in the order in which they were painted: what their layer makes of no members.
+/// The set that layers, and over them ranges in the order in which they were painted, make of no members.
 pub(crate) fn flattened(
     alloc: Global,
+    layers: Vec<Layer>,
     ranges: Vec<PaintedRange>,
 ) -> Result<CodePointInversionListBuilder, NoMemory>
-    ensures { IfOk result (λ set. (c : ℕ) → contains set c ≡ painted ranges.items c false) }
+    ensures { IfOk result (λ set. (c : ℕ) → contains set c ≡ painted ranges.items c (behind_all layers.items c false)) }
 {
-    Ok(layered(alloc, ranges)?.added)
+    Ok(merged(layers, layered(alloc, ranges)?)?.added)
 }
 
 /// How many ranges at the front are painted as members: all before the first that isn't.

@@ -1,15 +1,22 @@
 //! The code points of a set in the making.
-use crate::layers::{flattened, members_in_front};
+ghost use Rattle.std.specs.Prelude.{◌≡◌, ℕ, IfOk};
+ghost use Rattle.cp_invlist.specs.InversionList.{contains};
+ghost use Rattle.cp_invlist.specs.Ranges.{is_outside};
+
+use crate::layers::{Layer, flattened, layered, members_in_front, push, size_of};
 use cp_invlist::laws::{members_are_code_points, ranges_hold_members};
-use cp_invlist::{CodePointInversionList, CodePointRange, NoMemory};
+use cp_invlist::{CodePointInversionList, CodePointInversionListBuilder, CodePointRange, NoMemory};
 use std::alloc::Global;
 use std::mem::{replace, swap};
 
-/// Sets of at most so many ranges are painted without a limit: a pattern that joins one is as long as its ranges.
+/// Sets of at most so many ranges are painted without a limit: a pattern that joins one is about as long as its ranges.
 const FEW: usize = 8;
 
-/// How many ranges of larger sets are painted at first before all that was painted becomes one set.
-const ALLOWANCE: usize = 4096;
+/// A set of more ranges becomes a layer at once, since copying its list takes less time than painting its ranges one by one.
+const MANY: usize = 32;
+
+/// From so many painted ranges on they become a layer before those of a set that isn't few are painted.
+const FULL: usize = 4096;
 
 /// A range of code points that was painted: as members, or as no members.
 #[derive(Clone, Copy)]
@@ -18,21 +25,46 @@ pub(crate) struct PaintedRange {
     pub(crate) member: bool,
 }
 
-/// A set of code points in the making: the ranges in the order in which they were painted. The last that
-/// covers a code point says whether it is a member, and one that none covers is no member. Where the
-/// painting is complemented, it is the other way round. Nothing is merged before the set is needed, or many more ranges
-/// of large sets were painted than all of them make.
+/// A set of code points in the making: layers, and over them the ranges in the order in which they were painted. The last range
+/// that covers a code point says whether it is a member, or where none does what the layers make of it. Where the
+/// painting is complemented, it is the other way round. Ranges aren't merged before the set is needed, or a large set is painted
+/// over them: its list becomes a layer, and layers are merged so that each of its ranges is a logarithm of times.
 #[derive(Drop)]
 pub(crate) struct Painting {
     alloc: Global,
+    /// What was painted first, the lowest in front.
+    layers: Vec<Layer>,
+    /// What was painted over the layers, the first in front.
     ranges: Vec<PaintedRange>,
     complemented: bool,
-    /// How many ranges of large sets may still be painted before all that was painted becomes one set.
-    allowance: usize,
+}
+
+/// A copy of the set.
+fn copied(
+    alloc: Global,
+    set: &CodePointInversionList,
+) -> Result<CodePointInversionListBuilder, NoMemory>
+    ensures { IfOk result (λ copy. (c : ℕ) → contains copy c ≡ contains set.now c) }
+{
+    let mut copy = CodePointInversionListBuilder::new(alloc);
+    copy.add_set(set)?;
+    Ok(copy)
+}
+
+/// The code points that aren't in the set.
+fn outside(
+    alloc: Global,
+    set: &CodePointInversionList,
+) -> Result<CodePointInversionListBuilder, NoMemory>
+    ensures { IfOk result (λ others. (c : ℕ) → contains others c ≡ is_outside set.now c) }
+{
+    let mut others = copied(alloc, set)?;
+    others.complement()?;
+    Ok(others)
 }
 
 impl Painting {
-    ghost use Rattle.std.specs.Prelude.{◌≡◌, ℕ, ◌||◌, ◌&&◌, not, false, IfOk, OnOk};
+    ghost use Rattle.std.specs.Prelude.{◌≡◌, ℕ, ◌||◌, ◌&&◌, not, false, [], IfOk, OnOk};
     ghost use Rattle.cp_invlist.specs.InversionList.{contains, is_code_point};
     ghost use Rattle.cp_invlist.specs.Ranges.{in_code_points, is_outside};
     ghost use Rattle.uset_gather.specs.Painting.{in_painting, covered};
@@ -45,36 +77,48 @@ impl Painting {
     {
         Painting {
             alloc,
+            layers: Vec::new(alloc),
             ranges: Vec::new(alloc),
             complemented: false,
-            allowance: ALLOWANCE,
         }
     }
 
-    /// Makes way for so many ranges of a set: all that was painted becomes one set where they would be too many. So a large set
-    /// that is joined again and again isn't kept as often.
+    /// About how many ranges were painted.
+    fn size(&self) -> usize {
+        size_of(&self.layers).saturating_add(self.ranges.len())
+    }
+
+    /// Makes a layer of the ranges that were painted.
+    fn settle(&mut self) -> Result<(), NoMemory>
+        ensures same { OnOk result ((c : ℕ) → in_painting self.new c ≡ in_painting self.old c) }
+        ensures settled { OnOk result (self.new.ranges.items ≡ []) }
+    {
+        if self.ranges.is_empty() {
+            return Ok(());
+        }
+        let ranges = replace(&mut self.ranges, Vec::new(self.alloc));
+        let layer = layered(self.alloc, ranges)?;
+        push(&mut self.layers, layer)
+    }
+
+    /// Paints a set of about so many ranges as a layer.
+    fn put_on(&mut self, set: CodePointInversionListBuilder, size: usize) -> Result<(), NoMemory>
+        ensures { OnOk result ((c : ℕ) → in_painting self.new c ≡ (in_painting self.old c || contains set c)) }
+    {
+        members_are_code_points();
+        self.settle()?;
+        let layer = Layer::new(self.alloc, set, size, !self.complemented);
+        push(&mut self.layers, layer)
+    }
+
+    /// Makes a layer of what was painted where so many ranges more would be too many: one name in a pattern may stand for all of
+    /// them.
     fn make_way(&mut self, count: usize) -> Result<(), NoMemory>
         ensures { OnOk result ((c : ℕ) → in_painting self.new c ≡ in_painting self.old c) }
     {
-        if count <= FEW {
-            return Ok(());
-        }
-        if self.allowance < count {
+        if count > FEW && self.ranges.len() >= FULL {
             return self.settle();
         }
-        self.allowance -= count;
-        Ok(())
-    }
-
-    /// Makes one set of all that was painted. Twice as many ranges as it has, and at least 4096, may be painted before it is
-    /// made anew.
-    fn settle(&mut self) -> Result<(), NoMemory>
-        ensures { OnOk result ((c : ℕ) → in_painting self.new c ≡ in_painting self.old c) }
-    {
-        let empty = Painting::new(self.alloc);
-        let set = replace(self, empty).into_set()?;
-        self.paint_set(&set)?;
-        self.allowance = ALLOWANCE.max(set.get_inversion_list().len());
         Ok(())
     }
 
@@ -93,7 +137,11 @@ impl Painting {
     pub(crate) fn add_set(&mut self, set: &CodePointInversionList) -> Result<(), NoMemory>
         ensures { OnOk result ((c : ℕ) → in_painting self.new c ≡ (in_painting self.old c || contains set.now c)) }
     {
-        self.make_way(set.get_inversion_list().len() / 2)?;
+        let count = set.get_inversion_list().len() / 2;
+        if count > MANY {
+            return self.put_on(copied(self.alloc, set)?, count);
+        }
+        self.make_way(count)?;
         self.paint_set(set)
     }
 
@@ -114,7 +162,11 @@ impl Painting {
     pub(crate) fn add_outside(&mut self, set: &CodePointInversionList) -> Result<(), NoMemory>
         ensures { OnOk result ((c : ℕ) → in_painting self.new c ≡ (in_painting self.old c || is_outside set.now c)) }
     {
-        self.make_way(set.get_inversion_list().len() / 2)?;
+        let count = set.get_inversion_list().len() / 2;
+        if count > MANY {
+            return self.put_on(outside(self.alloc, set)?, count);
+        }
+        self.make_way(count)?;
         self.paint_outside(set)
     }
 
@@ -140,7 +192,7 @@ impl Painting {
     pub(crate) fn join(&mut self, mut other: Painting) -> Result<(), NoMemory>
         ensures { OnOk result ((c : ℕ) → in_painting self.new c ≡ (in_painting self.old c || in_painting other c)) }
     {
-        if self.ranges.len() < other.ranges.len() {
+        if self.size() < other.size() {
             swap(self, &mut other);
         }
         self.paint(other)
@@ -153,19 +205,21 @@ impl Painting {
         if other.is_plain() {
             return self.add_ranges(&other.ranges);
         }
-        let complemented = other.complemented;
-        let set = flattened(other.alloc, other.ranges)?.build();
-        if complemented {
-            self.add_outside(&set)
-        } else {
-            self.add_set(&set)
+        let size = other.size();
+        let set = other.into_builder()?;
+        if size > FEW {
+            return self.put_on(set, size);
         }
+        self.paint_set(&set.build())
     }
 
     /// Whether the set is that of all its ranges.
     fn is_plain(&self) -> bool
         ensures { OnTrue result ((c : ℕ) → in_painting self.now c ≡ covered self.now.ranges.items c) }
     {
+        if !self.layers.is_empty() {
+            return false;
+        }
         !self.complemented && members_in_front(&self.ranges) == self.ranges.len()
     }
 
@@ -227,15 +281,23 @@ impl Painting {
         self.remove(other)
     }
 
-    /// The set that was painted.
+    /// The set that was painted, still in a builder.
     #[tactic(auto, unfolding(crate::specs::Painting::in_painting))]
+    fn into_builder(self) -> Result<CodePointInversionListBuilder, NoMemory>
+        ensures { IfOk result (λ set. (c : ℕ) → contains set c ≡ in_painting self c) }
+    {
+        members_are_code_points();
+        let mut set = flattened(self.alloc, self.layers, self.ranges)?;
+        if self.complemented {
+            set.complement()?;
+        }
+        Ok(set)
+    }
+
+    /// The set that was painted.
     pub(crate) fn into_set(self) -> Result<CodePointInversionList, NoMemory>
         ensures { IfOk result (λ set. (c : ℕ) → contains set c ≡ in_painting self c) }
     {
-        let mut builder = flattened(self.alloc, self.ranges)?;
-        if self.complemented {
-            builder.complement()?;
-        }
-        Ok(builder.build())
+        Ok(self.into_builder()?.build())
     }
 }

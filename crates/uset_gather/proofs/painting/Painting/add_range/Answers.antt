@@ -3,4 +3,4 @@ use Rattle.uset_gather.proofs.PaintingLemmas.{range_painted}
 use Rattle.uset_gather.proofs.painting.Painting.add_range.Goals as goal
 
 pub returns : goal.returns
-returns c = range_painted c.args.self.now _ c.args.range refl c.in_ok-push.ensures.items
+returns c = range_painted c.args.self.now _ c.args.range refl refl c.in_ok-push.ensures.items

@@ -3,4 +3,4 @@ use Rattle.uset_gather.proofs.PaintingLemmas.{painting_complemented}
 use Rattle.uset_gather.proofs.painting.Painting.complement.Goals as goal
 
 pub returns : goal.returns
-returns c = painting_complemented c.args.self.now _ refl refl
+returns c = painting_complemented c.args.self.now _ refl refl refl

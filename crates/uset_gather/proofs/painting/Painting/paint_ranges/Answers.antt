@@ -15,7 +15,7 @@ covered_more ranges i c d old so_far new inside is was =
     is ∙ (ap (λ b. b || at) was ∙ (or_assoc old (covered (take i ranges) c) at ∙ ap (λ b. old || b) (sym (list_any_more (λ p. in_code_points p.range c) ranges i d inside))))
 
 pub loop-painted-init : goal.loop-painted-init
-loop-painted-init c = λ d. painting_same c.args.self.now _ refl c.in_ok-reserve.ensures.items d ∙ sym (or-false (in_painting c.args.self.now d))
+loop-painted-init c = λ d. painting_same c.args.self.now _ refl refl c.in_ok-reserve.ensures.items d ∙ sym (or-false (in_painting c.args.self.now d))
 
 pub loop-painted-preserved : goal.loop-painted-preserved
 loop-painted-preserved c = λ d.

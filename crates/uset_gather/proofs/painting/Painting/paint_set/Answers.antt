@@ -11,7 +11,7 @@ use Rattle.std.proofs.Math.Bool.{or-false}
 pub loop-range-init : goal.loop-range-init
 loop-range-init c = (
   rw c.into_iter-range-iterator.ensures.into_iter_gives c.iter_ranges-range-items.ensures.maximal,
-  λ d. painting_same c.args.self.now _ refl c.in_ok-reserve.ensures.items d ∙ sym (or-false (in_painting c.args.self.now d)),
+  λ d. painting_same c.args.self.now _ refl refl c.in_ok-reserve.ensures.items d ∙ sym (or-false (in_painting c.args.self.now d)),
 )
 
 pub loop-range-preserved : goal.loop-range-preserved
