@@ -6,11 +6,15 @@ use Rattle.std.proofs.lemmas.List.{take-append-drop, drop_all, length-take-le, a
 use Rattle.std.proofs.lemmas.List.Elements.{All-weaker, All-push, All-head, All-tail}
 use Rattle.cp_invlist.specs.InversionList.{differ, contains, ascends_from, has_even_length, IsInversionList}
 use Rattle.std.specs.List.{slice_get}
-use Rattle.cp_invlist.specs.Merge.{keeps, inside_behind, turns_first, turns_second, turned_list, extended}
+use Rattle.cp_invlist.specs.Merge.{keeps, inside_behind, turns_first, turns_second, turns_both, extended}
 use Rattle.cp_invlist.specs.declared.merge.Operation.{Operation}
 use Rattle.cp_invlist.specs.declared.merge.Operation.TheVariants.{Union, Difference, Intersection}
 use Rattle.cp_invlist.proofs.Lists.{ascends_from-parts, ascends_from-cons, ascends_from-lower, ascends_from-append, contains-append, contains-below, contains-all_at_most, has_even_length-append, IsInversionList-from}
 use Rattle.cp_invlist.proofs.Partition.{odd_length, differ-false}
+
+-- a list with the number put behind it where that turns whether its end is inside
+abbrev turned_list : List ℕ → ℕ → Bool → List ℕ
+turned_list xs x b = if differ (has_even_length xs) b then xs else xs ++ x ∷ []
 
 -- What is left of a list from a number on: whether that number stands inside the set, and which numbers from it on are members.
 pub record Tracks (whole rest : List ℕ) (inside : Bool) (n : ℕ) : Type 0 where
@@ -250,13 +254,6 @@ Walks-members op first second out a b w d = elim (cases_lt d w.at) [
       ∙ ap₂ (keeps op) (sym (w.first_track.members d new ∙ differ-false a)) (sym (w.second_track.members d new ∙ differ-false b))
 ]
 
--- a list whose end is as it is to be, and one whose end turns
-pub turned_list-kept : (xs : List ℕ) (x : ℕ) (b : Bool) → (length xs % 2 == 1) ≡ b → turned_list xs x b ≡ xs
-turned_list-kept xs x b h = cond-true _ _ _ (kept_parity (has_even_length xs) b (odd_length xs ∙ h))
-
-pub turned_list-pushed : (xs : List ℕ) (x : ℕ) (b : Bool) → (length xs % 2 == 1) ≡ not b → turned_list xs x b ≡ xs ++ x ∷ []
-turned_list-pushed xs x b h = cond-false _ _ _ (turned_parity (has_even_length xs) b (odd_length xs ∙ h))
-
 -- all elements of a stretch are below the first of a list
 abbrev pub AreBelowFirst : List ℕ → List ℕ → Type 0
 AreBelowFirst xs [] = Unit {0}
@@ -314,6 +311,36 @@ turned_list-second Intersection out true true x h = rw h refl
 turned_list-second Intersection out true false x h = rw h refl
 turned_list-second Intersection out false true x h = rw h refl
 turned_list-second Intersection out false false x h = rw h refl
+
+turned_list-both : (op : Operation) (out : List ℕ) (a b : Bool) (x : ℕ) → has_even_length out ≡ not (keeps op a b) →
+    turned_list out x (keeps op (not a) (not b)) ≡ extended out (x ∷ []) (turns_both op a b)
+turned_list-both Union out true true x h = rw h refl
+turned_list-both Union out true false x h = rw h refl
+turned_list-both Union out false true x h = rw h refl
+turned_list-both Union out false false x h = rw h refl
+turned_list-both Difference out true true x h = rw h refl
+turned_list-both Difference out true false x h = rw h refl
+turned_list-both Difference out false true x h = rw h refl
+turned_list-both Difference out false false x h = rw h refl
+turned_list-both Intersection out true true x h = rw h refl
+turned_list-both Intersection out true false x h = rw h refl
+turned_list-both Intersection out false true x h = rw h refl
+turned_list-both Intersection out false false x h = rw h refl
+
+differ-commutes : (x y : Bool) → differ x y ≡ differ y x
+differ-commutes true true = refl
+differ-commutes true false = refl
+differ-commutes false true = refl
+differ-commutes false false = refl
+
+not_not : (a : Bool) → not (not a) ≡ a
+not_not true = refl
+not_not false = refl
+
+-- behind an element of both lists the merged list turns at the next one as it did there
+turns_both-next : (op : Operation) (a b : Bool) → turns_both op (not a) (not b) ≡ turns_both op a b
+turns_both-next op a b =
+    ap₂ (λ x y. differ (keeps op (not a) (not b)) (keeps op x y)) (not_not a) (not_not b) ∙ differ-commutes (keeps op (not a) (not b)) (keeps op a b)
 
 extended-none : (out : List ℕ) (t : Bool) → extended out [] t ≡ out
 extended-none out true = append-nil out
@@ -375,20 +402,34 @@ Walks-second op first second left right out right' out' a b b' n w below er eb e
     let whole = subst (λ (r : List ℕ). Walks op first second left r out a b) (sym (take-append-drop n right)) w in
     rw (er, eb, eo) (stretch_second op first second (take n right) left (drop n right) out a b whole below)
 
--- an element of both lists is taken
-pub Walks-both : (op : Operation) (first second left right out left' right' out' : List ℕ) (a b a' b' k : Bool) (x : ℕ) →
-    Walks op first second left right out a b → slice_get left 0 ≡ Some x → slice_get right 0 ≡ Some x →
-    left' ≡ drop 1 left → right' ≡ drop 1 right → a' ≡ inside_behind (take 1 left) a → b' ≡ inside_behind (take 1 right) b →
-    k ≡ keeps op a' b' → out' ≡ turned_list out x k → Walks op first second left' right' out' a' b'
-Walks-both op first second [] right out left' right' out' a b a' b' k x w fl fr el er ea eb ek eo = cc
-Walks-both op first second (y ∷ ys) [] out left' right' out' a b a' b' k x w fl fr el er ea eb ek eo = cc
-Walks-both op first second (y ∷ ys) (z ∷ zs) out left' right' out' a b a' b' k x w fl fr el er ea eb ek eo =
-    let yx : y ≡ x = cc in
-    let zx : z ≡ x = cc in
-    let lowest : IsLowest x (y ∷ ys) (z ∷ zs) = record { first = omega arith; second = omega arith; there = inl (sym yx) } in
-    let step = Walks-step op first second (y ∷ ys) (z ∷ zs) out a b x w lowest in
-    let passed = rw (eq-eqb x y (sym yx), eq-eqb x z (sym zx)) at step in
-    rw (el, er, eo, ek, ea, eb) passed
+-- a stretch of both lists
+stretch_both : (op : Operation) (first second xs left right out : List ℕ) (a b : Bool) → Walks op first second (xs ++ left) (xs ++ right) out a b →
+    Walks op first second left right (extended out xs (turns_both op a b)) (inside_behind xs a) (inside_behind xs b)
+stretch_both op first second [] left right out a b w = rw (extended-none out (turns_both op a b)) w
+stretch_both op first second (x ∷ xs) left right out a b w =
+    let lowest : IsLowest x (x ∷ xs ++ left) (x ∷ xs ++ right) = record { first = omega arith; second = omega arith; there = inl refl } in
+    let step = Walks-step op first second (x ∷ xs ++ left) (x ∷ xs ++ right) out a b x w lowest in
+    let passed = rw (
+      elements_behind-same x (xs ++ left),
+      elements_behind-same x (xs ++ right),
+      turned_at-same x (xs ++ left) a,
+      turned_at-same x (xs ++ right) b,
+      turned_list-both op out a b x w.merged.even,
+    ) at step in
+    let rest = stretch_both op first second xs left right (extended out (x ∷ []) (turns_both op a b)) (not a) (not b) passed in
+    rw (sym (extended-push out xs x (turns_both op a b))) (rw (turns_both-next op a b) at rest)
+
+-- so many elements that both lists have are taken
+pub Walks-both : (op : Operation) (first second left right out left' right' out' : List ℕ) (a b a' b' : Bool) (n : ℕ) →
+    Walks op first second left right out a b → take n left ≡ take n right → left' ≡ drop n left → right' ≡ drop n right →
+    a' ≡ inside_behind (take n left) a → b' ≡ inside_behind (take n right) b → out' ≡ extended out (take n left) (turns_both op a b) →
+    Walks op first second left' right' out' a' b'
+Walks-both op first second left right out left' right' out' a b a' b' n w same el er ea eb eo =
+    let one = subst (λ (l : List ℕ). Walks op first second l right out a b) (sym (take-append-drop n left)) w in
+    let front = sym (take-append-drop n right) ∙ ap (λ t. t ++ drop n right) (sym same) in
+    let both = subst (λ (r : List ℕ). Walks op first second (take n left ++ drop n left) r out a b) front one in
+    let turned_second : b' ≡ inside_behind (take n left) b = eb ∙ ap (λ t. inside_behind t b) (sym same) in
+    rw (el, er, ea, turned_second, eo) (stretch_both op first second (take n left) (drop n left) (drop n right) out a b both)
 
 -- where a list has ended, each stretch of the other is below it
 pub AreBelowFirst-end : (xs ys : List ℕ) → slice_get ys 0 ≡ None → AreBelowFirst xs ys
@@ -429,18 +470,6 @@ Walks-list op first second out false true w = cc
 Walks-list op first second out false false w =
     IsInversionList-from out w.merged.ascends (w.merged.even ∙ elim op as (λ o. not (keeps o false false) ≡ true) [ Union ↦ refl | Difference ↦ refl | Intersection ↦ refl ])
 
-pub beq-other : (a b : Bool) → not (beq a b) ≡ true → a ≡ not b
-beq-other true true h = sym h
-beq-other true false h = refl
-beq-other false true h = refl
-beq-other false false h = h
-
-pub beq-same : (a b : Bool) → not (beq a b) ≡ false → a ≡ b
-beq-same true true h = refl
-beq-same true false h = h
-beq-same false true h = sym h
-beq-same false false h = refl
-
 pub beq-differ : (a b : Bool) → not (beq a b) ≡ differ a b
 beq-differ true true = refl
 beq-differ true false = refl
@@ -464,7 +493,7 @@ fewer-below (a ∷ xs) rest (suc n) m x y first lt behind is =
     let less : length rest < length (a ∷ xs) = omega (arith, ap length is, length-drop n xs) in
     (omega arith, omega arith)
 
--- and where the first of both lists is taken
-pub fewer-both : (xs ys rest rest' : List ℕ) (x : ℕ) → Some x ≡ slice_get xs 0 → rest ≡ drop 1 xs → rest' ≡ drop 1 ys → length rest + length rest' < length xs + length ys
-fewer-both [] ys rest rest' x first is is' = cc
-fewer-both (a ∷ xs) ys rest rest' x first is is' = omega (arith, ap length is, ap length is', length-drop 1 ys)
+-- and where some of both lists are taken
+pub fewer-both : (xs ys rest rest' : List ℕ) (n : ℕ) → 0 < n → n ≤ length xs → rest ≡ drop n xs → rest' ≡ drop n ys →
+    length rest + length rest' < length xs + length ys
+fewer-both xs ys rest rest' n some within is is' = omega (arith, ap length is, ap length is', length-drop n xs, length-drop n ys)

@@ -1,6 +1,6 @@
 -- How two sets are merged: a walk over the elements of both lists in order, which keeps count of whether it is inside each.
 use Rattle.std.specs.Prelude.{◌≡◌, ℕ, Bool, true, false, not, ◌&&◌, ◌||◌, if◌then◌else◌, List, [], ◌∷◌, ◌++◌}
-use Rattle.cp_invlist.specs.InversionList.{contains, differ, has_even_length}
+use Rattle.cp_invlist.specs.InversionList.{contains, differ}
 use Rattle.cp_invlist.specs.declared.merge.Operation.{Operation}
 use Rattle.cp_invlist.specs.declared.merge.Operation.TheVariants.{Union, Difference, Intersection}
 
@@ -27,9 +27,9 @@ turns_first operation b = differ (keeps operation true b) (keeps operation false
 abbrev pub turns_second : Operation → Bool → Bool
 turns_second operation a = differ (keeps operation a true) (keeps operation a false)
 
--- a list with the number put behind it where that turns whether its end is inside
-abbrev pub turned_list : List ℕ → ℕ → Bool → List ℕ
-turned_list xs x b = if differ (has_even_length xs) b then xs else xs ++ x ∷ []
+-- whether it turns where both lists do, by whether the walk is inside the first set and inside the second
+abbrev pub turns_both : Operation → Bool → Bool → Bool
+turns_both operation a b = differ (keeps operation a b) (keeps operation (not a) (not b))
 
 -- a list with these elements put behind it where it turns at each of them
 abbrev pub extended : List ℕ → List ℕ → Bool → List ℕ

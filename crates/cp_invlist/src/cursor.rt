@@ -1,5 +1,5 @@
 //! The only way to an element of a list that is merged.
-ghost use Rattle.std.specs.Prelude.{◌≡◌, ◌+◌, ◌<◌, ◌≤◌, false, length, take, drop, All, IfSome};
+ghost use Rattle.std.specs.Prelude.{◌≡◌, ◌+◌, ◌<◌, ◌≤◌, false, Some, length, take, drop, All, IfSome};
 ghost use Rattle.std.specs.List.{slice_get};
 ghost use Rattle.cp_invlist.specs.Merge.{inside_behind};
 
@@ -51,6 +51,23 @@ impl<'a> Cursor<'a> {
             }
         }
         self.rest.len()
+    }
+
+    /// How many elements both lists have in common at their fronts, of which this is the first.
+    pub(crate) fn count_equal(&self, other: &Cursor<'_>, first: u32) -> usize
+        requires own { slice_get self.now.rest.now 0 ≡ Some first }
+        requires its { slice_get other.now.rest.now 0 ≡ Some first }
+        ensures some { 0 < result }
+        ensures within_own { result ≤ length self.now.rest.now }
+        ensures within_its { result ≤ length other.now.rest.now }
+        ensures equal { take result self.now.rest.now ≡ take result other.now.rest.now }
+    {
+        let (own, its) = (self.rest, other.rest);
+        let mut count = 1;
+        'equal: while count < own.len() && count < its.len() && own[count] == its[count] {
+            count += 1;
+        }
+        count
     }
 
     /// Takes so many elements from the front.

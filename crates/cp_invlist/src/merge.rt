@@ -1,7 +1,7 @@
 //! The linear merge that union, difference and intersection are made of.
 ghost use Rattle.std.specs.Prelude.{◌≡◌, ◌+◌, ◌<◌, ◌≤◌, OnOk, OnErr, IfOk, length};
 ghost use Rattle.cp_invlist.specs.InversionList.{IsInversionList};
-ghost use Rattle.cp_invlist.specs.Merge.{keeps, turns_first, turns_second, turned_list, extended, IsKept};
+ghost use Rattle.cp_invlist.specs.Merge.{keeps, turns_first, turns_second, turns_both, extended, IsKept};
 
 use crate::cursor::Cursor;
 use crate::error::NoMemory;
@@ -45,16 +45,13 @@ impl Operation {
     {
         self.keeps(in_first, true) != self.keeps(in_first, false)
     }
-}
 
-/// Puts the number behind the list where its end is to turn.
-fn turn(merged: &mut Vec<u32>, number: u32, inside: bool) -> Result<(), NoMemory>
-    ensures ok { OnOk result (merged.new.items ≡ turned_list merged.old.items number inside) }
-{
-    if (merged.len() % 2 == 1) != inside {
-        merged.push(number)?;
+    /// Whether it turns at each element that stands in both lists, by the side of each on which the walk is before the first.
+    fn turns_at_both(self, in_first: bool, in_second: bool) -> bool
+        ensures { result ≡ turns_both self in_first in_second }
+    {
+        self.keeps(in_first, in_second) != self.keeps(!in_first, !in_second)
     }
-    Ok(())
 }
 
 /// Puts the elements behind the list where it turns at each of them.
@@ -74,7 +71,7 @@ fn extend(merged: &mut Vec<u32>, elements: &[u32], turns: bool) -> Result<(), No
 }
 
 /// The list of the numbers that the operation keeps of two sets: stretches of one list that lie between two elements of
-/// the other, and elements of both. It takes one step for each element of the two lists.
+/// the other, and stretches that stand in both. It takes one step for each element of the two lists.
 pub(crate) fn merge<L: Ledger>(
     alloc: Global,
     operation: Operation,
@@ -101,9 +98,11 @@ pub(crate) fn merge<L: Ledger>(
             let stretch = right.take(right.count_below(x), steps);
             extend(&mut merged, stretch, operation.turns_at_second(left.inside))?;
         } else {
-            left.take(1, steps);
-            right.take(1, steps);
-            turn(&mut merged, x, operation.keeps(left.inside, right.inside))?;
+            let count = left.count_equal(&right, x);
+            let turns = operation.turns_at_both(left.inside, right.inside);
+            let stretch = left.take(count, steps);
+            right.take(count, steps);
+            extend(&mut merged, stretch, turns)?;
         }
     }
     let rest = left.take(left.len(), steps);

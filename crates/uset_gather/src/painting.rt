@@ -12,7 +12,7 @@ use std::mem::{replace, swap};
 /// Sets of at most so many ranges are painted without a limit: a pattern that joins one is about as long as its ranges.
 const FEW: usize = 8;
 
-/// A set of more ranges becomes a layer at once, since copying its list takes less time than painting its ranges one by one.
+/// A set of at least so many ranges becomes a layer at once: copying its list takes less time than painting its ranges one by one.
 const MANY: usize = 32;
 
 /// From so many painted ranges on they become a layer before those of a set that isn't few are painted.
@@ -138,7 +138,7 @@ impl Painting {
         ensures { OnOk result ((c : ℕ) → in_painting self.new c ≡ (in_painting self.old c || contains set.now c)) }
     {
         let count = set.get_inversion_list().len() / 2;
-        if count > MANY {
+        if count >= MANY {
             return self.put_on(copied(self.alloc, set)?, count);
         }
         self.make_way(count)?;
@@ -163,7 +163,7 @@ impl Painting {
         ensures { OnOk result ((c : ℕ) → in_painting self.new c ≡ (in_painting self.old c || is_outside set.now c)) }
     {
         let count = set.get_inversion_list().len() / 2;
-        if count > MANY {
+        if count >= MANY {
             return self.put_on(outside(self.alloc, set)?, count);
         }
         self.make_way(count)?;
@@ -207,10 +207,10 @@ impl Painting {
         }
         let size = other.size();
         let set = other.into_builder()?;
-        if size > FEW {
+        if size >= MANY {
             return self.put_on(set, size);
         }
-        self.paint_set(&set.build())
+        self.add_set(&set.build())
     }
 
     /// Whether the set is that of all its ranges.

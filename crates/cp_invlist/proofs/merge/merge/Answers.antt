@@ -1,4 +1,4 @@
-use Rattle.std.proofs.Common.{rules, ◌≡◌, Some, None, [], ap, ap₂, sym, ◌∙◌, arith, ◌⊎◌, inl, inr, length}
+use Rattle.std.proofs.Common.{rules, ◌≡◌, None, [], ap₂, sym, ◌∙◌, arith, ◌⊎◌, inl, inr, length}
 use Rattle.std.specs.List.{slice_get}
 use Rattle.cp_invlist.specs.Merge.{extended}
 use Rattle.cp_invlist.proofs.MergeLemmas.{Walks, Walks-first, Walks-second, Walks-both, Walks-rest, Walks-list, Walks-members, AreBelowFirst-from, fewer-below, fewer-both}
@@ -34,15 +34,15 @@ pub elements-preserved : goal.elements-preserved
 elements-preserved g c = record {
   walk =
       Walks-both c.args.operation c.args.first.now c.args.second.now c.elements.left.rest.now c.elements.right.rest.now c.elements.merged.items
-      c.take.new.self.rest.now c.take-else-y-x.new.self.rest.now c.turn.new.merged.items c.elements.left.inside c.elements.right.inside
-      c.take.new.self.inside c.take-else-y-x.new.self.inside c.keeps.result c.in-Some-Some.x c.elements.invariant.walk
-      (sym c.in-Some-Some.ensures) (sym c.in-Some-Some.ensures' ∙ ap Some (omega arith)) c.take.ensures.rest c.take-else-y-x.ensures.rest c.take.ensures.inside c.take-else-y-x.ensures.inside
-      c.keeps.ensures c.in_ok-turn.ensures.ok;
-  cost = omega (arith, c.take.ensures.cost, c.take-else-y-x.ensures.cost, c.elements.invariant.cost);
+      c.take-stretch-else-y-x.new.self.rest.now c.take.new.self.rest.now c.extend-else-y-x.new.merged.items c.elements.left.inside c.elements.right.inside
+      c.take-stretch-else-y-x.new.self.inside c.take.new.self.inside c.count_equal-count.result c.elements.invariant.walk
+      c.count_equal-count.ensures.equal c.take-stretch-else-y-x.ensures.rest c.take.ensures.rest c.take-stretch-else-y-x.ensures.inside c.take.ensures.inside
+      (c.in_ok-extend-3.ensures.ok ∙ ap₂ (extended c.elements.merged.items) c.take-stretch-else-y-x.ensures.front c.turns_at_both-turns.ensures);
+  cost = omega (arith, c.take-stretch-else-y-x.ensures.cost, c.take.ensures.cost, c.elements.invariant.cost);
 }
 
 -- both lists are taken to their ends
-walked : (g : Over) (c : goal.In_ok-extend-4 g) →
+walked : (g : Over) (c : goal.In_ok-extend-5 g) →
     Walks c.args.operation c.args.first.now c.args.second.now [] [] c.extend-3.new.merged.items c.take-rest.new.self.inside c.take-rest-2.new.self.inside
 walked g c =
     let ended : (slice_get c.elements.left.rest.now 0 ≡ None) ⊎ (slice_get c.elements.right.rest.now 0 ≡ None) =
@@ -51,9 +51,9 @@ walked g c =
     c.extend-2.new.merged.items c.extend-3.new.merged.items c.elements.left.inside c.elements.right.inside c.take-rest.new.self.inside
     c.take-rest-2.new.self.inside c.len.result c.len-2.result c.elements.invariant.walk ended c.len.ensures c.len-2.ensures
     c.take-rest.ensures.inside
-    (c.in_ok-extend-3.ensures.ok ∙ ap₂ (extended c.elements.merged.items) c.take-rest.ensures.front c.turns_at_first-2.ensures)
+    (c.in_ok-extend-4.ensures.ok ∙ ap₂ (extended c.elements.merged.items) c.take-rest.ensures.front c.turns_at_first-2.ensures)
     c.take-rest-2.ensures.inside
-    (c.in_ok-extend-4.ensures.ok ∙ ap₂ (extended c.extend-2.new.merged.items) c.take-rest-2.ensures.front c.turns_at_second-2.ensures)
+    (c.in_ok-extend-5.ensures.ok ∙ ap₂ (extended c.extend-2.new.merged.items) c.take-rest-2.ensures.front c.turns_at_second-2.ensures)
 
 pub returns-clause-list : goal.returns-clause-list
 returns-clause-list g c = Walks-list c.args.operation c.args.first.now c.args.second.now c.extend-3.new.merged.items _ _ (walked g c)
@@ -71,4 +71,5 @@ elements-smaller-in_ok-extend-2 g c =
 
 pub elements-smaller : goal.elements-smaller
 elements-smaller g c =
-    fewer-both c.elements.left.rest.now c.elements.right.rest.now c.take.new.self.rest.now c.take-else-y-x.new.self.rest.now c.in-Some-Some.x c.in-Some-Some.ensures c.take.ensures.rest c.take-else-y-x.ensures.rest
+    fewer-both c.elements.left.rest.now c.elements.right.rest.now c.take-stretch-else-y-x.new.self.rest.now c.take.new.self.rest.now c.count_equal-count.result
+    c.count_equal-count.ensures.some c.count_equal-count.ensures.within_own c.take-stretch-else-y-x.ensures.rest c.take.ensures.rest
