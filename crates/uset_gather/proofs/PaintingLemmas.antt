@@ -1,11 +1,11 @@
 -- Sets of code points in the making, code point by code point.
 use Rattle.std.proofs.Common.{◌≡◌, ℕ, Bool, true, false, not, length, take, eqb, arith, inl, inr, ◌||◌, ◌&&◌, if◌then◌else◌, List, [], ◌∷◌, ◌++◌, refl, sym, ap, ◌∙◌, subst}
-use Rattle.std.proofs.Math.Bool.{and-false}
+use Rattle.std.proofs.Math.Bool.{and-false, and_comm}
 use Rattle.std.specs.Bool.{OnTrue}
 use Rattle.std.proofs.lemmas.Bool.{cases_Bool, eqb-true}
 use Rattle.std.proofs.lemmas.List.{take_all}
 use Rattle.cp_invlist.specs.InversionList.{contains, differ, is_code_point}
-use Rattle.cp_invlist.specs.Ranges.{in_range, in_code_points}
+use Rattle.cp_invlist.specs.Ranges.{in_range, in_code_points, is_outside}
 use Rattle.uset_gather.specs.declared.layers.Layer.{Layer}
 use Rattle.cp_invlist.specs.declared.ranges.CodePointRange.{CodePointRange}
 use Rattle.uset_gather.specs.declared.painting.PaintedRange.{PaintedRange}
@@ -176,3 +176,17 @@ plain s n len all_of none straight members = on_equal n len (λ e c.
     (λ i. seen (straight i) (is_code_point c) (painted (sym all i) c (behind_all (none i) c false)))
     ∙ (ap (λ b. is_code_point c && b) (members c false ∙ ap (λ ps. covered ps c) all)
     ∙ covered_within s.ranges.items c))
+
+-- a complemented set has what the set of its layers and ranges lacks
+pub painting_outside : (s : Painting) (set : List ℕ) (c : ℕ) → s.complemented ≡ true →
+    contains set c ≡ painted s.ranges.items c (behind_all s.layers.items c false) → is_outside set c ≡ in_painting s c
+unfolding in_painting
+painting_outside s set c turned flat = λ i. is_code_point c && differ (sym turned i) (flat i)
+
+-- any other has what that set has
+pub painting_inside : (s : Painting) (set : List ℕ) (c : ℕ) → s.complemented ≡ false →
+    contains set c ≡ painted s.ranges.items c (behind_all s.layers.items c false) → (contains set c && is_code_point c) ≡ contains set c →
+    contains set c ≡ in_painting s c
+unfolding in_painting
+painting_inside s set c straight flat within =
+    sym within ∙ (and_comm (contains set c) (is_code_point c) ∙ (λ i. is_code_point c && differ (sym straight i) (flat i)))

@@ -206,11 +206,17 @@ impl Painting {
             return self.add_ranges(&other.ranges);
         }
         let size = other.size();
-        let set = other.into_builder()?;
         if size >= MANY {
-            return self.put_on(set, size);
+            return self.put_on(other.into_builder()?, size);
         }
-        self.add_set(&set.build())
+        members_are_code_points();
+        let complemented = other.complemented;
+        let set = flattened(other.alloc, other.layers, other.ranges)?.build();
+        if complemented {
+            self.add_outside(&set)
+        } else {
+            self.add_set(&set)
+        }
     }
 
     /// Whether the set is that of all its ranges.
