@@ -3,7 +3,7 @@ ghost use Rattle.std.specs.Prelude.{◌≡◌, ℕ, IfOk};
 ghost use Rattle.cp_invlist.specs.InversionList.{contains};
 ghost use Rattle.cp_invlist.specs.Ranges.{is_outside};
 
-use crate::layers::{Layer, flattened, layered, members_in_front, push, size_of};
+use crate::layers::{Layer, Layers, flattened, layered, members_in_front};
 use cp_invlist::laws::{members_are_code_points, ranges_hold_members};
 use cp_invlist::{CodePointInversionList, CodePointInversionListBuilder, CodePointRange, NoMemory};
 use std::alloc::Global;
@@ -12,7 +12,7 @@ use std::mem::{replace, swap};
 /// Sets of at most so many ranges are painted without a limit: a pattern that joins one is about as long as its ranges.
 const FEW: usize = 8;
 
-/// A set of at least so many ranges becomes a layer at once: copying its list takes less time than painting its ranges one by one.
+/// A set of at least so many ranges becomes a layer at once: copying its list takes less time than painting range by range.
 const MANY: usize = 32;
 
 /// From so many painted ranges on they become a layer before those of a set that isn't few are painted.
@@ -25,15 +25,14 @@ pub(crate) struct PaintedRange {
     pub(crate) member: bool,
 }
 
-/// A set of code points in the making: layers, and over them the ranges in the order in which they were painted. The last range
-/// that covers a code point says whether it is a member, or where none does what the layers make of it. Where the
-/// painting is complemented, it is the other way round. Ranges aren't merged before the set is needed, or a large set is painted
-/// over them: its list becomes a layer, and layers are merged so that each of its ranges is a logarithm of times.
+/// A set of code points in the making: layers, and over them ranges in the order in which they were painted. The last range
+/// that covers a code point says whether it is a member, or where none does, what the layers make of it. Where the painting is
+/// complemented, it is the other way round. Ranges aren't merged before the set is needed, or a large set is painted over
+/// them. The list of such a set is a layer, and layers are merged so that each of its ranges is merged a logarithm of times.
 #[derive(Drop)]
 pub(crate) struct Painting {
     alloc: Global,
-    /// What was painted first, the lowest in front.
-    layers: Vec<Layer>,
+    layers: Layers,
     /// What was painted over the layers, the first in front.
     ranges: Vec<PaintedRange>,
     complemented: bool,
@@ -77,7 +76,7 @@ impl Painting {
     {
         Painting {
             alloc,
-            layers: Vec::new(alloc),
+            layers: Layers::new(),
             ranges: Vec::new(alloc),
             complemented: false,
         }
@@ -85,7 +84,7 @@ impl Painting {
 
     /// About how many ranges were painted.
     fn size(&self) -> usize {
-        size_of(&self.layers).saturating_add(self.ranges.len())
+        self.layers.size().saturating_add(self.ranges.len())
     }
 
     /// Makes a layer of the ranges that were painted.
@@ -98,7 +97,7 @@ impl Painting {
         }
         let ranges = replace(&mut self.ranges, Vec::new(self.alloc));
         let layer = layered(self.alloc, ranges)?;
-        push(&mut self.layers, layer)
+        self.layers.put(self.alloc, layer)
     }
 
     /// Paints a set of about so many ranges as a layer.
@@ -108,7 +107,7 @@ impl Painting {
         members_are_code_points();
         self.settle()?;
         let layer = Layer::new(self.alloc, set, size, !self.complemented);
-        push(&mut self.layers, layer)
+        self.layers.put(self.alloc, layer)
     }
 
     /// Makes a layer of what was painted where so many ranges more would be too many: one name in a pattern may stand for all of
