@@ -10,7 +10,7 @@ use Rattle.uset_gather.specs.declared.layers.Layer.{Layer}
 use Rattle.cp_invlist.specs.declared.ranges.CodePointRange.{CodePointRange}
 use Rattle.uset_gather.specs.declared.painting.PaintedRange.{PaintedRange}
 use Rattle.uset_gather.specs.declared.painting.Painting.{Painting}
-use Rattle.uset_gather.specs.Painting.{covered, painted, behind, behind_all, layers_in, IsPutOnto, in_painting}
+use Rattle.uset_gather.specs.Painting.{covered, painted, behind, behind_all, IsPutOnto, in_painting}
 
 -- one more range
 pub painted_more : (ps : List PaintedRange) (p : PaintedRange) (c : ℕ) (b : Bool) →
@@ -43,40 +43,40 @@ seen_set complemented inside code b within =
     subst (λ is. seen complemented code (if is then not complemented else b) ≡ (seen complemented code b || is)) within (seen_range complemented inside code b)
 
 -- the same layers and ranges
-pub painting_same : (old new : Painting) → new.complemented ≡ old.complemented → new.layers ≡ old.layers →
+pub painting_same : (old new : Painting) → new.complemented ≡ old.complemented → new.layers.items ≡ old.layers.items →
     new.ranges.items ≡ old.ranges.items → (c : ℕ) → in_painting new c ≡ in_painting old c
 unfolding in_painting seen
-painting_same old new kept below same c = λ i. seen (kept i) (is_code_point c) (painted (same i) c (behind_all (layers_in (below i)) c false))
+painting_same old new kept below same c = λ i. seen (kept i) (is_code_point c) (painted (same i) c (behind_all (below i) c false))
 
 -- a range was painted as members
-pub range_painted : (old new : Painting) (r : CodePointRange) → new.complemented ≡ old.complemented → new.layers ≡ old.layers →
+pub range_painted : (old new : Painting) (r : CodePointRange) → new.complemented ≡ old.complemented → new.layers.items ≡ old.layers.items →
     new.ranges.items ≡ old.ranges.items ++ record { range = r; member = not old.complemented } ∷ [] →
     (c : ℕ) → in_painting new c ≡ (in_painting old c || in_code_points r c)
 unfolding in_painting seen
 range_painted old new r kept below more c =
-    let b = behind_all (layers_in old.layers) c false in
-    (λ i. seen (kept i) (is_code_point c) (painted (more i) c (behind_all (layers_in (below i)) c false)))
+    let b = behind_all old.layers.items c false in
+    (λ i. seen (kept i) (is_code_point c) (painted (more i) c (behind_all (below i) c false)))
     ∙ (ap (seen old.complemented (is_code_point c)) (painted_more old.ranges.items (record { range = r; member = not old.complemented }) c b)
     ∙ seen_range old.complemented (in_range r c) (is_code_point c) (painted old.ranges.items c b))
 
 -- the ranges became a layer
 pub painting_settled : (old new : Painting) (l : Layer) → new.complemented ≡ old.complemented → new.ranges.items ≡ [] →
-    IsPutOnto (layers_in old.layers) l (layers_in new.layers) → ((c : ℕ) (b : Bool) → behind l c b ≡ painted old.ranges.items c b) →
+    IsPutOnto old.layers.items l new.layers.items → ((c : ℕ) (b : Bool) → behind l c b ≡ painted old.ranges.items c b) →
     (c : ℕ) → in_painting new c ≡ in_painting old c
 unfolding in_painting seen
 painting_settled old new l kept none put is c =
-    (λ i. seen (kept i) (is_code_point c) (painted (none i) c (behind_all (layers_in new.layers) c false)))
-    ∙ ap (seen old.complemented (is_code_point c)) (put c false ∙ is c (behind_all (layers_in old.layers) c false))
+    (λ i. seen (kept i) (is_code_point c) (painted (none i) c (behind_all new.layers.items c false)))
+    ∙ ap (seen old.complemented (is_code_point c)) (put c false ∙ is c (behind_all old.layers.items c false))
 
 -- a set was painted as a layer, as members
 pub layer_painted : (old new : Painting) (l : Layer) (set : List ℕ) → new.complemented ≡ old.complemented → old.ranges.items ≡ [] →
-    new.ranges.items ≡ [] → IsPutOnto (layers_in old.layers) l (layers_in new.layers) →
+    new.ranges.items ≡ [] → IsPutOnto old.layers.items l new.layers.items →
     ((c : ℕ) (b : Bool) → behind l c b ≡ (if contains set c then not old.complemented else b)) →
     (c : ℕ) → (contains set c && is_code_point c) ≡ contains set c → in_painting new c ≡ (in_painting old c || contains set c)
 unfolding in_painting seen
 layer_painted old new l set kept none still put is c within =
-    let b = behind_all (layers_in old.layers) c false in
-    (λ i. seen (kept i) (is_code_point c) (painted (still i) c (behind_all (layers_in new.layers) c false)))
+    let b = behind_all old.layers.items c false in
+    (λ i. seen (kept i) (is_code_point c) (painted (still i) c (behind_all new.layers.items c false)))
     ∙ (ap (seen old.complemented (is_code_point c)) (put c false ∙ is c b)
     ∙ (seen_set old.complemented (contains set c) (is_code_point c) b within
     ∙ ap (λ rs. seen old.complemented (is_code_point c) (painted rs c b) || contains set c) (sym none)))
@@ -89,7 +89,7 @@ within_code false b = refl
 -- the members of a set in the making are code points
 pub painting_within : (s : Painting) (c : ℕ) → (in_painting s c && is_code_point c) ≡ in_painting s c
 unfolding in_painting
-painting_within s c = within_code (is_code_point c) (differ s.complemented (painted s.ranges.items c (behind_all (layers_in s.layers) c false)))
+painting_within s c = within_code (is_code_point c) (differ s.complemented (painted s.ranges.items c (behind_all s.layers.items c false)))
 
 seen_other_way : (complemented code b : Bool) → seen (not complemented) code b ≡ (code && not (seen complemented code b))
 unfolding seen
@@ -99,12 +99,12 @@ seen_other_way false true b = refl
 seen_other_way complemented false b = refl
 
 -- the other way round
-pub painting_complemented : (old new : Painting) → new.complemented ≡ not old.complemented → new.layers ≡ old.layers →
+pub painting_complemented : (old new : Painting) → new.complemented ≡ not old.complemented → new.layers.items ≡ old.layers.items →
     new.ranges.items ≡ old.ranges.items → (c : ℕ) → in_painting new c ≡ (is_code_point c && not (in_painting old c))
 unfolding in_painting seen
 painting_complemented old new turned below kept c =
-    (λ i. seen (turned i) (is_code_point c) (painted (kept i) c (behind_all (layers_in (below i)) c false)))
-    ∙ seen_other_way old.complemented (is_code_point c) (painted old.ranges.items c (behind_all (layers_in old.layers) c false))
+    (λ i. seen (turned i) (is_code_point c) (painted (kept i) c (behind_all (below i) c false)))
+    ∙ seen_other_way old.complemented (is_code_point c) (painted old.ranges.items c (behind_all old.layers.items c false))
 
 removed_step : (code x y : Bool) → (x && code) ≡ x → (code && not ((code && not x) || y)) ≡ (x && not y)
 removed_step true true y h = refl
@@ -167,7 +167,7 @@ covered_within [] c = and-false (is_code_point c)
 covered_within (p ∷ ps) c = covered_step (in_range p.range c) (is_code_point c) (covered ps c) (covered_within ps c)
 
 -- there are no layers, and all ranges were painted as members
-pub plain : (s : Painting) (n len : ℕ) → len ≡ length s.ranges.items → layers_in s.layers ≡ [] → s.complemented ≡ false →
+pub plain : (s : Painting) (n len : ℕ) → len ≡ length s.ranges.items → s.layers.items ≡ [] → s.complemented ≡ false →
     ((c : ℕ) (b : Bool) → painted (take n s.ranges.items) c b ≡ (b || covered (take n s.ranges.items) c)) →
     OnTrue (eqb n len) ((c : ℕ) → in_painting s c ≡ covered s.ranges.items c)
 unfolding in_painting seen
@@ -179,13 +179,13 @@ plain s n len all_of none straight members = on_equal n len (λ e c.
 
 -- a complemented set has what the set of its layers and ranges lacks
 pub painting_outside : (s : Painting) (set : List ℕ) (c : ℕ) → s.complemented ≡ true →
-    contains set c ≡ painted s.ranges.items c (behind_all (layers_in s.layers) c false) → is_outside set c ≡ in_painting s c
+    contains set c ≡ painted s.ranges.items c (behind_all s.layers.items c false) → is_outside set c ≡ in_painting s c
 unfolding in_painting
 painting_outside s set c turned flat = λ i. is_code_point c && differ (sym turned i) (flat i)
 
 -- any other has what that set has
 pub painting_inside : (s : Painting) (set : List ℕ) (c : ℕ) → s.complemented ≡ false →
-    contains set c ≡ painted s.ranges.items c (behind_all (layers_in s.layers) c false) → (contains set c && is_code_point c) ≡ contains set c →
+    contains set c ≡ painted s.ranges.items c (behind_all s.layers.items c false) → (contains set c && is_code_point c) ≡ contains set c →
     contains set c ≡ in_painting s c
 unfolding in_painting
 painting_inside s set c straight flat within =

@@ -1,5 +1,5 @@
 -- Sets of code points in the making: what was painted, and the layers that are made of it.
-use Rattle.std.specs.Prelude.{◌≡◌, ℕ, Bool, false, not, ◌&&◌, ◌||◌, if◌then◌else◌, List, [], ◌∷◌, Option, Some, None, Box}
+use Rattle.std.specs.Prelude.{◌≡◌, ℕ, Bool, false, not, ◌&&◌, ◌||◌, if◌then◌else◌, List, [], ◌∷◌}
 use Rattle.std.specs.List.{list_any}
 use Rattle.cp_invlist.specs.InversionList.{contains, differ, is_code_point}
 use Rattle.cp_invlist.specs.Ranges.{in_code_points}
@@ -7,10 +7,7 @@ use Rattle.cp_invlist.specs.declared.ranges.CodePointRange.{CodePointRange}
 use Rattle.uset_gather.specs.declared.painting.PaintedRange.{PaintedRange}
 use Rattle.uset_gather.specs.declared.painting.Painting.{Painting}
 use Rattle.uset_gather.specs.declared.run.Run.{Run}
-use Rattle.std.specs.Global.{Global}
-use Rattle.std.specs.declared.vec.Vec.{Vec}
 use Rattle.uset_gather.specs.declared.layers.Layer.{Layer}
-use Rattle.uset_gather.specs.declared.layers.Layers.{Layers}
 
 -- a range of the list holds the code point
 abbrev pub in_some : List CodePointRange → ℕ → Bool
@@ -47,18 +44,10 @@ abbrev pub behind_all : List Layer → ℕ → Bool → Bool
 behind_all [] c b = b
 behind_all (l ∷ ls) c b = behind_all ls c (behind l c b)
 
--- the layers that there are, the lowest first
-abbrev pub layers_listed : Option (Box (Vec Layer Global) Global) → List Layer
-layers_listed None = []
-layers_listed (Some list) = list.value.items
-
-abbrev pub layers_in : Layers → List Layer
-layers_in layers = layers_listed layers.list
-
 -- Whether the code point is in the set that was painted: where it is not complemented, if the ranges, painted over the layers, make
 -- it a member, and else if they don't.
 unfoldable pub in_painting : Painting → ℕ → Bool
-in_painting s c = is_code_point c && differ s.complemented (painted s.ranges.items c (behind_all (layers_in s.layers) c false))
+in_painting s c = is_code_point c && differ s.complemented (painted s.ranges.items c (behind_all s.layers.items c false))
 
 -- the layer was put onto the others
 abbrev pub IsPutOnto : List Layer → Layer → List Layer → Type 0

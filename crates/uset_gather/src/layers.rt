@@ -1,7 +1,7 @@
 //! Layers: what painted ranges make of a set, and how many of them become one.
 ghost use Rattle.std.specs.Prelude.{◌≡◌, ◌≤◌, ℕ, Bool, false, if◌then◌else◌, IfOk, OnOk, IfNone, option_to_list, [], ◌++◌, length, take};
 ghost use Rattle.cp_invlist.specs.InversionList.{contains};
-ghost use Rattle.uset_gather.specs.Painting.{in_changed, AreMembers, IsPutOnto, painted, painted_alike, behind, behind_all, layers_in};
+ghost use Rattle.uset_gather.specs.Painting.{in_changed, AreMembers, IsPutOnto, painted, painted_alike, behind, behind_all};
 
 use crate::painting::PaintedRange;
 use crate::run::Run;
@@ -36,6 +36,11 @@ impl Layer {
             size,
         }
     }
+}
+
+/// About how many ranges the layers were made of: the lowest of as many as all others together, or more.
+pub(crate) fn size_of(layers: &[Layer]) -> usize {
+    layers.first().map_or(0, |lowest| lowest.size)
 }
 
 /// The set without one set, and with another.
@@ -74,7 +79,7 @@ fn over(lower: Layer, upper: Layer) -> Result<Layer, NoMemory>
 
 /// Puts the layer onto the others. It is merged with the one below as long as that one isn't at least twice
 /// as large: so there are few layers, and each range is merged a logarithm of times.
-fn push(layers: &mut Vec<Layer>, layer: Layer) -> Result<(), NoMemory>
+pub(crate) fn push(layers: &mut Vec<Layer>, layer: Layer) -> Result<(), NoMemory>
     ensures { OnOk result (IsPutOnto layers.old.items layer layers.new.items) }
 {
     let mut top = layer;
@@ -142,74 +147,15 @@ pub(crate) fn layered(alloc: Global, mut ranges: Vec<PaintedRange>) -> Result<La
     merged(layers, layer_of(alloc, run, member)?)
 }
 
-/// Layers, each over those before it. Most sets have none: so their list stands apart, and an open bracket stays small.
-#[derive(Drop)]
-pub(crate) struct Layers {
-    list: Option<Box<Vec<Layer>>>,
-}
-
-impl Layers {
-    ghost use Rattle.std.specs.Prelude.{◌≡◌, ℕ, Bool, [], IfOk, OnOk};
-    ghost use Rattle.std.specs.Bool.{OnTrue};
-    ghost use Rattle.uset_gather.specs.Painting.{layers_in, behind, behind_all, IsPutOnto};
-
-    /// None.
-    pub(crate) fn new() -> Layers
-        ensures { layers_in result ≡ [] }
-    {
-        Layers { list: None }
-    }
-
-    /// Whether there are none.
-    pub(crate) fn is_empty(&self) -> bool
-        ensures { OnTrue result (layers_in self.now ≡ []) }
-    {
-        self.list.is_none()
-    }
-
-    /// About how many ranges the layers were made of: the lowest of as many as all others together, or more.
-    pub(crate) fn size(&self) -> usize {
-        match &self.list {
-            Some(list) => list.first().map_or(0, |lowest| lowest.size),
-            None => 0,
-        }
-    }
-
-    /// Puts the layer over the others.
-    pub(crate) fn put(&mut self, alloc: Global, layer: Layer) -> Result<(), NoMemory>
-        ensures { OnOk result (IsPutOnto (layers_in self.old) layer (layers_in self.new)) }
-    {
-        let mut list = match self.list.take() {
-            Some(list) => list,
-            None => Box::new(alloc, Vec::new(alloc))?,
-        };
-        push(&mut list, layer)?;
-        self.list = Some(list);
-        Ok(())
-    }
-
-    /// The layer of all, the last of them over the others.
-    fn merged(self, last: Layer) -> Result<Layer, NoMemory>
-        ensures { IfOk result
-            (λ all. (c : ℕ) (b : Bool) → behind all c b ≡ behind last c (behind_all (layers_in self) c b)) }
-    {
-        match self.list {
-            Some(list) => merged(Box::into_inner(list), last),
-            None => Ok(last),
-        }
-    }
-}
-
 /// The set that layers, and over them ranges in the order in which they were painted, make of no members.
 pub(crate) fn flattened(
     alloc: Global,
-    layers: Layers,
+    layers: Vec<Layer>,
     ranges: Vec<PaintedRange>,
 ) -> Result<CodePointInversionListBuilder, NoMemory>
-    ensures { IfOk result
-        (λ set. (c : ℕ) → contains set c ≡ painted ranges.items c (behind_all (layers_in layers) c false)) }
+    ensures { IfOk result (λ set. (c : ℕ) → contains set c ≡ painted ranges.items c (behind_all layers.items c false)) }
 {
-    Ok(layers.merged(layered(alloc, ranges)?)?.added)
+    Ok(merged(layers, layered(alloc, ranges)?)?.added)
 }
 
 /// How many ranges at the front are painted as members: all before the first that isn't.

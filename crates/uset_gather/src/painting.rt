@@ -3,7 +3,7 @@ ghost use Rattle.std.specs.Prelude.{◌≡◌, ℕ, IfOk};
 ghost use Rattle.cp_invlist.specs.InversionList.{contains};
 ghost use Rattle.cp_invlist.specs.Ranges.{is_outside};
 
-use crate::layers::{Layer, Layers, flattened, layered, members_in_front};
+use crate::layers::{Layer, flattened, layered, members_in_front, push, size_of};
 use cp_invlist::laws::{members_are_code_points, ranges_hold_members};
 use cp_invlist::{CodePointInversionList, CodePointInversionListBuilder, CodePointRange, NoMemory};
 use std::alloc::Global;
@@ -32,7 +32,8 @@ pub(crate) struct PaintedRange {
 #[derive(Drop)]
 pub(crate) struct Painting {
     alloc: Global,
-    layers: Layers,
+    /// What was painted first, the lowest in front.
+    layers: Vec<Layer>,
     /// What was painted over the layers, the first in front.
     ranges: Vec<PaintedRange>,
     complemented: bool,
@@ -76,7 +77,7 @@ impl Painting {
     {
         Painting {
             alloc,
-            layers: Layers::new(),
+            layers: Vec::new(alloc),
             ranges: Vec::new(alloc),
             complemented: false,
         }
@@ -84,7 +85,7 @@ impl Painting {
 
     /// About how many ranges were painted.
     fn size(&self) -> usize {
-        self.layers.size().saturating_add(self.ranges.len())
+        size_of(&self.layers).saturating_add(self.ranges.len())
     }
 
     /// Makes a layer of the ranges that were painted.
@@ -97,7 +98,7 @@ impl Painting {
         }
         let ranges = replace(&mut self.ranges, Vec::new(self.alloc));
         let layer = layered(self.alloc, ranges)?;
-        self.layers.put(self.alloc, layer)
+        push(&mut self.layers, layer)
     }
 
     /// Paints a set of about so many ranges as a layer.
@@ -107,7 +108,7 @@ impl Painting {
         members_are_code_points();
         self.settle()?;
         let layer = Layer::new(self.alloc, set, size, !self.complemented);
-        self.layers.put(self.alloc, layer)
+        push(&mut self.layers, layer)
     }
 
     /// Makes a layer of what was painted where so many ranges more would be too many: one name in a pattern may stand for all of

@@ -8,7 +8,7 @@ pub returns : goal.returns
 returns c =
     let none = c.in_ok-settle.ensures.settled in
     let listed : IsInversionList c.args.set = search (rules, c.set.view_is, c.set.invariant) in
-    on_ok_weaker c.put.result (λ put d.
+    on_ok_weaker c.push.result (λ put d.
     layer_painted c.settle.new.self _ c.new-layer.result c.args.set refl none none put c.new-layer.ensures d (c.members_are_code_points.ensures c.args.set d listed)
     ∙ ap (λ b. b || contains c.args.set d) (c.in_ok-settle.ensures.same d))
-    c.put.ensures
+    c.push.ensures

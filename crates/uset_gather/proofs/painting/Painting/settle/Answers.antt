@@ -13,6 +13,6 @@ returns c =
     let is : (d : ℕ) (b : Bool) → behind c.in_ok-layer.layer d b ≡ painted c.args.self.now.ranges.items d b =
     λ d b. c.in_ok-layer.ensures d b ∙ ap (λ (v : Vec PaintedRange Global). painted v.items d b) c.replace-ranges.ensures.value in
     record {
-      same = on_ok_weaker c.put.result (λ put. painting_settled c.args.self.now _ c.in_ok-layer.layer refl none put is) c.put.ensures;
-      settled = on_ok_weaker c.put.result (λ put. none) c.put.ensures;
+      same = on_ok_weaker c.push.result (λ put. painting_settled c.args.self.now _ c.in_ok-layer.layer refl none put is) c.push.ensures;
+      settled = on_ok_weaker c.push.result (λ put. none) c.push.ensures;
     }
