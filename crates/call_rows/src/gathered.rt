@@ -3,6 +3,7 @@ use crate::fixtures::{Row, assert_rows_of_set, is_set};
 use cp_invlist::{CodePointRange, NoMemory};
 use cp_strset::{CodePointInversionListAndStringList, sole_char};
 use std::alloc::Global;
+use std::rc::Rc;
 use uset_gather::{Gathered, Operand, Source};
 
 /// What is done with the letters.
@@ -63,8 +64,8 @@ fn operand_of(
         Made::Set => Ok(Operand::Set(set)),
         Made::CodePoints => Ok(Operand::CodePoints(Source::Lent(set.code_points()))),
         Made::Complement => {
-            let code_points = set.code_points().copy(alloc)?;
-            Ok(Operand::Complement(Source::Owned(code_points)))
+            let code_points = Rc::new(alloc, set.code_points().copy(alloc)?)?;
+            Ok(Operand::Complement(Source::Shared(code_points)))
         }
     }
 }

@@ -3,6 +3,7 @@ use crate::fixtures::{Row, assert_rows_of_set, is_set};
 use cp_invlist::{CodePointInversionList, CodePointRange, NoMemory};
 use cp_strset::{CodePointInversionListAndStringList, sole_char};
 use std::alloc::Global;
+use std::rc::Rc;
 use uset_gather::{Gathered, Source};
 use uset_read::Query;
 use uset_steps::{Gathering, Name, Named, NamedSet, Operation, Place};
@@ -54,11 +55,11 @@ fn property_letters(alloc: Global) -> Result<CodePointInversionList, NoMemory> {
 
 /// The letters from `d` to `f` as those of a property.
 fn property<'a>(alloc: Global) -> Result<Named<'a>, NoMemory> {
-    let list = property_letters(alloc)?;
+    let list = Rc::new(alloc, property_letters(alloc)?)?;
     let query = asked(alloc, false, "L", None)?;
     Ok(Named {
         name: Name::Property(query),
-        set: NamedSet::CodePoints(Source::Owned(list)),
+        set: NamedSet::CodePoints(Source::Shared(list)),
     })
 }
 

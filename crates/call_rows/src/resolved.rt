@@ -2,12 +2,17 @@
 use crate::fixtures::{Row, assert_rows_of_text};
 use prop_data::PropertyDatabase;
 use std::alloc::Global;
-use uset_resolve::{Resolution, resolve};
+use uset_resolve::{Resolution, Resolver};
 
-/// The hexadecimal digits as a set, the decimal ones as a general category, and names of blocks without their map.
+/// The hexadecimal digits as a set, the decimal ones and letters as general categories, scripts with extensions, and names of blocks
+/// without their map.
 const TABLES: &str = "set ASCII_Hex_Digit\n30-39\n41-46\n61-66\n\
-    map General_Category 0\n30-39 9\n\
-    names General_Category_Mask\n9 Nd\n\
+    map General_Category 0\n30-39 9\n41-5A 1\n61-7A 2\n\
+    names General_Category_Mask\n9 Nd\n65534 L\n65534 Letter\n\
+    map Script 103\n41-5A 25\n61-7A 25\n3041-3096 20\n30A1-30FA 22\n30FC 0\n\
+    names Script\n25 Latn\n25 Latin\n20 Hira\n22 Kana\n\
+    scx 103\n41-5A 25\n61-7A 25\n3041-3096 20\n30A1-30FA 22\n30FC 1024\n\
+    ext 0\n20\n22\n\
     names Block\n1 ASCII\n1 Basic_Latin\nend\n";
 
 /// What a property is to resolve to.
@@ -34,13 +39,33 @@ fn is_expected(resolution: &Resolution<'_>, expected: Expected) -> bool {
 /// A key, its value and what both resolve to.
 type Resolved = (&'static str, Option<&'static str>, Expected);
 
+/// Whether the resolver answers what is expected.
+fn answers(alloc: Global, resolver: &mut Resolver<'_>, row: Resolved) -> bool {
+    let (key, value, expected) = row;
+    match resolver.resolve(alloc, key, value) {
+        Ok(resolution) => is_expected(&resolution, expected),
+        Err(_) => false,
+    }
+}
+
 impl Row<PropertyDatabase> for Resolved {
     fn holds(&self, alloc: Global, database: &PropertyDatabase) -> bool {
-        let (key, value, expected) = *self;
-        match resolve(alloc, database, key, value) {
-            Ok(resolution) => is_expected(&resolution, expected),
-            Err(_) => false,
+        answers(alloc, &mut Resolver::new(alloc, database), *self)
+    }
+}
+
+/// Properties that one resolver is asked for in turn.
+type InTurn = &'static [Resolved];
+
+impl Row<PropertyDatabase> for InTurn {
+    fn holds(&self, alloc: Global, database: &PropertyDatabase) -> bool {
+        let mut resolver = Resolver::new(alloc, database);
+        for row in *self {
+            if !answers(alloc, &mut resolver, *row) {
+                return false;
+            }
         }
+        true
     }
 }
 
@@ -69,4 +94,30 @@ const RESOLVED: &[Resolved] = &[
 #[test]
 fn a_property_is_found_unknown_or_lacks_a_table(rt: HostRuntime) {
     assert_rows_of_text(&rt, rt.alloc(), TABLES, RESOLVED);
+}
+
+const LETTERS: Expected = Expected::Found(&[0x41, 0x5B, 0x61, 0x7B], false);
+
+const HIRAGANA: Expected = Expected::Found(&[0x3041, 0x3097], false);
+
+const WITH_SOUND_MARK: Expected = Expected::Found(&[0x3041, 0x3097, 0x30FC, 0x30FD], false);
+
+/// Groups, scripts and extensions, each asked for again, in other words and behind others.
+const AGAIN: InTurn = &[
+    ("L", None, LETTERS),
+    ("Nd", None, DIGITS),
+    ("gc", Some("letter"), LETTERS),
+    ("General_Category", Some("L"), LETTERS),
+    ("Hira", None, HIRAGANA),
+    ("scx", Some("Hira"), WITH_SOUND_MARK),
+    ("sc", Some("hira"), HIRAGANA),
+    ("Script_Extensions", Some("HIRA"), WITH_SOUND_MARK),
+    ("Latn", None, LETTERS),
+    ("sc", Some("Latin"), LETTERS),
+    ("gc", Some("N_d"), DIGITS),
+];
+
+#[test]
+fn what_is_asked_again_is_answered_alike(rt: HostRuntime) {
+    assert_rows_of_text(&rt, rt.alloc(), TABLES, &[AGAIN]);
 }

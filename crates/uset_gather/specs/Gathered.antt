@@ -9,7 +9,7 @@ use Rattle.uset_gather.specs.declared.gathered.Gathered.{Gathered}
 use Rattle.uset_gather.specs.declared.operand.Operand.{Operand}
 use Rattle.uset_gather.specs.declared.operand.Operand.TheVariants.{Gathered as Other, Set, CodePoints, Complement}
 use Rattle.uset_gather.specs.declared.operand.Source.{Source}
-use Rattle.uset_gather.specs.declared.operand.Source.TheVariants.{Lent, Owned}
+use Rattle.uset_gather.specs.declared.operand.Source.TheVariants.{Lent, Shared}
 use Rattle.uset_gather.specs.Painting.{in_painting}
 use Rattle.uset_grammar.specs.Tree.{Member, point, string, is_text, in_source, negation}
 
@@ -34,7 +34,7 @@ in_set set (string bytes) = holds set.strings bytes
 -- the inversion list of a source
 abbrev pub list_in : Source → List ℕ
 list_in (Lent list) = list.now
-list_in (Owned list) = list
+list_in (Shared list) = list.value
 
 -- the operand has the member
 abbrev pub operand_in : Operand → Member → Bool

@@ -2,6 +2,7 @@
 use crate::gathered::Gathered;
 use cp_invlist::CodePointInversionList;
 use cp_strset::CodePointInversionListAndStringList;
+use std::rc::Rc;
 
 /// A set that is joined, taken away or kept.
 #[derive(Drop)]
@@ -20,8 +21,8 @@ pub enum Operand<'a> {
 pub enum Source<'a> {
     /// Those of a set that stands elsewhere.
     Lent(&'a CodePointInversionList),
-    /// Those of a set that was made for the property.
-    Owned(CodePointInversionList),
+    /// Those of a set that was made for a property, wherever it is named.
+    Shared(Rc<CodePointInversionList>),
 }
 
 // By hand, so that letting a value go is one call in each proof.
@@ -29,7 +30,7 @@ impl Drop for Source<'_> {
     fn drop(self) {
         match self {
             Source::Lent(_) => {}
-            Source::Owned(_) => {}
+            Source::Shared(_) => {}
         }
     }
 }
@@ -44,7 +45,7 @@ impl Source<'_> {
     {
         match self {
             Source::Lent(list) => list,
-            Source::Owned(list) => list,
+            Source::Shared(list) => list.as_ref(),
         }
     }
 }

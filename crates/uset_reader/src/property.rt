@@ -1,5 +1,5 @@
 //! Properties that are read and resolved (UTS 18, 1.2; UAX 44, 5.9).
-ghost use Rattle.std.specs.Prelude.{◌≤◌, ◌<◌, length, IfOk, IfErr};
+ghost use Rattle.std.specs.Prelude.{◌≡◌, ◌≤◌, ◌<◌, length, IfOk, IfErr};
 ghost use Rattle.prop_data.specs.Database.{tables_of};
 ghost use Rattle.uset_read.specs.Queries.{query_seen};
 ghost use Rattle.uset_read.specs.Stops.{left_at};
@@ -10,23 +10,23 @@ ghost use Rattle.uset_reader.specs.Syntaxes.{language_seen};
 use crate::item::Operand;
 use crate::syntax::Syntax;
 use cp_invlist::NoMemory;
-use prop_data::PropertyDatabase;
 use std::alloc::Global;
 use uset_read::{Form, Kind, Query, Stop, close_property, read_property};
-use uset_resolve::{Resolution, resolve};
+use uset_resolve::{Resolution, Resolver};
 use uset_steps::{Gathering, Name, Named, NamedSet};
 
 /// What a property asks for.
-fn resolve_query<'a>(
+fn resolve_query<'v>(
     alloc: Global,
-    database: &'a PropertyDatabase,
+    resolver: &mut Resolver<'v>,
     query: &Query,
-) -> Result<Resolution<'a>, NoMemory>
-    ensures { IfOk result (ResolvesTo (tables_of database.now) (query_seen query.now)) }
+) -> Result<Resolution<'v>, NoMemory>
+    ensures resolved { IfOk result (ResolvesTo (tables_of resolver.old) (query_seen query.now)) }
+    ensures same { resolver.new ≡ resolver.old }
 {
     match &query.value {
-        Some(value) => resolve(alloc, database, &query.key, Some(value)),
-        None => resolve(alloc, database, &query.key, None),
+        Some(value) => resolver.resolve(alloc, &query.key, Some(value)),
+        None => resolver.resolve(alloc, &query.key, None),
     }
 }
 
@@ -47,16 +47,19 @@ fn set_of<'v>(resolution: Resolution<'v>, negated: bool) -> Result<NamedSet<'v>,
 fn resolve_named<'v, 'a>(
     alloc: Global,
     syntax: &Syntax<'v>,
+    resolver: &mut Resolver<'v>,
     form: Form,
     query: Query,
     mark: &'a str,
 ) -> Result<(Named<'v>, &'a str), Stop<'a>>
+    requires { resolver.old ≡ syntax.now.database.now }
+    ensures same { resolver.new ≡ resolver.old }
     ensures read { IfOk result (λ p. NamedBehind syntax.now form query mark.now p.0 p.1.now) }
     ensures stopped { IfErr result (StopsBehind syntax.now form query mark.now) }
     ensures place { IfErr result (λ stop. left_at stop ≤ length mark.now) }
     ensures shorter { IfOk result (λ p. length p.1.now < length mark.now) }
 {
-    let resolution = resolve_query(alloc, syntax.database, &query)?;
+    let resolution = resolve_query(alloc, resolver, &query)?;
     match set_of(resolution, query.negated) {
         Ok(set) => {
             let rest = close_property(form, mark)?;
@@ -71,24 +74,30 @@ fn resolve_named<'v, 'a>(
 pub(crate) fn read_named<'v, 'a>(
     alloc: Global,
     syntax: &Syntax<'v>,
+    resolver: &mut Resolver<'v>,
     text: &'a str,
 ) -> Result<(Named<'v>, &'a str), Stop<'a>>
+    requires { resolver.old ≡ syntax.now.database.now }
+    ensures same { resolver.new ≡ resolver.old }
     ensures read { IfOk result (λ p. OperandIs (language_seen syntax.now) text.now p.0 p.1.now) }
     ensures stopped { IfErr result (OperandStops (language_seen syntax.now) text.now) }
     ensures place { IfErr result (λ stop. left_at stop ≤ length text.now) }
     ensures shorter { IfOk result (λ p. length p.1.now < length text.now) }
 {
     let (form, query, mark) = read_property(alloc, syntax.white_space, text)?;
-    resolve_named(alloc, syntax, form, query, mark)
+    resolve_named(alloc, syntax, resolver, form, query, mark)
 }
 
 /// The same in a bracket. A property that the bracket keeps is not resolved again.
 pub(crate) fn read_operand<'v, 'a>(
     alloc: Global,
     syntax: &Syntax<'v>,
+    resolver: &mut Resolver<'v>,
     gathered: &Gathering<'v>,
     text: &'a str,
 ) -> Result<(Operand<'v>, &'a str), Stop<'a>>
+    requires { resolver.old ≡ syntax.now.database.now }
+    ensures same { resolver.new ≡ resolver.old }
     ensures read { IfOk result (λ p. OperandInFitting (language_seen syntax.now) gathered.now text.now p.0 p.1.now) }
     ensures stopped { IfErr result (OperandStopsIn (language_seen syntax.now) gathered.now text.now) }
     ensures place { IfErr result (λ stop. left_at stop ≤ length text.now) }
@@ -99,7 +108,7 @@ pub(crate) fn read_operand<'v, 'a>(
         let rest = close_property(form, mark)?;
         return Ok((Operand::Again(place), rest));
     }
-    let (named, rest) = resolve_named(alloc, syntax, form, query, mark)?;
+    let (named, rest) = resolve_named(alloc, syntax, resolver, form, query, mark)?;
     let set = Box::new(alloc, named)?;
     Ok((Operand::Named(set), rest))
 }

@@ -17,6 +17,7 @@ use uset_fault::{ParseError, ParseErrorKind};
 use uset_gather::Gathered;
 use uset_grammar::laws;
 use uset_read::Cursor;
+use uset_resolve::Resolver;
 use uset_steps::NamedSet;
 
 /// Reads the bracket that begins the source, up to its `]`.
@@ -38,8 +39,16 @@ fn read_bracket<'a>(
     let mut outer = Vec::new(alloc);
     let mut bracket = OpenBracket::open(alloc, opening, 0)?;
     let mut place = Cursor::new(source).at(inner);
+    let mut resolver = Resolver::new(alloc, syntax.database);
     loop {
-        let progress = match turn(alloc, syntax, place, &mut outer, &mut bracket) {
+        let progress = match turn(
+            alloc,
+            syntax,
+            &mut resolver,
+            place,
+            &mut outer,
+            &mut bracket,
+        ) {
             Ok(progress) => progress,
             Err(error) => return Err(error),
         };
@@ -87,7 +96,8 @@ fn read_property<'a>(
 {
     laws::turns();
     let cursor = Cursor::new(source);
-    let (named, rest) = match read_named(alloc, syntax, source) {
+    let mut resolver = Resolver::new(alloc, syntax.database);
+    let (named, rest) = match read_named(alloc, syntax, &mut resolver, source) {
         Ok(read) => read,
         Err(stop) => return Err(stopped(cursor, stop)),
     };

@@ -27,6 +27,7 @@ use uset_fault::{ParseError, ParseErrorKind};
 use uset_gather::Gathered;
 use uset_grammar::laws;
 use uset_read::{Cursor, split_first};
+use uset_resolve::Resolver;
 use uset_steps::{Name, Named, NamedSet};
 use uset_variables::VariableValue;
 
@@ -149,11 +150,14 @@ fn is_last_property(item: &Item<'_>, rest: &str) -> bool
 fn take_unit<'v, 'a>(
     alloc: Global,
     syntax: &Syntax<'v>,
+    resolver: &mut Resolver<'v>,
     cursor: Cursor<'a>,
     bracket: &mut OpenBracket<'v>,
     text: &'a str,
 ) -> Result<Progress<'a>, ParseError>
+    requires known { resolver.old ≡ syntax.now.database.now }
     requires within { length text.now ≤ length (left_of cursor) }
+    ensures same { resolver.new ≡ resolver.old }
     ensures takes { TakesUnit (language_seen syntax.now)
         (source_of cursor.entry) bracket.old text.now bracket.new result }
     ensures shorter { IfOk result (λ p. IsShorter p (left_of cursor.entry)) }
@@ -161,7 +165,7 @@ fn take_unit<'v, 'a>(
     laws::arranging();
     laws::turns();
     let several = bracket.fits_several();
-    let (item, rest) = match read_unit(alloc, syntax, several, &bracket.gathered, text) {
+    let (item, rest) = match read_unit(alloc, syntax, resolver, several, &bracket.gathered, text) {
         Ok(read) => read,
         Err(stop) => return Err(stopped(cursor, stop)),
     };
@@ -231,10 +235,13 @@ fn close<'v, 'a>(
 pub(crate) fn turn<'v, 'a>(
     alloc: Global,
     syntax: &Syntax<'v>,
+    resolver: &mut Resolver<'v>,
     cursor: Cursor<'a>,
     outer: &mut Vec<OpenBracket<'v>>,
     bracket: &mut OpenBracket<'v>,
 ) -> Result<Progress<'a>, ParseError>
+    requires { resolver.old ≡ syntax.now.database.now }
+    ensures same { resolver.new ≡ resolver.old }
     ensures turns { TurnsAt
         (language_seen syntax.now) cursor.entry outer.old.items bracket.old outer.new.items bracket.new result }
     ensures shorter { IfOk result (λ p. IsShorter p (left_of cursor.entry)) }
@@ -251,6 +258,6 @@ pub(crate) fn turn<'v, 'a>(
         Front::Opening(opening, inner) => open(alloc, cursor, outer, bracket, opening, text, inner),
         Front::Single(item, rest) => take(alloc, cursor, bracket, Sort::Written, item, text, rest),
         Front::Name(name, rest) => take_variable(alloc, syntax, cursor, bracket, name, text, rest),
-        Front::Unit => take_unit(alloc, syntax, cursor, bracket, text),
+        Front::Unit => take_unit(alloc, syntax, resolver, cursor, bracket, text),
     }
 }

@@ -20,6 +20,7 @@ use cp_strset::sole_char;
 use std::alloc::Global;
 use uset_grammar::laws::kinds_of_units;
 use uset_read::{Around, Spelled, Stop, read_escape, read_string, split_first};
+use uset_resolve::Resolver;
 use uset_steps::Gathering;
 
 /// What a unit is.
@@ -113,11 +114,14 @@ fn read_escaped<'v, 'a>(
 fn read_set<'v, 'a>(
     alloc: Global,
     syntax: &Syntax<'v>,
+    resolver: &mut Resolver<'v>,
     several: bool,
     gathered: &Gathering<'v>,
     text: &'a str,
 ) -> Result<(Item<'v>, &'a str), Stop<'a>>
-    requires { IsProperty (chars text.now) }
+    requires known { resolver.old ≡ syntax.now.database.now }
+    requires begins { IsProperty (chars text.now) }
+    ensures same { resolver.new ≡ resolver.old }
     ensures read { IfOk result
         (λ p. UnitInFitting (language_seen syntax.now) gathered.now several text.now p.0 p.1.now) }
     ensures proper { IfOk result (λ p. IsProper p.0) }
@@ -126,7 +130,7 @@ fn read_set<'v, 'a>(
     ensures shorter { IfOk result (λ p. length p.1.now < length text.now) }
 {
     kinds_of_units();
-    let (operand, rest) = read_operand(alloc, syntax, gathered, text)?;
+    let (operand, rest) = read_operand(alloc, syntax, resolver, gathered, text)?;
     Ok((Item::Set(operand), rest))
 }
 
@@ -146,10 +150,13 @@ fn unit_kind(text: &str) -> UnitKind
 pub(crate) fn read_unit<'v, 'a>(
     alloc: Global,
     syntax: &Syntax<'v>,
+    resolver: &mut Resolver<'v>,
     several: bool,
     gathered: &Gathering<'v>,
     text: &'a str,
 ) -> Result<(Item<'v>, &'a str), Stop<'a>>
+    requires { resolver.old ≡ syntax.now.database.now }
+    ensures same { resolver.new ≡ resolver.old }
     ensures read { IfOk result
         (λ p. UnitInFitting (language_seen syntax.now) gathered.now several text.now p.0 p.1.now) }
     ensures proper { IfOk result (λ p. IsProper p.0) }
@@ -160,6 +167,6 @@ pub(crate) fn read_unit<'v, 'a>(
     match unit_kind(text) {
         UnitKind::String => read_text(alloc, syntax, several, text),
         UnitKind::Escape => read_escaped(alloc, syntax, several, text),
-        UnitKind::Property => read_set(alloc, syntax, several, gathered, text),
+        UnitKind::Property => read_set(alloc, syntax, resolver, several, gathered, text),
     }
 }

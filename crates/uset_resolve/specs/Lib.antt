@@ -3,4 +3,5 @@ pub mod Decimal
 pub mod Joining
 pub mod Resolution
 pub mod Sources
+pub mod Made
 pub mod Laws

@@ -6,6 +6,8 @@ mod group;
 mod key;
 pub mod laws;
 mod query;
+mod resolver;
 mod source;
 
-pub use query::{Resolution, resolve};
+pub use query::Resolution;
+pub use resolver::Resolver;

@@ -7,7 +7,8 @@ ghost use Rattle.uset_resolve.specs.Resolution.{of_word, lacks_block, lacks_for}
 ghost use Rattle.uset_resolve.specs.Sources.{IsKey, IsResolution, ResolvesTo};
 
 use crate::key::{Key, falsy, key_of};
-use crate::source::{number_of_value, of_binary, of_key, of_value};
+use crate::resolver::Resolver;
+use crate::source::{number_of_value, of_binary};
 use cp_invlist::NoMemory;
 use prop_data::{MapTable, NamesTable, PropertyDatabase};
 use std::alloc::Global;
@@ -22,24 +23,6 @@ pub enum Resolution<'a> {
     Unknown,
     /// A table is absent that the key and the value ask.
     Lacking,
-}
-
-/// What a key resolves to with a word for truth or falsehood.
-fn resolve_word<'a>(
-    alloc: Global,
-    database: &'a PropertyDatabase,
-    key: &str,
-    value: &str,
-) -> Result<Resolution<'a>, NoMemory>
-    ensures { IfOk result (λ r. IsResolution r (of_word (tables_of database.now) key.now value.now) false) }
-{
-    let Some(falsy) = falsy(alloc, value.as_bytes())? else {
-        return Ok(Resolution::Unknown);
-    };
-    match of_binary(database, key.as_bytes()) {
-        Some(set) => Ok(Resolution::Found(Source::Lent(set), falsy)),
-        None => Ok(Resolution::Unknown),
-    }
 }
 
 /// Whether the names of blocks are absent, or the value is a block and the map of blocks is absent.
@@ -61,40 +44,62 @@ fn lacks_table(database: &PropertyDatabase, key: &Key, value: &str) -> bool
     }
 }
 
-/// What a key resolves to with a value.
-fn resolve_value<'a>(
-    alloc: Global,
-    database: &'a PropertyDatabase,
-    key: &str,
-    value: &str,
-) -> Result<Resolution<'a>, NoMemory>
-    ensures { IfOk result (ResolvesTo (tables_of database.now) key.now (Some value.now)) }
-{
-    let Some(asked) = key_of(alloc, key.as_bytes())? else {
-        return resolve_word(alloc, database, key, value);
-    };
-    match of_value(alloc, database, &asked, value)? {
-        Some(list) => Ok(Resolution::Found(Source::Owned(list), false)),
-        None if lacks_table(database, &asked, value) => Ok(Resolution::Lacking),
-        None => Ok(Resolution::Unknown),
+impl<'a> Resolver<'a> {
+    /// What a key resolves to with a word for truth or falsehood.
+    fn resolve_word(
+        &self,
+        alloc: Global,
+        key: &str,
+        value: &str,
+    ) -> Result<Resolution<'a>, NoMemory>
+        ensures { IfOk result (λ r. IsResolution r (of_word (tables_of self.now) key.now value.now) false) }
+    {
+        let Some(falsy) = falsy(alloc, value.as_bytes())? else {
+            return Ok(Resolution::Unknown);
+        };
+        match of_binary(self.database, key.as_bytes()) {
+            Some(set) => Ok(Resolution::Found(Source::Lent(set), falsy)),
+            None => Ok(Resolution::Unknown),
+        }
     }
-}
 
-/// What a key resolves to with a value or without: over tables that stand in the database, where an absent one gives
-/// nothing. The code points are lent where the database has them as a set, and gathered from its maps elsewhere.
-pub fn resolve<'a>(
-    alloc: Global,
-    database: &'a PropertyDatabase,
-    key: &str,
-    value: Option<&str>,
-) -> Result<Resolution<'a>, NoMemory>
-    ensures { IfOk result (ResolvesTo (tables_of database.now) key.now (option_copied value.entry)) }
-{
-    let Some(value) = value else {
-        return match of_key(alloc, database, key.as_bytes())? {
+    /// What a key resolves to with a value.
+    fn resolve_value(
+        &mut self,
+        alloc: Global,
+        key: &str,
+        value: &str,
+    ) -> Result<Resolution<'a>, NoMemory>
+        ensures resolved { IfOk result (ResolvesTo (tables_of self.old) key.now (Some value.now)) }
+        ensures same { self.new ≡ self.old }
+    {
+        let Some(asked) = key_of(alloc, key.as_bytes())? else {
+            return self.resolve_word(alloc, key, value);
+        };
+        match self.of_value(alloc, &asked, value)? {
+            Some(source) => Ok(Resolution::Found(source, false)),
+            None if lacks_table(self.database, &asked, value) => Ok(Resolution::Lacking),
+            None => Ok(Resolution::Unknown),
+        }
+    }
+
+    /// What a key and a value resolve to, or a key alone: over tables that stand in the database, where an absent one gives
+    /// nothing. The code points are lent where the database has them as a set, and elsewhere made of its maps, once.
+    pub fn resolve(
+        &mut self,
+        alloc: Global,
+        key: &str,
+        value: Option<&str>,
+    ) -> Result<Resolution<'a>, NoMemory>
+        ensures resolved { IfOk result (ResolvesTo (tables_of self.old) key.now (option_copied value.entry)) }
+        ensures same { self.new ≡ self.old }
+    {
+        if let Some(value) = value {
+            return self.resolve_value(alloc, key, value);
+        }
+        match self.of_key(alloc, key.as_bytes())? {
             Some(source) => Ok(Resolution::Found(source, false)),
             None => Ok(Resolution::Unknown),
-        };
-    };
-    resolve_value(alloc, database, key, value)
+        }
+    }
 }

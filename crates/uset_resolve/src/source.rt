@@ -1,14 +1,15 @@
 //! Sources: the code points that properties ask for.
-ghost use Rattle.std.specs.Prelude.{◌≡◌, IfOk, option_map};
+ghost use Rattle.std.specs.Prelude.{◌≡◌, Some, IfOk, option_map};
 ghost use Rattle.cp_invlist.specs.InversionList.{contains};
 ghost use Rattle.prop_data.specs.Database.{tables_of};
 ghost use Rattle.uset_resolve.specs.Keys.{Asked};
 ghost use Rattle.uset_resolve.specs.Resolution.{loosely, of_number, of_group, of_script, of_extension, of_binary, number_of_value, of_key, of_value};
-ghost use Rattle.uset_resolve.specs.Sources.{IsKey, IsList, IsSource};
+ghost use Rattle.uset_resolve.specs.Sources.{IsKey, IsSource};
 
 use crate::decimal::written;
 use crate::group::set_of_group;
 use crate::key::Key;
+use crate::resolver::{Origin, Resolver};
 use cp_invlist::{CodePointInversionList, NoMemory};
 use prop_binary::ecma262_table;
 use prop_data::{MapTable, NamesTable, PropertyDatabase};
@@ -22,71 +23,6 @@ fn loosely(database: &PropertyDatabase, table: NamesTable, name: &[u8]) -> Optio
     ensures { result ≡ loosely (tables_of database.now) table name.now }
 {
     database.names(table)?.get_loose_u16(name)
-}
-
-/// The code points with the number, where there is one, in the map of a property.
-fn of_number(
-    alloc: Global,
-    database: &PropertyDatabase,
-    table: MapTable,
-    number: Option<u16>,
-) -> Result<Option<CodePointInversionList>, NoMemory>
-    ensures { IfOk result (λ list. IsList list (of_number (tables_of database.now) table number)) }
-{
-    let Some(number) = number else {
-        return Ok(None);
-    };
-    let Some(map) = database.map(table) else {
-        return Ok(None);
-    };
-    Ok(Some(map.get_set_for_value(alloc, u32::from(number))?))
-}
-
-/// The code points of the group of categories with this name.
-fn of_group(
-    alloc: Global,
-    database: &PropertyDatabase,
-    name: &[u8],
-) -> Result<Option<CodePointInversionList>, NoMemory>
-    ensures { IfOk result (λ list. IsList list (of_group (tables_of database.now) name.now)) }
-{
-    let Some(number) = loosely(database, NamesTable::GENERAL_CATEGORY_MASK, name) else {
-        return Ok(None);
-    };
-    let Some(categories) = database.map(MapTable::GENERAL_CATEGORY) else {
-        return Ok(None);
-    };
-    Ok(Some(set_of_group(alloc, categories, number)?))
-}
-
-/// The code points with the script of this name.
-fn of_script(
-    alloc: Global,
-    database: &PropertyDatabase,
-    name: &[u8],
-) -> Result<Option<CodePointInversionList>, NoMemory>
-    ensures { IfOk result (λ list. IsList list (of_script (tables_of database.now) name.now)) }
-{
-    let number = loosely(database, NamesTable::SCRIPT, name);
-    of_number(alloc, database, MapTable::SCRIPT, number)
-}
-
-/// The code points that have the script of this name among their script extensions.
-fn of_extension(
-    alloc: Global,
-    database: &PropertyDatabase,
-    name: &[u8],
-) -> Result<Option<CodePointInversionList>, NoMemory>
-    ensures { IfOk result (λ list. IsList list (of_extension (tables_of database.now) name.now)) }
-{
-    let Some(number) = loosely(database, NamesTable::SCRIPT, name) else {
-        return Ok(None);
-    };
-    let Ok(scripts) = ScriptWithExtensions::new(database) else {
-        return Ok(None);
-    };
-    let script = Script::from_icu4c_value(number);
-    Ok(Some(scripts.get_script_extensions_set(alloc, script)?))
 }
 
 /// The set of the binary property with this name in ECMA-262, where the database has it.
@@ -114,42 +50,117 @@ pub(crate) fn number_of_value(
     }
 }
 
-/// The code points of a key without a value: those of a group of categories, of a script or of a binary property.
-pub(crate) fn of_key<'a>(
-    alloc: Global,
-    database: &'a PropertyDatabase,
-    key: &[u8],
-) -> Result<Option<Source<'a>>, NoMemory>
-    ensures { IfOk result (λ source. IsSource source (of_key (tables_of database.now) key.now)) }
-{
-    if let Some(list) = of_group(alloc, database, key)? {
-        return Ok(Some(Source::Owned(list)));
+impl<'a> Resolver<'a> {
+    /// The code points with the number in the map of a property.
+    fn of_number(
+        &mut self,
+        alloc: Global,
+        table: MapTable,
+        number: u16,
+    ) -> Result<Option<Source<'a>>, NoMemory>
+        ensures source { IfOk result (λ source. IsSource source (of_number (tables_of self.old) table (Some number))) }
+        ensures same { self.new ≡ self.old }
+    {
+        let Some(map) = self.database.map(table) else {
+            return Ok(None);
+        };
+        let origin = Origin::Value(table.number(), number);
+        if let Some(made) = self.made(origin)? {
+            return Ok(Some(made));
+        }
+        let list = map.get_set_for_value(alloc, u32::from(number))?;
+        Ok(Some(self.keep(alloc, origin, list)?))
     }
-    if let Some(list) = of_script(alloc, database, key)? {
-        return Ok(Some(Source::Owned(list)));
-    }
-    match of_binary(database, key) {
-        Some(set) => Ok(Some(Source::Lent(set))),
-        None => Ok(None),
-    }
-}
 
-/// The code points of the value behind a key.
-pub(crate) fn of_value(
-    alloc: Global,
-    database: &PropertyDatabase,
-    key: &Key,
-    value: &str,
-) -> Result<Option<CodePointInversionList>, NoMemory>
-    ensures { IfOk result
-        (λ list. (k : Asked) → IsKey key.now k → IsList list (of_value (tables_of database.now) k value.now)) }
-{
-    match key {
-        Key::Categories => of_group(alloc, database, value.as_bytes()),
-        Key::Extensions => of_extension(alloc, database, value.as_bytes()),
-        Key::Values(map, names) => {
-            let number = number_of_value(database, *names, value);
-            of_number(alloc, database, *map, number)
+    /// The code points of the group of categories with this name.
+    fn of_group(&mut self, alloc: Global, name: &[u8]) -> Result<Option<Source<'a>>, NoMemory>
+        ensures source { IfOk result (λ source. IsSource source (of_group (tables_of self.old) name.now)) }
+        ensures same { self.new ≡ self.old }
+    {
+        let Some(number) = loosely(self.database, NamesTable::GENERAL_CATEGORY_MASK, name) else {
+            return Ok(None);
+        };
+        let Some(categories) = self.database.map(MapTable::GENERAL_CATEGORY) else {
+            return Ok(None);
+        };
+        let origin = Origin::Group(number);
+        if let Some(made) = self.made(origin)? {
+            return Ok(Some(made));
+        }
+        let list = set_of_group(alloc, categories, number)?;
+        Ok(Some(self.keep(alloc, origin, list)?))
+    }
+
+    /// The code points with the script of this name.
+    fn of_script(&mut self, alloc: Global, name: &[u8]) -> Result<Option<Source<'a>>, NoMemory>
+        ensures source { IfOk result (λ source. IsSource source (of_script (tables_of self.old) name.now)) }
+        ensures same { self.new ≡ self.old }
+    {
+        let Some(number) = loosely(self.database, NamesTable::SCRIPT, name) else {
+            return Ok(None);
+        };
+        self.of_number(alloc, MapTable::SCRIPT, number)
+    }
+
+    /// The code points that have the script of this name among their script extensions.
+    fn of_extension(&mut self, alloc: Global, name: &[u8]) -> Result<Option<Source<'a>>, NoMemory>
+        ensures source { IfOk result (λ source. IsSource source (of_extension (tables_of self.old) name.now)) }
+        ensures same { self.new ≡ self.old }
+    {
+        let Some(number) = loosely(self.database, NamesTable::SCRIPT, name) else {
+            return Ok(None);
+        };
+        let Ok(scripts) = ScriptWithExtensions::new(self.database) else {
+            return Ok(None);
+        };
+        let origin = Origin::Extension(number);
+        if let Some(made) = self.made(origin)? {
+            return Ok(Some(made));
+        }
+        let script = Script::from_icu4c_value(number);
+        let list = scripts.get_script_extensions_set(alloc, script)?;
+        Ok(Some(self.keep(alloc, origin, list)?))
+    }
+
+    /// The code points of a key without a value: those of a group of categories, of a script or of a binary property.
+    pub(crate) fn of_key(
+        &mut self,
+        alloc: Global,
+        key: &[u8],
+    ) -> Result<Option<Source<'a>>, NoMemory>
+        ensures source { IfOk result (λ source. IsSource source (of_key (tables_of self.old) key.now)) }
+        ensures same { self.new ≡ self.old }
+    {
+        if let Some(source) = self.of_group(alloc, key)? {
+            return Ok(Some(source));
+        }
+        if let Some(source) = self.of_script(alloc, key)? {
+            return Ok(Some(source));
+        }
+        match of_binary(self.database, key) {
+            Some(set) => Ok(Some(Source::Lent(set))),
+            None => Ok(None),
+        }
+    }
+
+    /// The code points of the value behind a key.
+    pub(crate) fn of_value(
+        &mut self,
+        alloc: Global,
+        key: &Key,
+        value: &str,
+    ) -> Result<Option<Source<'a>>, NoMemory>
+        ensures source { IfOk result
+            (λ source. (k : Asked) → IsKey key.now k → IsSource source (of_value (tables_of self.old) k value.now)) }
+        ensures same { self.new ≡ self.old }
+    {
+        match key {
+            Key::Categories => self.of_group(alloc, value.as_bytes()),
+            Key::Extensions => self.of_extension(alloc, value.as_bytes()),
+            Key::Values(map, names) => match number_of_value(self.database, *names, value) {
+                Some(number) => self.of_number(alloc, *map, number),
+                None => Ok(None),
+            },
         }
     }
 }

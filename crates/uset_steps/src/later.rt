@@ -8,11 +8,11 @@ use std::alloc::Global;
 use uset_gather::Gathered;
 use uset_read::Query;
 
-/// What a set that is kept or a step takes beside the ranges of its set, in ranges.
+/// What a set that is kept takes with its name, or what another bracket gathered with its step, in ranges.
 const SHARE: usize = 32;
 
 /// From so many ranges on the steps are done before more are put off: one property has names without number, since names that are
-/// spelled otherwise may be one, and each has a set of its own here.
+/// spelled otherwise may be one, and each is kept here.
 const FULL: usize = 1 << 20;
 
 /// Steps that are put off, the first in front, and the sets that they name, each once.
@@ -112,8 +112,7 @@ impl<'a> Later<'a> {
         }
         let (name, set) = named.into_parts();
         let place = self.sets.len();
-        let kept = set.own_ranges().saturating_add(SHARE);
-        self.kept = self.kept.saturating_add(kept);
+        self.kept = self.kept.saturating_add(SHARE);
         self.sets.push(set)?;
         self.places.add(name, place)?;
         Ok(place)

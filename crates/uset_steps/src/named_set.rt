@@ -86,15 +86,6 @@ impl NamedSet<'_> {
         Ok(gathered)
     }
 
-    /// How many ranges are kept for the set alone.
-    pub(crate) fn own_ranges(&self) -> usize {
-        match self {
-            NamedSet::CodePoints(Source::Owned(list)) | NamedSet::Complement(Source::Owned(list)) =>
-                { list.get_inversion_list().len() / 2 }
-            _ => 0,
-        }
-    }
-
     /// Whether gathering the set takes more time than putting it off.
     pub(crate) fn is_large(&self) -> bool
         ensures { result ≡ is_large_seen self.now }

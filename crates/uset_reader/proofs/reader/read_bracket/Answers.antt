@@ -12,6 +12,7 @@ loop-progress-init c =
     let start = begins c.turns.ensures.units c.turns.ensures.means c.turns.ensures.last c.turns.ensures.onward s c.args.source.now c.args.opening c.args.inner.now c.in_ok-bracket.bracket c.requires.begins c.in_ok-bracket.ensures in (
       c.at-place.ensures.source ∙ c.new.ensures.source,
       rw (c.at-place.ensures.left, c.new-outer.ensures.items) start,
+      c.new-resolver.ensures,
     )
 
 pub loop-progress-preserved : goal.loop-progress-preserved
@@ -22,6 +23,7 @@ loop-progress-preserved c =
       rw c.at-place-in-GoesOn.ensures.left (goes_on c.turns.ensures.units c.turns.ensures.means c.turns.ensures.last c.turns.ensures.onward s c.args.source.now (left_of c.loop-progress.place) c.loop-progress.outer.items c.loop-progress.bracket
           c.loop-progress.invariant.1 c.turn.new.outer.items c.turn.new.bracket c.in-GoesOn.rest (subst (λ z. Turns (language_seen s) z (left_of c.loop-progress.place) c.loop-progress.outer.items c.loop-progress.bracket c.turn.new.outer.items c.turn.new.bracket (Ok (GoesOn c.in-GoesOn.rest))) here
           (subst (λ p. Turns (language_seen s) (source_of c.loop-progress.place) (left_of c.loop-progress.place) c.loop-progress.outer.items c.loop-progress.bracket c.turn.new.outer.items c.turn.new.bracket (Ok p)) c.in-GoesOn.is c.in-Ok.ensures.turns))),
+      c.in-Ok.ensures.same ∙ c.loop-progress.invariant.2,
     )
 
 pub returns-in-Done-clause-read : goal.returns-in-Done-clause-read

@@ -8,6 +8,7 @@ abbrev pub invariant-loop-progress : goal.invariant-loop-progress
 invariant-loop-progress l =
     (source_of l.place ≡ l.fn.source)
     × OpenAt (language_seen l.fn.syntax) l.fn.source (left_of l.place) l.outer.items l.bracket
+    × (l.resolver ≡ l.fn.syntax.database.now)
 
 abbrev pub decreases-loop-progress : goal.decreases-loop-progress
 decreases-loop-progress l = length (left_of l.place)

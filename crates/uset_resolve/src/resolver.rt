@@ -1,0 +1,95 @@
+//! The lists that were made for the properties of a pattern.
+ghost use Rattle.std.specs.Prelude.{◌≡◌, IfOk, IfSome};
+ghost use Rattle.prop_data.specs.Database.{tables_of};
+ghost use Rattle.uset_gather.specs.Gathered.{list_in};
+ghost use Rattle.uset_resolve.specs.Made.{AreMade, IsMadeOf};
+
+use cp_invlist::{CodePointInversionList, NoMemory};
+use prop_data::PropertyDatabase;
+use std::alloc::Global;
+use std::collections::BTreeMap;
+use std::marker::Model;
+use std::rc::Rc;
+use uset_gather::Source;
+
+/// What the code points of a list have in common.
+#[derive(Clone, Copy, PartialEq, Eq, PartialOrd, Ord)]
+pub(crate) enum Origin {
+    /// Their categories are in the group with this number.
+    Group(u16),
+    /// The script with this number is among their script extensions.
+    Extension(u16),
+    /// The table with this number gives them this value.
+    Value(u8, u16),
+}
+
+/// Resolves properties over the tables of a database. A list that is made for one is kept, and shared by all that ask for the same
+/// code points, in whatever words. A contract sees it as the database.
+pub struct Resolver<'a> {
+    pub(crate) database: &'a PropertyDatabase,
+    made: BTreeMap<Origin, Rc<CodePointInversionList>>,
+}
+
+// By hand, so that letting a value go is one call in each proof.
+impl Drop for Resolver<'_> {
+    fn drop(self) {
+        let Self {
+            database: _,
+            made: _,
+        } = self;
+    }
+}
+
+impl<'a> Model for Resolver<'a> {
+    ghost use Rattle.std.specs.Coded.{codes};
+    ghost use Rattle.prop_data.specs.Database.{tables_of};
+    ghost use Rattle.prop_data.specs.contracts.database.PropertyDatabase as seen;
+    ghost use Rattle.prop_data.specs.declared.database.PropertyDatabase.{PropertyDatabase as Seen};
+    ghost use Rattle.uset_resolve.specs.Made.{AreMade};
+
+    ghost Value = { Seen };
+
+    ghost coded = { Prim.hlevel (codes, seen.the_row.coded) };
+
+    ghost view = { λ r. r.database.now };
+
+    ghost invariant = { λ r. AreMade (tables_of r.database.now) r.made };
+}
+
+impl<'a> Resolver<'a> {
+    /// A resolver over the database.
+    pub fn new(alloc: Global, database: &'a PropertyDatabase) -> Resolver<'a>
+        ensures { result ≡ database.now }
+    {
+        Resolver {
+            database,
+            made: BTreeMap::new(alloc),
+        }
+    }
+
+    /// The list of these code points, if it was made before.
+    pub(crate) fn made(&self, origin: Origin) -> Result<Option<Source<'a>>, NoMemory>
+        ensures { IfOk result (λ made. IfSome made (λ source. IsMadeOf (tables_of self.now) origin (list_in source))) }
+    {
+        match self.made.get(&origin) {
+            Some(list) => Ok(Some(Source::Shared(list.clone()?))),
+            None => Ok(None),
+        }
+    }
+
+    /// Keeps the list of these code points.
+    pub(crate) fn keep(
+        &mut self,
+        alloc: Global,
+        origin: Origin,
+        list: CodePointInversionList,
+    ) -> Result<Source<'a>, NoMemory>
+        requires { IsMadeOf (tables_of self.old) origin list }
+        ensures list { IfOk result (λ source. list_in source ≡ list) }
+        ensures same { self.new ≡ self.old }
+    {
+        let list = Rc::new(alloc, list)?;
+        self.made.insert(origin, list.clone()?)?;
+        Ok(Source::Shared(list))
+    }
+}
