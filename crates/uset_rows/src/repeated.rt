@@ -1,4 +1,4 @@
-//! Sets that are named again and again in one bracket.
+//! Sets that are named again and again, in one bracket and in several.
 use crate::fixtures::{assert_holds, have_answer};
 use std::alloc::{AllocError, Global};
 
@@ -14,7 +14,7 @@ const MEMBERS: &str =
 const COMPLEMENT: &str =
     "0000-00FF 0101 0103 0105 0107 0109 010B 010D 010F 0111 0113 0115 0117 0119 011B 011D 011F 0121 0123 0125 0127 0129 012B 012D 012F 0131 0133 0135 0137 0139 013B 013D 013F-10FFFF";
 
-/// Patterns over the set, each with the members that it denotes.
+/// Patterns over the set and over properties, which are asked in several words, each with the members that it denotes.
 const DENOTED: &[(&str, &str)] = &[
     ("[$v$v]", MEMBERS),
     ("[$v-$v$v]", MEMBERS),
@@ -44,6 +44,14 @@ const DENOTED: &[(&str, &str)] = &[
     ("[[^$v]&[a-z$v]]", "0061-007A"),
     ("[[^$v]-[^$v]]", ""),
     ("[^[^$v][$v]]", ""),
+    ("[[[:L:]-[a]][\\p{gc=letter}-[b]]]", "0041-005A 0061-007A"),
+    (
+        "[[\\p{L}-\\p{Lu}]&[\\p{General_Category=L}-[a]]]",
+        "0062-007A",
+    ),
+    ("[[\\p{scx=Hiragana}]-[\\p{Hira}]]", "30FC"),
+    ("[[\\p{Hira}]-[\\p{scx=Hiragana}]]", ""),
+    ("[[\\P{L}]&[\\p{gc=L}]]", ""),
 ];
 
 /// Whether the pattern is read whole, with these members.
