@@ -11,9 +11,7 @@ use Rattle.std.proofs.lemmas.Option.{same_Some}
 use Rattle.prop_data.specs.Tables.{Tables}
 use Rattle.uset_resolve.specs.declared.resolver.Origin.{Origin}
 use Rattle.uset_resolve.specs.declared.resolver.Origin.TheVariants.{Group, Extension, Value}
-use Rattle.uset_grammar.specs.Text.{◌>>=◌}
-use Rattle.uset_resolve.specs.Resolution.{with_number, of_number}
-use Rattle.uset_resolve.specs.Made.{origin_cmp, of_origin, IsMadeOf, AreMade}
+use Rattle.uset_resolve.specs.Made.{origin_cmp, of_origin, AreMade}
 use Rattle.uset_resolve.specs.Sources.{HasSource}
 
 -- origins that compare equal are the same
@@ -33,18 +31,12 @@ same_origin (Extension m) (Value u n) h = absurd (let e = h in cc)
 same_origin (Value t m) (Group n) h = absurd (let e = h in cc)
 same_origin (Value t m) (Extension n) h = absurd (let e = h in cc)
 
--- A list that is made of what its origin says can be kept.
+-- A list that has the code points of its origin can be kept.
 pub keeps_made : (tables : Tables) (origin : Origin) (list : Rc (List ℕ) Global) (old new : BTreeMap Origin (Rc (List ℕ) Global)) →
-    AreMade tables old → IsMadeOf tables origin list.value → Updates origin_cmp old new origin (Some list) → AreMade tables new
+    AreMade tables old → HasSource list.value (of_origin tables origin) → Updates origin_cmp old new origin (Some list) → AreMade tables new
 keeps_made tables origin list old new made is updates other kept there = elim (cases_Bool (is_eq (origin_cmp origin other))) [
   | inl it ↦
       let same = same_Some list kept (sym (cond-true (is_eq (origin_cmp origin other)) (Some list) (get origin_cmp old other) it) ∙ (sym (updates.0 other) ∙ there)) in
-      subst (λ o. IsMadeOf tables o kept.value) (same_origin origin other it) (subst (λ k. IsMadeOf tables origin k.value) same is)
+      subst (λ o. HasSource kept.value (of_origin tables o)) (same_origin origin other it) (subst (λ k. HasSource k.value (of_origin tables origin)) same is)
   | inr it ↦ made other kept (sym (cond-false (is_eq (origin_cmp origin other)) (Some list) (get origin_cmp old other) it) ∙ (sym (updates.0 other) ∙ there))
 ]
-
--- A list that is made of the numbers of a map has the code points with its number.
-pub found_made : (tables : Tables) (t n : ℕ) (map : ℕ → ℕ) (list : List ℕ) → tables.maps t ≡ Some map → IsMadeOf tables (Value t n) list → HasSource list (of_number tables t (Some n))
-found_made tables t n map list there made =
-    let is : of_origin tables (Value t n) ≡ Some (with_number map n) = ap (λ o. o >>= λ m. Some (with_number m n)) there in
-    record { source = with_number map n; is = is; members = made (with_number map n) is }

@@ -4,13 +4,13 @@ use Rattle.std.specs.Global.{Global}
 use Rattle.std.specs.declared.cmp.Ordering.{Ordering}
 use Rattle.std.specs.declared.rc.Rc.{Rc}
 use Rattle.std.specs.BTreeMap.{BTreeMap, get}
-use Rattle.cp_invlist.specs.InversionList.{contains}
 use Rattle.prop_data.specs.Tables.{Tables}
 use Rattle.uset_grammar.specs.Text.{◌>>=◌}
 use Rattle.uset_resolve.specs.contracts.resolver.OriginOrd.TheImpl as origin_order
 use Rattle.uset_resolve.specs.declared.resolver.Origin.{Origin}
 use Rattle.uset_resolve.specs.declared.resolver.Origin.TheVariants.{Group, Extension, Value}
 use Rattle.uset_resolve.specs.Resolution.{Source, with_number, in_group, with_extension}
+use Rattle.uset_resolve.specs.Sources.{HasSource}
 
 -- the order of origins, which is that of their fields
 abbrev pub origin_cmp : Origin → Origin → Ordering
@@ -22,10 +22,6 @@ of_origin tables (Group n) = tables.maps 3 >>= λ map. Some (in_group map n)
 of_origin tables (Extension n) = tables.scripts >>= λ scripts. Some (with_extension tables.extensions scripts.values n)
 of_origin tables (Value t n) = tables.maps t >>= λ map. Some (with_number map n)
 
--- the list has those code points
-abbrev pub IsMadeOf : Tables → Origin → List ℕ → Type 0
-IsMadeOf tables origin list = (source : Source) → of_origin tables origin ≡ Some source → (c : ℕ) → contains list c ≡ source c
-
--- so has each list that is kept
+-- each list that is kept has the code points of its origin
 abbrev pub AreMade : Tables → BTreeMap Origin (Rc (List ℕ) Global) → Type 0
-AreMade tables made = (origin : Origin) (list : Rc (List ℕ) Global) → get origin_cmp made origin ≡ Some list → IsMadeOf tables origin list.value
+AreMade tables made = (origin : Origin) (list : Rc (List ℕ) Global) → get origin_cmp made origin ≡ Some list → HasSource list.value (of_origin tables origin)

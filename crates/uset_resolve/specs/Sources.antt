@@ -29,6 +29,10 @@ pub record HasSource (list : List ℕ) (o : Option Source) : Type 0 where
   pub members : (c : ℕ) → contains list c ≡ source c
 
 -- the list of the source, or there is none
+abbrev pub IsList : Option (List ℕ) → Option Source → Type 0
+IsList None o = o ≡ None
+IsList (Some list) o = HasSource list o
+
 abbrev pub IsSource : Option CodeSource → Option Source → Type 0
 IsSource None o = o ≡ None
 IsSource (Some source) o = HasSource (list_in source) o

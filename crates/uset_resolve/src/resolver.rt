@@ -1,8 +1,9 @@
 //! The lists that were made for the properties of a pattern.
-ghost use Rattle.std.specs.Prelude.{◌≡◌, IfOk, IfSome};
+ghost use Rattle.std.specs.Prelude.{◌≡◌, IfOk};
 ghost use Rattle.prop_data.specs.Database.{tables_of};
 ghost use Rattle.uset_gather.specs.Gathered.{list_in};
-ghost use Rattle.uset_resolve.specs.Made.{AreMade, IsMadeOf};
+ghost use Rattle.uset_resolve.specs.Made.{AreMade, of_origin};
+ghost use Rattle.uset_resolve.specs.Sources.{HasSource, IsList, IsSource};
 
 use cp_invlist::{CodePointInversionList, NoMemory};
 use prop_data::PropertyDatabase;
@@ -67,29 +68,43 @@ impl<'a> Resolver<'a> {
         }
     }
 
-    /// The list of these code points, if it was made before.
-    pub(crate) fn made(&self, origin: Origin) -> Result<Option<Source<'a>>, NoMemory>
-        ensures { IfOk result (λ made. IfSome made (λ source. IsMadeOf (tables_of self.now) origin (list_in source))) }
-    {
-        match self.made.get(&origin) {
-            Some(list) => Ok(Some(Source::Shared(list.clone()?))),
-            None => Ok(None),
-        }
-    }
-
     /// Keeps the list of these code points.
-    pub(crate) fn keep(
+    fn keep(
         &mut self,
         alloc: Global,
         origin: Origin,
         list: CodePointInversionList,
     ) -> Result<Source<'a>, NoMemory>
-        requires { IsMadeOf (tables_of self.old) origin list }
+        requires { HasSource list (of_origin (tables_of self.old) origin) }
         ensures list { IfOk result (λ source. list_in source ≡ list) }
         ensures same { self.new ≡ self.old }
     {
         let list = Rc::new(alloc, list)?;
         self.made.insert(origin, list.clone()?)?;
         Ok(Source::Shared(list))
+    }
+
+    /// The list of these code points, which is made where none is kept.
+    pub(crate) fn get_or_make<F>(
+        &mut self,
+        alloc: Global,
+        origin: Origin,
+        make: F,
+    ) -> Result<Option<Source<'a>>, NoMemory>
+    where
+        F: FnOnce() -> Result<Option<CodePointInversionList>, NoMemory>,
+        requires callable { F.IsAlwaysCallable make }
+        requires makes { (made : _) → F.post make made →
+            IfOk made (λ list. IsList list (of_origin (tables_of self.old) origin)) }
+        ensures source { IfOk result (λ source. IsSource source (of_origin (tables_of self.old) origin)) }
+        ensures same { self.new ≡ self.old }
+    {
+        if let Some(list) = self.made.get(&origin) {
+            return Ok(Some(Source::Shared(list.clone()?)));
+        }
+        match make()? {
+            Some(list) => Ok(Some(self.keep(alloc, origin, list)?)),
+            None => Ok(None),
+        }
     }
 }

@@ -2,9 +2,11 @@
 ghost use Rattle.std.specs.Prelude.{◌≡◌, Some, IfOk, option_map};
 ghost use Rattle.cp_invlist.specs.InversionList.{contains};
 ghost use Rattle.prop_data.specs.Database.{tables_of};
+ghost use Rattle.uset_resolve.specs.declared.resolver.Origin.TheVariants.{Group, Extension};
 ghost use Rattle.uset_resolve.specs.Keys.{Asked};
 ghost use Rattle.uset_resolve.specs.Resolution.{loosely, of_number, of_group, of_script, of_extension, of_binary, number_of_value, of_key, of_value};
-ghost use Rattle.uset_resolve.specs.Sources.{IsKey, IsSource};
+ghost use Rattle.uset_resolve.specs.Made.{of_origin};
+ghost use Rattle.uset_resolve.specs.Sources.{IsKey, IsList, IsSource};
 
 use crate::decimal::written;
 use crate::group::set_of_group;
@@ -50,6 +52,50 @@ pub(crate) fn number_of_value(
     }
 }
 
+/// The code points with the number in the map of a property, where the map is there.
+fn set_of_value(
+    alloc: Global,
+    database: &PropertyDatabase,
+    table: MapTable,
+    number: u16,
+) -> Result<Option<CodePointInversionList>, NoMemory>
+    ensures { IfOk result (λ list. IsList list (of_number (tables_of database.now) table (Some number))) }
+{
+    match database.map(table) {
+        Some(map) => Ok(Some(map.get_set_for_value(alloc, u32::from(number))?)),
+        None => Ok(None),
+    }
+}
+
+/// The code points whose category is in the group with the number, where the categories are there.
+fn set_of_categories(
+    alloc: Global,
+    database: &PropertyDatabase,
+    number: u16,
+) -> Result<Option<CodePointInversionList>, NoMemory>
+    ensures { IfOk result (λ list. IsList list (of_origin (tables_of database.now) (Group number))) }
+{
+    match database.map(MapTable::GENERAL_CATEGORY) {
+        Some(categories) => Ok(Some(set_of_group(alloc, categories, number)?)),
+        None => Ok(None),
+    }
+}
+
+/// The code points that have the script with the number among their script extensions, where scripts are there.
+fn set_of_extension(
+    alloc: Global,
+    database: &PropertyDatabase,
+    number: u16,
+) -> Result<Option<CodePointInversionList>, NoMemory>
+    ensures { IfOk result (λ list. IsList list (of_origin (tables_of database.now) (Extension number))) }
+{
+    let Ok(scripts) = ScriptWithExtensions::new(database) else {
+        return Ok(None);
+    };
+    let script = Script::from_icu4c_value(number);
+    Ok(Some(scripts.get_script_extensions_set(alloc, script)?))
+}
+
 impl<'a> Resolver<'a> {
     /// The code points with the number in the map of a property.
     fn of_number(
@@ -61,15 +107,10 @@ impl<'a> Resolver<'a> {
         ensures source { IfOk result (λ source. IsSource source (of_number (tables_of self.old) table (Some number))) }
         ensures same { self.new ≡ self.old }
     {
-        let Some(map) = self.database.map(table) else {
-            return Ok(None);
-        };
-        let origin = Origin::Value(table.number(), number);
-        if let Some(made) = self.made(origin)? {
-            return Ok(Some(made));
-        }
-        let list = map.get_set_for_value(alloc, u32::from(number))?;
-        Ok(Some(self.keep(alloc, origin, list)?))
+        let database = self.database;
+        self.get_or_make(alloc, Origin::Value(table.number(), number), || {
+            set_of_value(alloc, database, table, number)
+        })
     }
 
     /// The code points of the group of categories with this name.
@@ -77,18 +118,13 @@ impl<'a> Resolver<'a> {
         ensures source { IfOk result (λ source. IsSource source (of_group (tables_of self.old) name.now)) }
         ensures same { self.new ≡ self.old }
     {
-        let Some(number) = loosely(self.database, NamesTable::GENERAL_CATEGORY_MASK, name) else {
+        let database = self.database;
+        let Some(number) = loosely(database, NamesTable::GENERAL_CATEGORY_MASK, name) else {
             return Ok(None);
         };
-        let Some(categories) = self.database.map(MapTable::GENERAL_CATEGORY) else {
-            return Ok(None);
-        };
-        let origin = Origin::Group(number);
-        if let Some(made) = self.made(origin)? {
-            return Ok(Some(made));
-        }
-        let list = set_of_group(alloc, categories, number)?;
-        Ok(Some(self.keep(alloc, origin, list)?))
+        self.get_or_make(alloc, Origin::Group(number), || {
+            set_of_categories(alloc, database, number)
+        })
     }
 
     /// The code points with the script of this name.
@@ -96,10 +132,10 @@ impl<'a> Resolver<'a> {
         ensures source { IfOk result (λ source. IsSource source (of_script (tables_of self.old) name.now)) }
         ensures same { self.new ≡ self.old }
     {
-        let Some(number) = loosely(self.database, NamesTable::SCRIPT, name) else {
-            return Ok(None);
-        };
-        self.of_number(alloc, MapTable::SCRIPT, number)
+        match loosely(self.database, NamesTable::SCRIPT, name) {
+            Some(number) => self.of_number(alloc, MapTable::SCRIPT, number),
+            None => Ok(None),
+        }
     }
 
     /// The code points that have the script of this name among their script extensions.
@@ -107,19 +143,13 @@ impl<'a> Resolver<'a> {
         ensures source { IfOk result (λ source. IsSource source (of_extension (tables_of self.old) name.now)) }
         ensures same { self.new ≡ self.old }
     {
-        let Some(number) = loosely(self.database, NamesTable::SCRIPT, name) else {
+        let database = self.database;
+        let Some(number) = loosely(database, NamesTable::SCRIPT, name) else {
             return Ok(None);
         };
-        let Ok(scripts) = ScriptWithExtensions::new(self.database) else {
-            return Ok(None);
-        };
-        let origin = Origin::Extension(number);
-        if let Some(made) = self.made(origin)? {
-            return Ok(Some(made));
-        }
-        let script = Script::from_icu4c_value(number);
-        let list = scripts.get_script_extensions_set(alloc, script)?;
-        Ok(Some(self.keep(alloc, origin, list)?))
+        self.get_or_make(alloc, Origin::Extension(number), || {
+            set_of_extension(alloc, database, number)
+        })
     }
 
     /// The code points of a key without a value: those of a group of categories, of a script or of a binary property.
