@@ -8,7 +8,7 @@ use Rattle.uset_steps.specs.declared.later.Later.{Later}
 use Rattle.uset_steps.specs.declared.step.Operation.{Operation}
 use Rattle.uset_steps.specs.Names.{Sets}
 use Rattle.uset_steps.specs.Places.{IsPlaceIn}
-use Rattle.uset_steps.specs.Steps.{operated}
+use Rattle.uset_steps.specs.Operations.{operated}
 use Rattle.uset_steps.specs.Later.{later_done, LaterFits, Gathers}
 use Rattle.uset_steps.specs.Gathering.{behind, IsPlaceBehind, BehindFits, gathering_in, Fits, KeepsPlaces, Becomes, BecomesWith}
 

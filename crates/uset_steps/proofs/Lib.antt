@@ -1,3 +1,4 @@
+pub mod TermLemmas
 pub mod StepsLemmas
 pub mod PlacesLemmas
 pub mod KeptLemmas

@@ -4,29 +4,29 @@ use Rattle.std.specs.Prelude.{slice_get}
 use Rattle.std.proofs.lemmas.Bool.{cases_Bool, eqb-true, and_parts, or_cases}
 use Rattle.std.proofs.lemmas.List.{reverse-append}
 use Rattle.uset_grammar.specs.Tree.{Member}
-use Rattle.uset_steps.specs.declared.named_set.NamedSet.{NamedSet}
 use Rattle.uset_steps.specs.declared.step.Operation.{Operation}
 use Rattle.uset_steps.specs.declared.step.Operation.TheVariants.{Join, Remove, Retain}
 use Rattle.uset_steps.specs.declared.step.Step.{Step}
 use Rattle.uset_steps.specs.declared.step.Step.TheVariants.{Range, Text, Set, Named}
-use Rattle.uset_steps.specs.Names.{named_in}
-use Rattle.uset_steps.specs.Steps.{operated, with_kept, step_done, steps_done, names_none, retains, is_side, is_about, occurs}
+use Rattle.uset_steps.specs.Names.{Kept, kept_in}
+use Rattle.uset_steps.specs.Operations.{operated}
+use Rattle.uset_steps.specs.Steps.{with_kept, step_done, steps_done, names_none, retains, is_side, is_about, occurs}
 
 -- one more step
-pub done_more : (sets : List NamedSet) (ss : List Step) (s : Step) (m : Member) (b : Bool) → steps_done sets (ss ++ s ∷ []) m b ≡ step_done sets s m (steps_done sets ss m b)
+pub done_more : (sets : List Kept) (ss : List Step) (s : Step) (m : Member) (b : Bool) → steps_done sets (ss ++ s ∷ []) m b ≡ step_done sets s m (steps_done sets ss m b)
 done_more sets [] s m b = refl
 done_more sets (t ∷ ss) s m b = done_more sets ss s m (step_done sets t m b)
 
 -- the last of the steps, which is the first of those from the last to the first
-pub last_done : (sets : List NamedSet) (left next : List Step) (s : Step) (m : Member) (b c : Bool) → left ≡ next ++ s ∷ [] → c ≡ step_done sets s m b → steps_done sets (reverse next) m c ≡ steps_done sets (reverse left) m b
+pub last_done : (sets : List Kept) (left next : List Step) (s : Step) (m : Member) (b c : Bool) → left ≡ next ++ s ∷ [] → c ≡ step_done sets s m b → steps_done sets (reverse next) m c ≡ steps_done sets (reverse left) m b
 last_done sets left next s m b c is does = ap (steps_done sets (reverse next) m) does ∙ ap (λ ss. steps_done sets ss m b) (sym (ap reverse is ∙ reverse-append next (s ∷ [])))
 
-pub done_append : (sets : List NamedSet) (xs ys : List Step) (m : Member) (b : Bool) → steps_done sets (xs ++ ys) m b ≡ steps_done sets ys m (steps_done sets xs m b)
+pub done_append : (sets : List Kept) (xs ys : List Step) (m : Member) (b : Bool) → steps_done sets (xs ++ ys) m b ≡ steps_done sets ys m (steps_done sets xs m b)
 done_append sets [] ys m b = refl
 done_append sets (x ∷ xs) ys m b = done_append sets xs ys m (step_done sets x m b)
 
 -- a step that names no set that is kept
-pub none_named : (sets : List NamedSet) (s : Step) (m : Member) (b : Bool) → names_none s ≡ true → step_done sets s m b ≡ step_done [] s m b
+pub none_named : (sets : List Kept) (s : Step) (m : Member) (b : Bool) → names_none s ≡ true → step_done sets s m b ≡ step_done [] s m b
 none_named sets (Range span) m b h = refl
 none_named sets (Text spelled) m b h = refl
 none_named sets (Set operation set) m b h = refl
@@ -91,12 +91,12 @@ about_one (Text spelled) outside other place elsewhere h k = absurd (let e = h i
 about_one (Set operation set) outside other place elsewhere h k = absurd (let e = h in cc)
 
 -- a step about a set that is kept: what it makes is what the operation makes with that set
-record Acts (sets : List NamedSet) (s : Step) (outside : Bool) (place : ℕ) : Type 0 where
+record Acts (sets : List Kept) (s : Step) (outside : Bool) (place : ℕ) : Type 0 where
   operation : Operation
   side : is_side outside (retains operation) ≡ true
   does : (m : Member) (b : Bool) → step_done sets s m b ≡ with_kept operation (slice_get sets place) m b
 
-acts : (sets : List NamedSet) (s : Step) (outside : Bool) (place : ℕ) → is_about outside place s ≡ true → Acts sets s outside place
+acts : (sets : List Kept) (s : Step) (outside : Bool) (place : ℕ) → is_about outside place s ≡ true → Acts sets s outside place
 acts sets (Named operation p) outside place h =
     let x = and_parts (is_side outside (retains operation)) (p == place) h in record {
       operation = operation;
@@ -107,42 +107,42 @@ acts sets (Range span) outside place h = absurd (let e = h in cc)
 acts sets (Text spelled) outside place h = absurd (let e = h in cc)
 acts sets (Set operation set) outside place h = absurd (let e = h in cc)
 
-module _ (sets : List NamedSet) (outside : Bool) (place : ℕ) (m : Member) (set : NamedSet) (is : slice_get sets place ≡ Some set) where
-  does_with : (s : Step) (a : Acts sets s outside place) (b : Bool) → step_done sets s m b ≡ operated a.operation (named_in set m) b
+module _ (sets : List Kept) (outside : Bool) (place : ℕ) (m : Member) (set : Kept) (is : slice_get sets place ≡ Some set) where
+  does_with : (s : Step) (a : Acts sets s outside place) (b : Bool) → step_done sets s m b ≡ operated a.operation (kept_in set m) b
   does_with s a b = a.does m b ∙ ap (λ e. with_kept a.operation e m b) is
 
   -- where a step behind decides, all that stands before is alike
-  all_alike : (ss : List Step) → touched outside (named_in set m) ≡ true → occurs outside place ss ≡ true → (b c : Bool) → steps_done sets ss m b ≡ steps_done sets ss m c
+  all_alike : (ss : List Step) → touched outside (kept_in set m) ≡ true → occurs outside place ss ≡ true → (b c : Bool) → steps_done sets ss m b ≡ steps_done sets ss m c
   all_alike [] h there b c = absurd (let e = there in cc)
   all_alike (s ∷ ss) h there b c = elim (or_cases (is_about outside place s) (occurs outside place ss) there) [
     | inl here ↦ (
         let a = acts sets s outside place here in
         ap (steps_done sets ss m)
-        (does_with s a b ∙ (decides a.operation outside (named_in set m) b c a.side h ∙ sym (does_with s a c))))
+        (does_with s a b ∙ (decides a.operation outside (kept_in set m) b c a.side h ∙ sym (does_with s a c))))
     | inr behind ↦ all_alike ss h behind (step_done sets s m b) (step_done sets s m c)
   ]
 
   passes : (s : Step) (ss : List Step) (b : Bool) → is_about outside place s ≡ true → occurs outside place ss ≡ true → steps_done sets ss m (step_done sets s m b) ≡ steps_done sets ss m b
-  passes s ss b about there = elim (cases_Bool (touched outside (named_in set m))) [
+  passes s ss b about there = elim (cases_Bool (touched outside (kept_in set m))) [
     | inl it ↦ all_alike ss it there (step_done sets s m b) b
     | inr it ↦ (
         let a = acts sets s outside place about in
-        ap (steps_done sets ss m) (does_with s a b ∙ idle a.operation outside (named_in set m) b a.side it))
+        ap (steps_done sets ss m) (does_with s a b ∙ idle a.operation outside (kept_in set m) b a.side it))
   ]
 
 -- a step has no effect where one behind it is about the same set, on the same side
-pub no_effect : (sets : List NamedSet) (s : Step) (ss : List Step) (outside : Bool) (place : ℕ) (m : Member) (b : Bool) → is_about outside place s ≡ true → occurs outside place ss ≡ true →
+pub no_effect : (sets : List Kept) (s : Step) (ss : List Step) (outside : Bool) (place : ℕ) (m : Member) (b : Bool) → is_about outside place s ≡ true → occurs outside place ss ≡ true →
     steps_done sets ss m (step_done sets s m b) ≡ steps_done sets ss m b
 no_effect sets s ss outside place m b about there = by (slice_get sets place) refl
   where
-    by : (o : Option NamedSet) → slice_get sets place ≡ o → steps_done sets ss m (step_done sets s m b) ≡ steps_done sets ss m b
+    by : (o : Option Kept) → slice_get sets place ≡ o → steps_done sets ss m (step_done sets s m b) ≡ steps_done sets ss m b
     by (Some set) is = passes sets outside place m set is s ss b about there
     by None is =
         let a = acts sets s outside place about in
         ap (steps_done sets ss m) (a.does m b ∙ ap (λ e. with_kept a.operation e m b) is)
 
 -- or it is passed over
-pub passed_over : (sets : List NamedSet) (left kept : List Step) (s : Step) (outside : Bool) (place : ℕ) (m : Member) (b : Bool) → is_about outside place s ≡ true → occurs outside place (reverse kept) ≡ true →
+pub passed_over : (sets : List Kept) (left kept : List Step) (s : Step) (outside : Bool) (place : ℕ) (m : Member) (b : Bool) → is_about outside place s ≡ true → occurs outside place (reverse kept) ≡ true →
     steps_done sets (left ++ reverse kept) m b ≡ steps_done sets ((left ++ s ∷ []) ++ reverse kept) m b
 passed_over sets left kept s outside place m b about there =
     done_append sets left (reverse kept) m b

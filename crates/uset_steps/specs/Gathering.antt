@@ -6,11 +6,10 @@ use Rattle.uset_gather.specs.Gathered.{gathered_in}
 use Rattle.uset_steps.specs.declared.gathering.Gathering.{Gathering}
 use Rattle.uset_steps.specs.declared.later.Later.{Later}
 use Rattle.uset_steps.specs.declared.gathering.Place.{Place}
-use Rattle.uset_steps.specs.declared.named_set.NamedSet.{NamedSet}
 use Rattle.uset_steps.specs.declared.step.Operation.{Operation}
-use Rattle.uset_steps.specs.Names.{Name, Sets, StandsFor}
+use Rattle.uset_steps.specs.Names.{Name, Sets, Kept, StandsFor}
 use Rattle.uset_steps.specs.Places.{IsPlaceIn}
-use Rattle.uset_steps.specs.Steps.{operated}
+use Rattle.uset_steps.specs.Operations.{operated}
 use Rattle.uset_steps.specs.Later.{later_done, LaterFits}
 
 -- whether something is a member behind the steps that were put off, where there are some
@@ -35,11 +34,11 @@ abbrev pub Fits : Sets → Gathering → Type 0
 Fits sets g = BehindFits sets g.later
 
 -- the set that is kept at the place, where one is
-abbrev pub kept_behind : Option (Box Later Global) → ℕ → Option NamedSet
+abbrev pub kept_behind : Option (Box Later Global) → ℕ → Option Kept
 kept_behind None place = None
 kept_behind (Some later) place = slice_get later.value.sets.items place
 
-abbrev pub kept_at : Gathering → Place → Option NamedSet
+abbrev pub kept_at : Gathering → Place → Option Kept
 kept_at g place = kept_behind g.later place.index
 
 -- the set with this name is kept at the place

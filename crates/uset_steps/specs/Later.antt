@@ -4,19 +4,19 @@ use Rattle.uset_grammar.specs.Tree.{Member}
 use Rattle.uset_steps.specs.declared.later.Later.{Later}
 use Rattle.uset_steps.specs.declared.step.Operation.{Operation}
 use Rattle.uset_steps.specs.declared.named_set.Named.{Named}
-use Rattle.uset_steps.specs.declared.named_set.NamedSet.{NamedSet}
-use Rattle.uset_steps.specs.Names.{Name, Sets, name_seen, named_in, StandsFor, IsSetOf}
+use Rattle.uset_steps.specs.Names.{Name, Sets, Kept, kept_in, name_seen, named_in, StandsFor, IsSetOf}
 use Rattle.uset_steps.specs.Places.{IsPlaceIn}
-use Rattle.uset_steps.specs.Steps.{operated, steps_done, AreWithin}
+use Rattle.uset_steps.specs.Operations.{operated}
+use Rattle.uset_steps.specs.Steps.{steps_done, AreWithin}
 
 -- whether something is a member once the steps are done that were put off, by whether it was one
 abbrev pub later_done : Later → Member → Bool → Bool
 later_done later m b = steps_done later.sets.items later.steps.items m b
 
 -- the set that is kept at the place is the one that the name stands for
-abbrev pub IsKeptAt : Sets → List NamedSet → Name → ℕ → Type 0
+abbrev pub IsKeptAt : Sets → List Kept → Name → ℕ → Type 0
 IsKeptAt sets kept name place =
-    (set : NamedSet) × (slice_get kept place ≡ Some set) × StandsFor sets name (named_in set)
+    (set : Kept) × (slice_get kept place ≡ Some set) × StandsFor sets name (kept_in set)
 
 -- Each set that is kept is the one that its name stands for.
 abbrev pub KeptFit : Sets → Later → Type 0
@@ -30,7 +30,7 @@ pub record LaterFits (sets : Sets) (later : Later) : Type 0 where
 
 -- The set that the name stands for is kept at this place, and all sets that were kept stand where they did.
 pub record IsKept (sets : Sets) (name : Name) (old new : Later) (place : ℕ) : Type 0 where
-  pub more : List NamedSet
+  pub more : List Kept
   pub grown : new.sets.items ≡ old.sets.items ++ more
   pub fits : KeptFit sets old → KeptFit sets new
   pub set : KeptFit sets old → IsKeptAt sets new.sets.items name place

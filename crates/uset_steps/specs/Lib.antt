@@ -1,4 +1,8 @@
 pub mod Names
+pub mod Operations
+pub mod TermSteps
+pub mod Terms
+pub mod Making
 pub mod Places
 pub mod Steps
 pub mod Seen

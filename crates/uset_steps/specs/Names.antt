@@ -1,6 +1,8 @@
 -- The names of sets, and the sets that they stand for.
 use Rattle.std.specs.Prelude.{◌≡◌, ℕ, ◌/◌, Bool, ◌||◌, nat_le, List, length, Option, Some}
+use Rattle.std.specs.Global.{Global}
 use Rattle.std.specs.String.{string_bytes}
+use Rattle.std.specs.declared.rc.Rc.{Rc}
 use Rattle.cp_invlist.specs.InversionList.{contains}
 use Rattle.uset_grammar.specs.Property.{Query}
 use Rattle.uset_grammar.specs.Tree.{Member, in_source, negation}
@@ -27,11 +29,28 @@ named_in (Set set) m = in_set set.now m
 named_in (CodePoints source) m = in_source (contains (list_in source)) m
 named_in (Complement source) m = negation m (in_source (contains (list_in source)) m)
 
+-- how many ranges a set has, or its complement
+abbrev pub ranges_of : NamedSet → ℕ
+ranges_of (Set set) = length set.now.code_points / 2
+ranges_of (CodePoints source) = length (list_in source) / 2
+ranges_of (Complement source) = length (list_in source) / 2
+
+-- how many strings it has
+abbrev pub strings_of : NamedSet → ℕ
+strings_of (Set set) = length set.now.strings
+strings_of (CodePoints source) = 0
+strings_of (Complement source) = 0
+
 -- so many ranges, or strings, that the set is kept
 abbrev pub is_large : NamedSet → Bool
-is_large (Set set) = nat_le 32 (length set.now.code_points / 2) || nat_le 4 (length set.now.strings)
-is_large (CodePoints source) = nat_le 32 (length (list_in source) / 2)
-is_large (Complement source) = nat_le 32 (length (list_in source) / 2)
+is_large set = nat_le 32 (ranges_of set) || nat_le 4 (strings_of set)
+
+-- a set that is kept, with its name
+abbrev pub Kept : Type 0
+Kept = Rc Named Global
+
+abbrev pub kept_in : Kept → Member → Bool
+kept_in kept m = named_in kept.value.set m
 
 -- the set that each name stands for, by its members, where it stands for one
 abbrev pub Sets : Type 0

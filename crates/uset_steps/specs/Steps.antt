@@ -3,41 +3,36 @@ use Rattle.std.specs.Prelude.{◌≡◌, ℕ, ◌<◌, Bool, true, false, not, �
 use Rattle.std.specs.List.{list_any}
 use Rattle.std.specs.String.{string_bytes}
 use Rattle.uset_grammar.specs.Tree.{Member, in_range}
-use Rattle.uset_gather.specs.Gathered.{gathered_in, is_string}
-use Rattle.uset_steps.specs.declared.named_set.NamedSet.{NamedSet}
+use Rattle.uset_gather.specs.Gathered.{is_string}
 use Rattle.uset_steps.specs.declared.step.Operation.{Operation}
 use Rattle.uset_steps.specs.declared.step.Operation.TheVariants.{Join, Remove, Retain}
 use Rattle.uset_steps.specs.declared.step.Step.{Step}
 use Rattle.uset_steps.specs.declared.step.Step.TheVariants.{Range, Text, Set, Named}
-use Rattle.uset_steps.specs.Names.{named_in}
-
--- whether something is a member once a set was joined, taken away or kept, by whether it was one and whether the set has it
-abbrev pub operated : Operation → Bool → Bool → Bool
-operated Join has b = b || has
-operated Remove has b = b && not has
-operated Retain has b = b && has
+use Rattle.uset_steps.specs.Names.{Kept, kept_in}
+use Rattle.uset_steps.specs.Operations.{operated}
+use Rattle.uset_steps.specs.Terms.{closed_in}
 
 -- the same with a set that is kept, where there is one
-abbrev pub with_kept : Operation → Option NamedSet → Member → Bool → Bool
+abbrev pub with_kept : Operation → Option Kept → Member → Bool → Bool
 with_kept operation None m b = b
-with_kept operation (Some set) m b = operated operation (named_in set m) b
+with_kept operation (Some set) m b = operated operation (kept_in set m) b
 
 -- whether something is a member once the step is done, by whether it was one
-abbrev pub step_done : List NamedSet → Step → Member → Bool → Bool
+abbrev pub step_done : List Kept → Step → Member → Bool → Bool
 step_done sets (Range span) m b = b || in_range span.range.start span.range.end m
 step_done sets (Text spelled) m b = b || is_string (string_bytes spelled.value.text) m
-step_done sets (Set operation set) m b = operated operation (gathered_in set.value m) b
+step_done sets (Set operation set) m b = operated operation (closed_in set.value m) b
 step_done sets (Named operation place) m b = with_kept operation (slice_get sets place) m b
 
 -- the same once all steps are done, from left to right
-abbrev pub steps_done : List NamedSet → List Step → Member → Bool → Bool
+abbrev pub steps_done : List Kept → List Step → Member → Bool → Bool
 steps_done sets [] m b = b
 steps_done sets (s ∷ ss) m b = steps_done sets ss m (step_done sets s m b)
 
 -- both lists of steps make the same of every set, whatever sets are kept
 abbrev pub MakeSame : List Step → List Step → Type 0
 MakeSame ss others =
-    (sets : List NamedSet) (m : Member) (b : Bool) → steps_done sets ss m b ≡ steps_done sets others m b
+    (sets : List Kept) (m : Member) (b : Bool) → steps_done sets ss m b ≡ steps_done sets others m b
 
 -- the step names no set that is kept but one of so many
 abbrev pub IsWithin : ℕ → Step → Type 0

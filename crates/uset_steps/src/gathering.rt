@@ -1,4 +1,5 @@
 //! Sets in the making whose steps are put off.
+use crate::closed::Closed;
 use crate::later::Later;
 use crate::literal::{Span, Spelled};
 use crate::named_set::Named;
@@ -42,7 +43,8 @@ impl<'a> Gathering<'a> {
     ghost use Rattle.uset_gather.specs.Gathered.{gathered_in, is_string};
     ghost use Rattle.uset_read.specs.Queries.{query_seen};
     ghost use Rattle.uset_steps.specs.Names.{property, Sets, IsSetOf, name_seen, named_in, is_large};
-    ghost use Rattle.uset_steps.specs.Steps.{operated};
+    ghost use Rattle.uset_steps.specs.Operations.{operated};
+    ghost use Rattle.uset_steps.specs.Terms.{closed_in};
     ghost use Rattle.uset_steps.specs.Gathering.{gathering_in, closed, kept_at, Fits, IsPlaceOf, IsNowhere, IsSomewhere, StandsForSome, GathersKept, KeepsPlaces, Settles, Becomes, BecomesWith};
 
     /// Nothing yet.
@@ -108,21 +110,40 @@ impl<'a> Gathering<'a> {
         }
     }
 
-    /// Gathers what another bracket gathered. The places that were told may end with it, as with `gather_named`.
+    /// Puts off the gathering of the set of another bracket, where nothing was put off before.
+    #[cold]
+    fn put_off_first(
+        &mut self,
+        alloc: Global,
+        operation: Operation,
+        set: Closed<'a>,
+    ) -> Result<(), NoMemory>
+        requires { self.old.later ≡ None }
+        ensures { OnOk result
+            (Becomes self.old self.new (λ m. operated operation (closed_in set.entry m) (gathering_in self.old m))) }
+    {
+        let mut later = Box::new(alloc, Later::new(alloc))?;
+        later.put_off_set(alloc, operation, set)?;
+        self.later = Some(later);
+        Ok(())
+    }
+
+    /// Gathers the set of another bracket. The places that were told may end with it, as with `gather_named`.
     #[inline]
     pub fn gather(
         &mut self,
         alloc: Global,
         operation: Operation,
-        set: Gathered,
+        set: Closed<'a>,
     ) -> Result<(), NoMemory>
         ensures { OnOk result
-            (Becomes self.old self.new (λ m. operated operation (gathered_in set m) (gathering_in self.old m))) }
+            (Becomes self.old self.new (λ m. operated operation (closed_in set.entry m) (gathering_in self.old m))) }
     {
         self.make_way(alloc)?;
-        match &mut self.later {
-            Some(later) => later.put_off_set(alloc, operation, set),
-            None => gather(alloc, &mut self.gathered, operation, Operand::Gathered(set)),
+        match (&mut self.later, set) {
+            (Some(later), set) => later.put_off_set(alloc, operation, set),
+            (None, Closed::Plain(set)) => gather(alloc, &mut self.gathered, operation, Operand::Gathered(set)),
+            (None, set) => self.put_off_first(alloc, operation, set),
         }
     }
 
@@ -147,7 +168,7 @@ impl<'a> Gathering<'a> {
                 return gather(alloc, &mut self.gathered, operation, named.set.operand());
             }
         };
-        later.put_off_named(operation, named)?;
+        later.put_off_named(alloc, operation, named)?;
         self.later = Some(later);
         Ok(())
     }
@@ -180,18 +201,20 @@ impl<'a> Gathering<'a> {
 
     /// Moves out the set of what was gathered, or where it is negated that of the other code points. Nothing is left then.
     #[inline]
-    pub fn close(&mut self, alloc: Global, negated: bool) -> Result<Gathered, NoMemory>
+    pub fn close(&mut self, alloc: Global, negated: bool) -> Result<Closed<'a>, NoMemory>
         ensures set { IfOk result
-            (λ set. (m : Member) → gathered_in set m ≡ closed negated m (gathering_in self.old m)) }
+            (λ set. (m : Member) → closed_in set m ≡ closed negated m (gathering_in self.old m)) }
         ensures emptied { OnOk result ((m : Member) → gathering_in self.new m ≡ false) }
         ensures forgotten { OnOk result ((place : Place) → kept_at self.new place ≡ None) }
     {
-        if self.later.is_some() {
-            self.settle(alloc)?;
-        }
+        let gathered = replace(&mut self.gathered, Gathered::new(alloc));
+        let set = match self.later.take() {
+            Some(later) => Box::into_inner(later).closed(alloc, gathered)?,
+            None => Closed::Plain(gathered),
+        };
         if negated {
-            self.gathered.negate(alloc);
+            return set.negated(alloc);
         }
-        Ok(replace(&mut self.gathered, Gathered::new(alloc)))
+        Ok(set)
     }
 }

@@ -1,10 +1,13 @@
 //! Steps that are put off, with the named sets that they gather.
+use crate::closed::Closed;
 use crate::counting::counting;
-use crate::named_set::{Named, NamedSet};
+use crate::growing::Growing;
+use crate::named_set::Named;
 use crate::places::Places;
 use crate::step::{Operation, Step};
 use cp_invlist::NoMemory;
 use std::alloc::Global;
+use std::rc::Rc;
 use uset_gather::Gathered;
 use uset_read::Query;
 
@@ -18,10 +21,12 @@ const FULL: usize = 1 << 20;
 /// Steps that are put off, the first in front, and the sets that they name, each once.
 pub(crate) struct Later<'a> {
     places: Places,
-    sets: Vec<NamedSet<'a>>,
-    steps: Vec<Step>,
+    sets: Vec<Rc<Named<'a>>>,
+    steps: Vec<Step<'a>>,
     /// About how much memory is kept, in ranges.
     kept: usize,
+    /// Whether one of the sets is so large that the bracket's set becomes a term.
+    huge: bool,
 }
 
 // By hand, so that letting a value go is one call in each proof.
@@ -32,6 +37,7 @@ impl Drop for Later<'_> {
             sets: _,
             steps: _,
             kept: _,
+            huge: _,
         } = self;
     }
 }
@@ -42,7 +48,9 @@ impl<'a> Later<'a> {
     ghost use Rattle.uset_gather.specs.Gathered.{gathered_in};
     ghost use Rattle.uset_read.specs.Queries.{query_seen};
     ghost use Rattle.uset_steps.specs.Names.{property, Sets, name_seen};
-    ghost use Rattle.uset_steps.specs.Steps.{operated, step_done, names_none};
+    ghost use Rattle.uset_steps.specs.Operations.{operated};
+    ghost use Rattle.uset_steps.specs.Steps.{step_done, names_none};
+    ghost use Rattle.uset_steps.specs.Terms.{closed_in};
     ghost use Rattle.uset_steps.specs.Places.{IsPlaceIn, HasNoPlace, HasPlace};
     ghost use Rattle.uset_steps.specs.Later.{later_done, LaterFits, Keeps, GathersNamed, GathersAgain};
 
@@ -56,15 +64,16 @@ impl<'a> Later<'a> {
             sets: Vec::new(alloc),
             steps: Vec::new(alloc),
             kept: 0,
+            huge: false,
         }
     }
 
     /// Puts off a step that names no set.
     #[cold]
-    pub(crate) fn put_off(&mut self, step: Step) -> Result<(), NoMemory>
+    pub(crate) fn put_off(&mut self, step: Step<'a>) -> Result<(), NoMemory>
         requires { names_none step ≡ true }
         ensures members { OnOk result
-            ((m : Member) (b : Bool) → later_done self.new m b ≡ step_done [] step m (later_done self.old m b)) }
+            ((m : Member) (b : Bool) → later_done self.new m b ≡ step_done [] step.entry m (later_done self.old m b)) }
         ensures names { OnOk result ((sets : Sets) → LaterFits sets self.old → LaterFits sets self.new) }
         ensures places { self.new.places ≡ self.old.places }
     {
@@ -72,25 +81,26 @@ impl<'a> Later<'a> {
         Ok(())
     }
 
-    /// Puts off the gathering of what another bracket gathered.
+    /// Puts off the gathering of the set of another bracket.
     #[cold]
     pub(crate) fn put_off_set(
         &mut self,
         alloc: Global,
         operation: Operation,
-        set: Gathered,
+        set: Closed<'a>,
     ) -> Result<(), NoMemory>
         ensures members { OnOk result ((m : Member) (b : Bool) →
-            later_done self.new m b ≡ operated operation (gathered_in set m) (later_done self.old m b)) }
+            later_done self.new m b ≡ operated operation (closed_in set.entry m) (later_done self.old m b)) }
         ensures names { OnOk result ((sets : Sets) → LaterFits sets self.old → LaterFits sets self.new) }
     {
         self.kept = self.kept.saturating_add(SHARE);
+        self.huge = self.huge || set.is_term();
         self.put_off(Step::Set(operation, Box::new(alloc, set)?))
     }
 
-    /// Whether so much is kept that the steps are better done.
+    /// Whether so much is kept that the steps are better done. A term is better as long as it can be.
     pub(crate) fn is_full(&self) -> bool {
-        self.kept >= FULL
+        self.kept >= FULL && !self.huge
     }
 
     /// The place of the set of a property, if it is kept.
@@ -102,7 +112,7 @@ impl<'a> Later<'a> {
     }
 
     /// The place of the set with this name, which is kept from now on where it was not before.
-    fn keep(&mut self, named: Named<'a>) -> Result<usize, NoMemory>
+    fn keep(&mut self, alloc: Global, named: Named<'a>) -> Result<usize, NoMemory>
         ensures kept { IfOk result (Keeps named.entry self.old self.new) }
         ensures steps { self.new.steps ≡ self.old.steps }
         ensures placed { OnOk result (HasPlace self.new.places (name_seen named.entry.name)) }
@@ -110,10 +120,11 @@ impl<'a> Later<'a> {
         if let Some(place) = self.places.of(&named.name) {
             return Ok(place);
         }
-        let (name, set) = named.into_parts();
+        let name = named.name.copy(alloc)?;
         let place = self.sets.len();
         self.kept = self.kept.saturating_add(SHARE);
-        self.sets.push(set)?;
+        self.huge = self.huge || named.set.is_huge();
+        self.sets.push(Rc::new(alloc, named)?)?;
         self.places.add(name, place)?;
         Ok(place)
     }
@@ -121,13 +132,14 @@ impl<'a> Later<'a> {
     /// Puts off the gathering of a set with a name. A set that was named before is kept, and this one is forgotten.
     pub(crate) fn put_off_named(
         &mut self,
+        alloc: Global,
         operation: Operation,
         named: Named<'a>,
     ) -> Result<(), NoMemory>
         ensures gathers { OnOk result (GathersNamed operation named.entry self.old self.new) }
         ensures placed { OnOk result (HasPlace self.new.places (name_seen named.entry.name)) }
     {
-        let place = self.keep(named)?;
+        let place = self.keep(alloc, named)?;
         self.steps.push(Step::Named(operation, place))?;
         Ok(())
     }
@@ -148,7 +160,7 @@ impl<'a> Later<'a> {
         Ok(())
     }
 
-    /// The set once the steps are done.
+    /// The set once the steps are done, all that they name gathered.
     #[cold]
     pub(crate) fn done(self, alloc: Global, gathered: Gathered) -> Result<Gathered, NoMemory>
         ensures { IfOk result (λ g. (m : Member) → gathered_in g m ≡ later_done self.entry m (gathered_in gathered m)) }
@@ -158,6 +170,7 @@ impl<'a> Later<'a> {
             sets,
             steps,
             kept: _,
+            huge: _,
         } = self;
         let mut left = counting(alloc, steps, sets.len())?;
         let mut set = gathered;
@@ -165,5 +178,35 @@ impl<'a> Later<'a> {
             step.apply(alloc, &mut set, &sets)?;
         }
         Ok(set)
+    }
+
+    /// The term of the steps.
+    fn grown(self, alloc: Global, gathered: Gathered) -> Result<Closed<'a>, NoMemory>
+        ensures { IfOk result (λ s. (m : Member) → closed_in s m ≡ later_done self.entry m (gathered_in gathered m)) }
+    {
+        let Later {
+            places: _,
+            sets,
+            steps,
+            kept: _,
+            huge: _,
+        } = self;
+        let mut left = counting(alloc, steps, sets.len())?;
+        let mut growing = Growing::new(gathered);
+        while let Some(step) = left.pop() {
+            growing.take(alloc, step, &sets)?;
+        }
+        growing.finish(alloc)
+    }
+
+    /// The set of the bracket, which is a term where one of the sets is so large.
+    #[cold]
+    pub(crate) fn closed(self, alloc: Global, gathered: Gathered) -> Result<Closed<'a>, NoMemory>
+        ensures { IfOk result (λ s. (m : Member) → closed_in s m ≡ later_done self.entry m (gathered_in gathered m)) }
+    {
+        if self.huge {
+            return self.grown(alloc, gathered);
+        }
+        Ok(Closed::Plain(self.done(alloc, gathered)?))
     }
 }

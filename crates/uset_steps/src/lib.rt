@@ -2,15 +2,21 @@
 //! set is needed, or about 8 MB are kept: then a set that is named again and again is gathered no more than twice.
 #![tactic(auto)]
 
+mod closed;
+mod composing;
 mod counting;
 mod gathering;
+mod growing;
 mod later;
 mod literal;
+mod making;
 mod name;
 mod named_set;
 mod places;
 mod step;
+mod term;
 
+pub use closed::Closed;
 pub use gathering::{Gathering, Place};
 pub use name::Name;
 pub use named_set::{Named, NamedSet};

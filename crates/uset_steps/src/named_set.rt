@@ -11,6 +11,12 @@ const MANY_RANGES: usize = 32;
 /// The same of strings, each of which is copied.
 const MANY_STRINGS: usize = 4;
 
+/// From so many ranges on a set is not gathered before the whole pattern is read.
+const HUGE_RANGES: usize = 4096;
+
+/// The same of strings.
+const HUGE_STRINGS: usize = 64;
+
 /// A set that has a name, without the name.
 pub enum NamedSet<'a> {
     /// A set with strings.
@@ -47,24 +53,11 @@ impl Drop for Named<'_> {
     }
 }
 
-impl<'a> Named<'a> {
-    ghost use Rattle.std.specs.Prelude.{◌≡◌};
-
-    /// The name and the set.
-    pub(crate) fn into_parts(self) -> (Name, NamedSet<'a>)
-        ensures name { result.0 ≡ self.entry.name }
-        ensures set { result.1 ≡ self.entry.set }
-    {
-        let Self { name, set } = self;
-        (name, set)
-    }
-}
-
 impl NamedSet<'_> {
     ghost use Rattle.std.specs.Prelude.{◌≡◌, IfOk};
     ghost use Rattle.uset_grammar.specs.Tree.{Member};
     ghost use Rattle.uset_gather.specs.Gathered.{gathered_in, operand_in};
-    ghost use Rattle.uset_steps.specs.Names.{named_in, is_large as is_large_seen};
+    ghost use Rattle.uset_steps.specs.Names.{named_in, ranges_of, strings_of, is_large as is_large_seen};
 
     /// The set, to be gathered.
     pub(crate) fn operand(&self) -> Operand<'_>
@@ -86,21 +79,29 @@ impl NamedSet<'_> {
         Ok(gathered)
     }
 
+    /// How many ranges the set has, and how many strings.
+    fn sizes(&self) -> (usize, usize)
+        ensures ranges { result.0 ≡ ranges_of self.now }
+        ensures strings { result.1 ≡ strings_of self.now }
+    {
+        let (list, strings) = match self {
+            NamedSet::Set(set) => (set.code_points(), set.strings().len()),
+            NamedSet::CodePoints(source) | NamedSet::Complement(source) => (source.list(), 0),
+        };
+        (list.get_inversion_list().len() / 2, strings)
+    }
+
     /// Whether gathering the set takes more time than putting it off.
     pub(crate) fn is_large(&self) -> bool
         ensures { result ≡ is_large_seen self.now }
     {
-        let (boundaries, strings) = match self {
-            NamedSet::Set(set) => {
-                (
-                    set.code_points().get_inversion_list().len(),
-                    set.strings().len(),
-                )
-            }
-            NamedSet::CodePoints(source) | NamedSet::Complement(source) => {
-                (source.list().get_inversion_list().len(), 0)
-            }
-        };
-        boundaries / 2 >= MANY_RANGES || strings >= MANY_STRINGS
+        let (ranges, strings) = self.sizes();
+        ranges >= MANY_RANGES || strings >= MANY_STRINGS
+    }
+
+    /// Whether the set is so large that it's gathered once the whole pattern is read.
+    pub(crate) fn is_huge(&self) -> bool {
+        let (ranges, strings) = self.sizes();
+        ranges >= HUGE_RANGES || strings >= HUGE_STRINGS
     }
 }

@@ -1,12 +1,14 @@
 //! Steps that are put off.
 ghost use Rattle.std.specs.Prelude.{OnOk};
 ghost use Rattle.uset_gather.specs.Gathered.{gathered_in, operand_in, HasMembers};
-ghost use Rattle.uset_steps.specs.Steps.{operated};
+ghost use Rattle.uset_steps.specs.Operations.{operated};
 
 use crate::literal::{Span, Spelled};
-use crate::named_set::NamedSet;
+use crate::closed::Closed;
+use crate::named_set::Named;
 use cp_invlist::NoMemory;
 use std::alloc::Global;
+use std::rc::Rc;
 use uset_gather::{Gathered, Operand};
 
 /// How a set is gathered.
@@ -22,13 +24,13 @@ pub enum Operation {
 
 /// A step that is put off.
 #[derive(Drop)]
-pub(crate) enum Step {
+pub(crate) enum Step<'a> {
     /// Adds the range.
     Range(Span),
     /// Adds the string.
     Text(Box<Spelled>),
-    /// Gathers what another bracket gathered.
-    Set(Operation, Box<Gathered>),
+    /// Gathers the set of another bracket.
+    Set(Operation, Box<Closed<'a>>),
     /// Gathers the named set with this place among those that are kept.
     Named(Operation, usize),
 }
@@ -51,7 +53,7 @@ pub(crate) fn gather(
     }
 }
 
-impl Step {
+impl<'a> Step<'a> {
     ghost use Rattle.std.specs.Prelude.{OnOk};
     ghost use Rattle.uset_gather.specs.Gathered.{gathered_in, HasMembers};
     ghost use Rattle.uset_steps.specs.Steps.{step_done};
@@ -61,19 +63,19 @@ impl Step {
         self,
         alloc: Global,
         gathered: &mut Gathered,
-        sets: &[NamedSet<'_>],
+        sets: &[Rc<Named<'a>>],
     ) -> Result<(), NoMemory>
-        ensures { OnOk result (HasMembers gathered.new (λ m. step_done sets.now self m (gathered_in gathered.old m))) }
+        ensures { OnOk result (HasMembers gathered.new (λ m. step_done sets.now self.entry m (gathered_in gathered.old m))) }
     {
         match self {
             Step::Range(span) => gathered.add_range(span.range),
             Step::Text(spelled) => gathered.add_text(Box::into_inner(spelled).text),
             Step::Set(operation, set) => {
-                let operand = Operand::Gathered(Box::into_inner(set));
-                gather(alloc, gathered, operation, operand)
+                let set = Box::into_inner(set).into_gathered(alloc)?;
+                gather(alloc, gathered, operation, Operand::Gathered(set))
             }
             Step::Named(operation, place) => match sets.get(place) {
-                Some(set) => gather(alloc, gathered, operation, set.operand()),
+                Some(named) => gather(alloc, gathered, operation, named.as_ref().set.operand()),
                 None => Ok(()),
             },
         }

@@ -7,4 +7,5 @@ pub returns-in-Some-clause-kept : goal.returns-in-Some-clause-kept
 returns-in-Some-clause-kept c = λ sets is. kept_before sets (name_seen c.args.named.name) c.args.self.now c.in-Some.place c.in-Some.ensures.found
 
 pub returns-clause-kept : goal.returns-clause-kept
-returns-clause-kept c = λ sets is. kept_now sets c.args.named c.args.self.now _ c.len-place.result (search rules) (rw c.into_parts-name.ensures.set at c.in_ok-push.ensures.items) (rw c.into_parts-name.ensures.name at c.in_ok-add.ensures) is
+returns-clause-kept c = λ sets is.
+    kept_now sets c.args.named c.in_ok-new.field-0 c.args.self.now _ c.len-place.result c.in_ok-new.ensures.ok (search rules) c.in_ok-push.ensures.items (rw c.in_ok-name.ensures at c.in_ok-add.ensures) is
