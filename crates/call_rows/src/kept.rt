@@ -6,7 +6,7 @@ use std::alloc::Global;
 use std::rc::Rc;
 use uset_gather::{Gathered, Source};
 use uset_read::Query;
-use uset_steps::{Gathering, Name, Named, NamedSet, Operation, Place};
+use uset_steps::{Closed, Gathering, Name, Named, NamedSet, Operation, Place};
 
 /// The question of a property by its key, and by a value where one is given.
 fn asked(alloc: Global, negated: bool, key: &str, value: Option<&str>) -> Result<Query, NoMemory> {
@@ -90,7 +90,7 @@ fn inner(alloc: Global) -> Result<Gathered, NoMemory> {
 
 /// Takes the letter `b` away.
 fn remove_letter(alloc: Global, gathering: &mut Gathering<'_>) -> Result<(), NoMemory> {
-    gathering.gather(alloc, Operation::Remove, inner(alloc)?)
+    gathering.gather(alloc, Operation::Remove, Closed::Plain(inner(alloc)?))
 }
 
 /// Adds the string, which is not one character.

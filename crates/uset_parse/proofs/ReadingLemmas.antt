@@ -7,8 +7,9 @@ use Rattle.uset_grammar.specs.Tree.{Member}
 use Rattle.uset_grammar.specs.Language.{Language}
 use Rattle.uset_grammar.specs.Place.{size}
 use Rattle.uset_grammar.specs.Answers.{ReadsUnder, under, FaultUnder, absent, under_fault, IsFault}
-use Rattle.uset_gather.specs.declared.gathered.Gathered.{Gathered}
-use Rattle.uset_gather.specs.Gathered.{gathered_in, in_set}
+use Rattle.uset_steps.specs.declared.closed.Closed.{Closed as ClosedSet}
+use Rattle.uset_gather.specs.Gathered.{in_set}
+use Rattle.uset_steps.specs.Terms.{closed_in}
 use Rattle.uset_read.specs.declared.cursor.Cursor.{Cursor}
 use Rattle.uset_read.specs.Cursors.{source_of, left_of}
 use Rattle.uset_fault.specs.declared.error.ParseError.{ParseError}
@@ -18,8 +19,8 @@ use Rattle.uset_reader.specs.Readings.{IsReading, IsRefusal}
 use Rattle.uset_parse.specs.Reading.{IsRead, IsRefused}
 
 -- what was gathered up to a cursor is what is read under the syntax that is there
-pub reading : (l : Language) (syntax : Option Language) (source : List ℕ) (gathered : Gathered) (end : Cursor) (set : StringSet) (n : ℕ) → syntax ≡ Some l → IsReading l source gathered end →
-    ((m : Member) → in_set set m ≡ gathered_in gathered m) → n + size (chars (left_of end)) ≡ length (source_of end) → IsRead syntax source set n
+pub reading : (l : Language) (syntax : Option Language) (source : List ℕ) (gathered : ClosedSet) (end : Cursor) (set : StringSet) (n : ℕ) → syntax ≡ Some l → IsReading l source gathered end →
+    ((m : Member) → in_set set m ≡ closed_in gathered m) → n + size (chars (left_of end)) ≡ length (source_of end) → IsRead syntax source set n
 reading l syntax source gathered end set n there h made place = record {
   tree = h.tree;
   rest = chars (left_of end);

@@ -24,8 +24,8 @@ pub fn parse_unstable_with_variables(
     let Some(syntax) = Syntax::of(variable_map, database) else {
         return Err(ParseErrorKind::Internal.into());
     };
-    let (gathered, place) = read_set(alloc, &syntax, source)?;
-    let set = gathered.into_set(alloc)?;
+    let (closed, place) = read_set(alloc, &syntax, source)?;
+    let set = closed.into_set(alloc)?;
     Ok((set, place.offset()))
 }
 

@@ -13,8 +13,9 @@ use Rattle.uset_grammar.specs.Reached.{OpenBracket}
 use Rattle.uset_grammar.specs.Place.{size}
 use Rattle.uset_grammar.specs.Turn.{greatest, reversed_code}
 use Rattle.uset_grammar.specs.Laws.{AwaitedTells}
-use Rattle.uset_gather.specs.declared.gathered.Gathered.{Gathered}
-use Rattle.uset_gather.specs.Gathered.{gathered_in, is_string}
+use Rattle.uset_steps.specs.declared.closed.Closed.{Closed as ClosedSet}
+use Rattle.uset_gather.specs.Gathered.{is_string}
+use Rattle.uset_steps.specs.Terms.{closed_in}
 use Rattle.uset_grammar.specs.Language.{Language}
 use Rattle.uset_steps.specs.declared.gathering.Gathering.{Gathering}
 use Rattle.uset_steps.specs.declared.named_set.Named.{Named as NamedOperand}
@@ -22,7 +23,7 @@ use Rattle.uset_steps.specs.declared.step.Operation.{Operation}
 use Rattle.uset_steps.specs.declared.step.Operation.TheVariants.{Join, Remove, Retain}
 use Rattle.uset_steps.specs.declared.gathering.Place.{Place}
 use Rattle.uset_steps.specs.Names.{Name, Sets, StandsFor, named_in, IsSetOf}
-use Rattle.uset_steps.specs.Steps.{operated}
+use Rattle.uset_steps.specs.Operations.{operated}
 use Rattle.uset_steps.specs.Gathering.{gathering_in, closed as finished, IsPlaceOf, Fits as NamesFit, Becomes as StepsBecome, BecomesWith as StepsBecomeWith}
 use Rattle.uset_reader.specs.declared.item.Codes.{Codes}
 use Rattle.uset_reader.specs.declared.item.Item.{Item as CodeItem}
@@ -120,8 +121,8 @@ not_arranged i stuck h = refl
 not_arranged i (on s f) h = absurd h
 
 -- a bracket that closes
-pub closes : (l : Language) (b : CodeBracket) (o : OpenBracket) (all : Gathering) (set : Gathered) (ends : Bool) → Stands l b o → ends ≡ true → EndedAs (ending (awaits_seen b.awaits)) b.gathered all ends →
-    ((m : Member) → gathered_in set m ≡ finished b.opening.negated m (gathering_in all m)) → Closed o set
+pub closes : (l : Language) (b : CodeBracket) (o : OpenBracket) (all : Gathering) (set : ClosedSet) (ends : Bool) → Stands l b o → ends ≡ true → EndedAs (ending (awaits_seen b.awaits)) b.gathered all ends →
+    ((m : Member) → closed_in set m ≡ finished b.opening.negated m (gathering_in all m)) → Closed o set
 closes l b o all set ends s is h g = by (ending (awaits_seen b.awaits)) refl h
   where
     by : (e : Option Steps) → ending (awaits_seen b.awaits) ≡ e → EndedAs e b.gathered all ends → Closed o set
@@ -143,8 +144,8 @@ operation_follows Join tree old new set g same rest m = ap (gathers rest m) (ap 
 operation_follows Remove tree old new set g same rest m = ap (gathers rest m) (ap (λ b. gathering_in old m && not b) (same m) ∙ sym (g m))
 operation_follows Retain tree old new set g same rest m = ap (gathers rest m) (ap (λ b. gathering_in old m && b) (same m) ∙ sym (g m))
 
-pub gathers_inner : (operation : Operation) (set : Gathered) (old new : Gathering) → StepsBecome old new (λ m. operated operation (gathered_in set m) (gathering_in old m)) → GathersSet operation (Inner set) old new
-gathers_inner operation set old new h l tree fits is = record { follows = operation_follows operation tree old new (gathered_in set) h.has is; fits = h.fits (sets_of l) fits }
+pub gathers_inner : (operation : Operation) (set : ClosedSet) (old new : Gathering) → StepsBecome old new (λ m. operated operation (closed_in set m) (gathering_in old m)) → GathersSet operation (Inner set) old new
+gathers_inner operation set old new h l tree fits is = record { follows = operation_follows operation tree old new (closed_in set) h.has is; fits = h.fits (sets_of l) fits }
 
 pub gathers_named : (operation : Operation) (named : Box NamedOperand Global) (old new : Gathering) →
     ((sets : Sets) → NamesFit sets old → IsSetOf sets named.value → StepsBecomeWith sets new (λ m. operated operation (named_in named.value.set m) (gathering_in old m))) → GathersSet operation (Named named) old new

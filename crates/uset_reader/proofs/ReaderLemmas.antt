@@ -13,8 +13,9 @@ use Rattle.uset_grammar.specs.Fault.{FaultAt, empty, no_set, no_name, unbound_fi
 use Rattle.uset_grammar.specs.Place.{size, offset_of}
 use Rattle.uset_grammar.specs.Turn.{accepted, rejected, Turn, goes, stops, UnitReader, turn, Means}
 use Rattle.uset_grammar.specs.Laws.{UnitsAreRead, TurnsMean, ReadAtLast, MovesOn, AllRestsAreBehind}
-use Rattle.uset_gather.specs.declared.gathered.Gathered.{Gathered}
-use Rattle.uset_gather.specs.Gathered.{gathered_in, in_set}
+use Rattle.uset_steps.specs.declared.closed.Closed.{Closed as ClosedSet}
+use Rattle.uset_gather.specs.Gathered.{in_set}
+use Rattle.uset_steps.specs.Terms.{closed_in}
 use Rattle.uset_steps.specs.declared.named_set.Named.{Named}
 use Rattle.uset_steps.specs.Names.{named_in}
 use Rattle.uset_read.specs.declared.cursor.Cursor.{Cursor}
@@ -92,7 +93,7 @@ module _ (units_read : UnitsAreRead) (means : TurnsMean) (last : ReadAtLast) (on
           here = record { before = on.0; is = on.1 };
         }
 
-    pub is_read : (new_outer : List CodeBracket) (new : CodeBracket) (made : Gathered) (rest : Bor (List ℕ)) (end : Cursor) → Turns l source left outer b new_outer new (Ok (Done made rest)) → source_of end ≡ source → left_of end ≡ rest.now →
+    pub is_read : (new_outer : List CodeBracket) (new : CodeBracket) (made : ClosedSet) (rest : Bor (List ℕ)) (end : Cursor) → Turns l source left outer b new_outer new (Ok (Done made rest)) → source_of end ≡ source → left_of end ≡ rest.now →
         IsReading l source made end
     is_read new_outer new made rest end h same_source same_left =
         let k = h units at.here at.innermost at.others at.stands at.around in record {
@@ -151,7 +152,7 @@ module _ (s : Syntax) (source : List ℕ) where
     refused_other cursor e v some other same is h =
         refused_first spoken source e unexpected_variable (Some ends.0) is (no_set_variable begins_so (bound_by ∙ ap (option_map value_seen) some) other ends.1) (placed cursor e same h)
 
-    pub read_variable : (made : Gathered) (v : StringSet) (end : Cursor) → bound s.variables.now name ≡ Some (UnicodeSet v) → ((m : Member) → gathered_in made m ≡ in_set v m) → source_of end ≡ source → left_of end ≡ rest →
+    pub read_variable : (made : ClosedSet) (v : StringSet) (end : Cursor) → bound s.variables.now name ≡ Some (UnicodeSet v) → ((m : Member) → closed_in made m ≡ in_set v m) → source_of end ≡ source → left_of end ≡ rest →
         IsReading spoken source made end
     read_variable made v end some members same left = record {
       tree = given (in_set v);
@@ -161,7 +162,7 @@ module _ (s : Syntax) (source : List ℕ) where
     }
 
   module _ (units : UnitReader spoken) (begins_so : first spoken (chars source) ≡ of_property) where
-    pub read_property : (named : Named) (made : Gathered) (rest : List ℕ) (end : Cursor) → OperandIs spoken source named rest → ((m : Member) → gathered_in made m ≡ named_in named.set m) → source_of end ≡ source →
+    pub read_property : (named : Named) (made : ClosedSet) (rest : List ℕ) (end : Cursor) → OperandIs spoken source named rest → ((m : Member) → closed_in made m ≡ named_in named.set m) → source_of end ≡ source →
         left_of end ≡ rest → IsReading spoken source made end
     read_property named made rest end h members same left =
         let found = h (units.property_begins (chars source) begins_so) in record {

@@ -35,7 +35,7 @@ use Rattle.uset_reader.specs.Items.{number_of, item_seen, IsTreeOf, awaits_seen}
 use Rattle.uset_reader.specs.Fronts.{no_tree}
 use Rattle.uset_reader.specs.Brackets.{Stands, begun, IsBegun, IsItem, Takes, Closes}
 use Rattle.uset_reader.specs.declared.bracket.Opening.{Opening as CodeOpening}
-use Rattle.uset_gather.specs.declared.gathered.Gathered.{Gathered}
+use Rattle.uset_steps.specs.declared.closed.Closed.{Closed as ClosedSet}
 use Rattle.uset_steps.specs.declared.gathering.Gathering.{Gathering}
 use Rattle.uset_steps.specs.Gathering.{Fits as NamesFit}
 use Rattle.uset_reader.specs.Named.{sets_of}
@@ -247,7 +247,7 @@ none_around l [] h = refl
 none_around l (o ∷ os) h = absurd h
 
 -- the outermost bracket closes
-pub closes_outermost : (source : List ℕ) (outer new_outer : List CodeBracket) (b new : CodeBracket) (text : List ℕ) (rest : Bor (List ℕ)) (made : Gathered) → Closes b (Some made) → outer ≡ [] →
+pub closes_outermost : (source : List ℕ) (outer new_outer : List CodeBracket) (b new : CodeBracket) (text : List ℕ) (rest : Bor (List ℕ)) (made : ClosedSet) → Closes b (Some made) → outer ≡ [] →
     ClosesAs source outer b text rest.now new_outer new (Ok (Done made rest))
 closes_outermost source outer new_outer b new text rest made h none l units here o os stands around =
     let shut = h l o stands in
@@ -273,7 +273,7 @@ bracket_around l outer left around os is h = by os refl (subst (λ bs. AllStand 
     by (o ∷ more) e h = record { next = o; further = more; are = e; stands = h.0; around_too = h.1 }
 
 -- nothing stands behind a bracket inside
-pub closes_last : (source : List ℕ) (outer new_outer left : List CodeBracket) (b around new : CodeBracket) (text rest : List ℕ) (made : Gathered) (e : ParseError) → Closes b (Some made) → outer ≡ left ++ around ∷ [] →
+pub closes_last : (source : List ℕ) (outer new_outer left : List CodeBracket) (b around new : CodeBracket) (text rest : List ℕ) (made : ClosedSet) (e : ParseError) → Closes b (Some made) → outer ≡ left ++ around ∷ [] →
     chars rest ≡ [] → kind_told (kind_of e) ≡ Some eof → offset_in e ≡ None → ClosesAs source outer b text rest new_outer new (Err e)
 closes_last source outer new_outer left b around new text rest made e h popped none is offset l units here o os stands around_h =
     let shut = h l o stands in
@@ -285,7 +285,7 @@ closes_last source outer new_outer left b around new text rest made e h popped n
       offset,
     )
 
-module _ (source : List ℕ) (outer left : List CodeBracket) (b around new : CodeBracket) (text : List ℕ) (rest : Bor (List ℕ)) (made : Gathered) (shuts : Closes b (Some made)) (popped : outer ≡ left ++ around ∷ []) (c : ℕ) (t : Text)
+module _ (source : List ℕ) (outer left : List CodeBracket) (b around new : CodeBracket) (text : List ℕ) (rest : Bor (List ℕ)) (made : ClosedSet) (shuts : Closes b (Some made)) (popped : outer ≡ left ++ around ∷ []) (c : ℕ) (t : Text)
     (more : chars rest.now ≡ c ∷ t) where
   module _ (l : Language) (units : UnitReader l) (o : OpenBracket) (os : List OpenBracket) (stands : Stands l b o) (around_h : Around l outer os) where
     abbrev inside : BracketAround l around left os

@@ -8,8 +8,8 @@ use Rattle.uset_grammar.specs.Reached.{OpenBracket, with_item}
 use Rattle.uset_grammar.specs.Place.{size}
 use Rattle.uset_grammar.specs.Turn.{greatest, reversed_code}
 use Rattle.uset_grammar.specs.Language.{Language}
-use Rattle.uset_gather.specs.declared.gathered.Gathered.{Gathered}
-use Rattle.uset_gather.specs.Gathered.{gathered_in}
+use Rattle.uset_steps.specs.declared.closed.Closed.{Closed as ClosedSet}
+use Rattle.uset_steps.specs.Terms.{closed_in}
 use Rattle.uset_reader.specs.declared.bracket.Opening.{Opening as CodeOpening}
 use Rattle.uset_reader.specs.declared.bracket.OpenBracket.{OpenBracket as CodeBracket}
 use Rattle.uset_reader.specs.declared.bracket.Taken.{Taken}
@@ -119,15 +119,15 @@ EndedAs (Some last) old new ends =
     (ends ≡ true) × ((m : Member) → gathers last m (gathering_in old m) ≡ gathering_in new m)
 
 -- the set is that of the bracket, whose items are arranged to these steps
-pub record Closed (o : OpenBracket) (set : Gathered) : Type 0 where
+pub record Closed (o : OpenBracket) (set : ClosedSet) : Type 0 where
   pub steps : Steps
   pub arranged : arrange o.items ≡ Some steps
-  pub members : (m : Member) → gathered_in set m ≡ has (tree_of o.header steps) m
+  pub members : (m : Member) → closed_in set m ≡ has (tree_of o.header steps) m
 
-abbrev pub ClosedAs : Option Gathered → OpenBracket → Type 0
+abbrev pub ClosedAs : Option ClosedSet → OpenBracket → Type 0
 ClosedAs None o = arrange o.items ≡ None
 ClosedAs (Some set) o = Closed o set
 
 -- how a bracket closes, for every one that the code's stands for
-abbrev pub Closes : CodeBracket → Option Gathered → Type 0
+abbrev pub Closes : CodeBracket → Option ClosedSet → Type 0
 Closes b set = (l : Language) (o : OpenBracket) → Stands l b o → ClosedAs set o

@@ -9,7 +9,7 @@ use Rattle.uset_grammar.specs.Item.{Item, chars, text, nested, minus, ampersand,
 use Rattle.uset_grammar.specs.Body.{add_each}
 use Rattle.uset_grammar.specs.Arranging.{Awaits, element, after_single, range_end, hyphen_end, anchor_end, after_set, remove_or_end, keep_set, Next, stuck, on}
 use Rattle.uset_grammar.specs.Language.{Language}
-use Rattle.uset_gather.specs.Gathered.{gathered_in}
+use Rattle.uset_steps.specs.Terms.{closed_in}
 use Rattle.uset_steps.specs.declared.named_set.Named.{Named as NamedOperand}
 use Rattle.uset_steps.specs.declared.named_set.NamedSet.{NamedSet}
 use Rattle.uset_steps.specs.declared.step.Operation.{Operation}
@@ -52,7 +52,7 @@ IsNamedOf l named tree = IsNamed named.set tree × IsSetOf (sets_of l) named
 -- The tree has the members of the operand, which a name stands for where it has one. Where the operand tells a place, it is that of
 -- the name in what was gathered.
 abbrev pub IsOperand : Language → Gathering → Operand → Tree → Type 0
-IsOperand l g (Inner set) tree = (m : Member) → has tree m ≡ gathered_in set m
+IsOperand l g (Inner set) tree = (m : Member) → has tree m ≡ closed_in set m
 IsOperand l g (Named named) tree = IsNamedOf l named.value tree
 IsOperand l g (Again place) tree = (name : Name) × IsPlaceOf g name place × StandsFor (sets_of l) name (has tree)
 

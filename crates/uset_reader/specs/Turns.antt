@@ -11,7 +11,7 @@ use Rattle.uset_grammar.specs.Front.{front, begins_unit}
 use Rattle.uset_grammar.specs.Arranging.{fit, arrange}
 use Rattle.uset_grammar.specs.Place.{offset_of}
 use Rattle.uset_grammar.specs.Turn.{Verdict, accepted, rejected, Turn, goes, stops, UnitReader, at, two, refusal, judged, named_turn, unit_turn, closed, turn}
-use Rattle.uset_gather.specs.Gathered.{gathered_in}
+use Rattle.uset_steps.specs.Terms.{closed_in}
 use Rattle.uset_steps.specs.declared.gathering.Gathering.{Gathering}
 use Rattle.uset_variables.specs.declared.value.VariableValue.{VariableValue}
 use Rattle.uset_variables.specs.Values.{value_seen}
@@ -46,7 +46,7 @@ TurnedTo l t outer b (Ok (GoesOn rest)) =
     (o : OpenBracket) × (os : List OpenBracket) × (t ≡ goes (o ∷ os) (chars rest.now)) × Stands l b o ×
     Around l outer os
 TurnedTo l t outer b (Ok (Done set rest)) =
-    (tree : Tree) × (t ≡ stops (accepted tree (chars rest.now))) × ((m : Member) → gathered_in set m ≡ has tree m)
+    (tree : Tree) × (t ≡ stops (accepted tree (chars rest.now))) × ((m : Member) → closed_in set m ≡ has tree m)
 TurnedTo l t outer b (Err error) =
     Tells error (λ kind offset. (place : Option Text) × (t ≡ stops (rejected kind place)) × (offset ≡ offset_of kind place))
 

@@ -5,9 +5,8 @@ use crate::code_point::CodePoint;
 use crate::item::{Item, Operand};
 use cp_invlist::{CodePointRange, NoMemory};
 use std::alloc::Global;
-use uset_gather::Gathered;
 use uset_grammar::laws::arranging;
-use uset_steps::{Gathering, Operation};
+use uset_steps::{Closed, Gathering, Operation};
 
 /// The range of the hyphen alone.
 const HYPHEN: CodePointRange = CodePointRange {
@@ -208,7 +207,7 @@ impl<'a> OpenBracket<'a> {
     }
 
     /// Takes `]`. The answer is the bracket's set, which is moved out, and `None` where no `]` fits.
-    pub(crate) fn close(&mut self, alloc: Global) -> Result<Option<Gathered>, NoMemory>
+    pub(crate) fn close(&mut self, alloc: Global) -> Result<Option<Closed<'a>>, NoMemory>
         ensures set { IfOk result (Closes self.old) }
         ensures place { self.new.before ≡ self.old.before }
     {

@@ -2,8 +2,7 @@
 ghost use Rattle.std.specs.Prelude.{◌≢◌, []};
 
 use crate::code_point::CodePoint;
-use uset_gather::Gathered;
-use uset_steps::{Named, Place};
+use uset_steps::{Closed, Named, Place};
 
 /// The code points of an escape of several numbers: the first, and those behind it.
 #[derive(Drop)]
@@ -16,8 +15,8 @@ pub(crate) struct Codes {
 /// A set in a bracket.
 #[derive(Drop)]
 pub(crate) enum Operand<'a> {
-    /// What a bracket inside gathered.
-    Inner(Gathered),
+    /// The set of a bracket inside.
+    Inner(Closed<'a>),
     /// A property, or a variable that is bound to a set, with its name.
     Named(Box<Named<'a>>),
     /// A property that was named before in the bracket, which keeps it at this place.

@@ -14,20 +14,19 @@ use crate::syntax::Syntax;
 use crate::turn::{Progress, turn};
 use std::alloc::Global;
 use uset_fault::{ParseError, ParseErrorKind};
-use uset_gather::Gathered;
 use uset_grammar::laws;
 use uset_read::Cursor;
 use uset_resolve::Resolver;
-use uset_steps::NamedSet;
+use uset_steps::{Closed, NamedSet};
 
 /// Reads the bracket that begins the source, up to its `]`.
-fn read_bracket<'a>(
+fn read_bracket<'v, 'a>(
     alloc: Global,
-    syntax: &Syntax<'_>,
+    syntax: &Syntax<'v>,
     source: &'a str,
     opening: Opening,
     inner: &'a str,
-) -> Result<(Gathered, Cursor<'a>), ParseError>
+) -> Result<(Closed<'v>, Cursor<'a>), ParseError>
     requires begins { first (language_seen syntax.now) (chars source.now) ≡
         of_bracket (opening_seen opening) (chars inner.now) }
     requires behind { length inner.now < length source.now }
@@ -60,13 +59,13 @@ fn read_bracket<'a>(
 }
 
 /// Reads the variable of this name, which begins the source, as a set.
-fn read_variable<'a>(
+fn read_variable<'v, 'a>(
     alloc: Global,
-    syntax: &Syntax<'_>,
+    syntax: &Syntax<'v>,
     source: &'a str,
     name: &str,
     rest: &'a str,
-) -> Result<(Gathered, Cursor<'a>), ParseError>
+) -> Result<(Closed<'v>, Cursor<'a>), ParseError>
     requires begins { first (language_seen syntax.now) (chars source.now) ≡
         of_variable (chars name.now) (chars rest.now) }
     requires behind { length rest.now < length source.now }
@@ -81,15 +80,16 @@ fn read_variable<'a>(
     let Some(set) = value.as_set() else {
         return Err(fault_before(cursor, ParseErrorKind::UnexpectedVariable, rest));
     };
-    Ok((NamedSet::Set(set).gathered(alloc)?, cursor.at(rest)))
+    let set = NamedSet::Set(set).gathered(alloc)?;
+    Ok((Closed::Plain(set), cursor.at(rest)))
 }
 
 /// Reads the property that begins the source, as a set.
-fn read_property<'a>(
+fn read_property<'v, 'a>(
     alloc: Global,
-    syntax: &Syntax<'_>,
+    syntax: &Syntax<'v>,
     source: &'a str,
-) -> Result<(Gathered, Cursor<'a>), ParseError>
+) -> Result<(Closed<'v>, Cursor<'a>), ParseError>
     requires { first (language_seen syntax.now) (chars source.now) ≡ of_property }
     ensures read { IfOk result (λ p. IsReading (language_seen syntax.now) source.now p.0 p.1) }
     ensures refused { IfErr result (IsRefusal (language_seen syntax.now) source.now) }
@@ -101,16 +101,17 @@ fn read_property<'a>(
         Ok(read) => read,
         Err(stop) => return Err(stopped(cursor, stop)),
     };
-    Ok((named.set.gathered(alloc)?, cursor.at(rest)))
+    let set = named.set.gathered(alloc)?;
+    Ok((Closed::Plain(set), cursor.at(rest)))
 }
 
 /// Reads the set at the front of the source. The answer is the set, and the cursor behind it. The error is a fault of the source
 /// with its place, or says that memory was refused.
-pub fn read_set<'a>(
+pub fn read_set<'v, 'a>(
     alloc: Global,
-    syntax: &Syntax<'_>,
+    syntax: &Syntax<'v>,
     source: &'a str,
-) -> Result<(Gathered, Cursor<'a>), ParseError>
+) -> Result<(Closed<'v>, Cursor<'a>), ParseError>
     ensures read { IfOk result (λ p. IsReading (language_seen syntax.now) source.now p.0 p.1) }
     ensures refused { IfErr result (IsRefusal (language_seen syntax.now) source.now) }
 {

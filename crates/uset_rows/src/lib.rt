@@ -25,6 +25,8 @@ mod generated;
 #[cfg(test)]
 mod guide;
 #[cfg(test)]
+mod huge;
+#[cfg(test)]
 mod patterns;
 #[cfg(test)]
 mod properties;

@@ -117,7 +117,7 @@ pub kept_now : (sets : Sets) (named : NameAndSet) (set : Kept) (old new : Later)
     Adds (name_seen named.name) place old.places new.places → IsSetOf sets named → IsKept sets (name_seen named.name) old new place
 kept_now sets named set old new place of_it at more adds is =
     let it : IsKeptAt sets new.sets.items (name_seen named.name) place =
-        (set, (λ i. slice_get (more i) (at i)) ∙ get_last old.sets.items set, subst (λ (n : NameAndSet). StandsFor sets (name_seen named.name) (named_in n.set)) (sym of_it) is) in record {
+    (set, (λ i. slice_get (more i) (at i)) ∙ get_last old.sets.items set, subst (λ (n : NameAndSet). StandsFor sets (name_seen named.name) (named_in n.set)) (sym of_it) is) in record {
       more = set ∷ [];
       grown = more;
       fits = λ fits other p h. fits_others fits other p (adds.others other p h) it;

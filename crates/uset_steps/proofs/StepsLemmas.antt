@@ -10,7 +10,7 @@ use Rattle.uset_steps.specs.declared.step.Step.{Step}
 use Rattle.uset_steps.specs.declared.step.Step.TheVariants.{Range, Text, Set, Named}
 use Rattle.uset_steps.specs.Names.{Kept, kept_in}
 use Rattle.uset_steps.specs.Operations.{operated}
-use Rattle.uset_steps.specs.Steps.{with_kept, step_done, steps_done, names_none, retains, is_side, is_about, occurs}
+use Rattle.uset_steps.specs.Steps.{with_kept, step_done, steps_done, MakeSame, names_none, retains, is_side, is_about, occurs}
 
 -- one more step
 pub done_more : (sets : List Kept) (ss : List Step) (s : Step) (m : Member) (b : Bool) → steps_done sets (ss ++ s ∷ []) m b ≡ step_done sets s m (steps_done sets ss m b)
@@ -20,6 +20,10 @@ done_more sets (t ∷ ss) s m b = done_more sets ss s m (step_done sets t m b)
 -- the last of the steps, which is the first of those from the last to the first
 pub last_done : (sets : List Kept) (left next : List Step) (s : Step) (m : Member) (b c : Bool) → left ≡ next ++ s ∷ [] → c ≡ step_done sets s m b → steps_done sets (reverse next) m c ≡ steps_done sets (reverse left) m b
 last_done sets left next s m b c is does = ap (steps_done sets (reverse next) m) does ∙ ap (λ ss. steps_done sets ss m b) (sym (ap reverse is ∙ reverse-append next (s ∷ [])))
+
+-- steps that make the same as others, over the same sets
+pub counted_done : (sets kept : List Kept) (left steps : List Step) (m : Member) (b c : Bool) → kept ≡ sets → MakeSame (reverse left) steps → c ≡ b → steps_done kept (reverse left) m c ≡ steps_done sets steps m b
+counted_done sets kept left steps m b c same makes is = (λ i. steps_done (same i) (reverse left) m (is i)) ∙ makes sets m b
 
 pub done_append : (sets : List Kept) (xs ys : List Step) (m : Member) (b : Bool) → steps_done sets (xs ++ ys) m b ≡ steps_done sets ys m (steps_done sets xs m b)
 done_append sets [] ys m b = refl

@@ -5,7 +5,7 @@ use Rattle.uset_steps.specs.declared.step.Operation.{Operation}
 use Rattle.uset_steps.specs.declared.term.Order.{Order}
 use Rattle.uset_steps.specs.declared.term.TermStep.{TermStep}
 use Rattle.uset_steps.specs.declared.term.TermStep.TheVariants.{Both, Negate}
-use Rattle.uset_steps.specs.TermSteps.{merged, both, negated_top, term_step, term_steps, top, put_down, PutsDown, MakesOne}
+use Rattle.uset_steps.specs.TermSteps.{merged, both, negated_top, term_step, term_steps, top, PutsDown, MakesOne}
 
 -- steps behind others
 pub steps_append : (m : Member) (ss ts : List TermStep) (stack : List Bool) → term_steps m (ss ++ ts) stack ≡ term_steps m ts (term_steps m ss stack)

@@ -20,6 +20,14 @@ impl<'a> Closed<'a> {
     ghost use Rattle.uset_gather.specs.Gathered.{gathered_in, in_set};
     ghost use Rattle.uset_steps.specs.Terms.{closed_in};
 
+    /// How many steps the set has, of which one that was gathered is one.
+    pub(crate) fn len(&self) -> usize {
+        match self {
+            Closed::Plain(_) => 1,
+            Closed::Term(term) => term.len(),
+        }
+    }
+
     /// Whether the set is kept as a term.
     pub(crate) fn is_term(&self) -> bool {
         matches!(self, Closed::Term(_))

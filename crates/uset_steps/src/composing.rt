@@ -17,6 +17,11 @@ impl<'a> Term<'a> {
     ghost use Rattle.uset_steps.specs.TermSteps.{put_down, PutsDown, merged};
     ghost use Rattle.uset_steps.specs.Terms.{term_in};
 
+    /// How many steps there are.
+    pub(crate) fn len(&self) -> usize {
+        self.steps.len()
+    }
+
     /// The term of one step that puts a set down.
     fn of_step(alloc: Global, step: TermStep<'a>) -> Result<Term<'a>, NoMemory>
         requires { PutsDown step }
@@ -42,7 +47,12 @@ impl<'a> Term<'a> {
     }
 
     /// Both, the other above this one.
-    fn below(self, order: Order, operation: Operation, upper: Term<'a>) -> Result<Term<'a>, NoMemory>
+    fn below(
+        self,
+        order: Order,
+        operation: Operation,
+        upper: Term<'a>,
+    ) -> Result<Term<'a>, NoMemory>
         ensures { IfOk result
             (λ term. (m : Member) → term_in term m ≡ merged order operation (term_in self.entry m) (term_in upper.entry m)) }
     {

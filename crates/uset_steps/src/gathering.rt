@@ -142,7 +142,12 @@ impl<'a> Gathering<'a> {
         self.make_way(alloc)?;
         match (&mut self.later, set) {
             (Some(later), set) => later.put_off_set(alloc, operation, set),
-            (None, Closed::Plain(set)) => gather(alloc, &mut self.gathered, operation, Operand::Gathered(set)),
+            (None, Closed::Plain(set)) => gather(
+                alloc,
+                &mut self.gathered,
+                operation,
+                Operand::Gathered(set),
+            ),
             (None, set) => self.put_off_first(alloc, operation, set),
         }
     }

@@ -14,6 +14,9 @@ use std::mem::replace;
 use std::rc::Rc;
 use uset_gather::{Gathered, Operand};
 
+/// A term of so many steps is gathered, so that its steps take no more memory than a few large sets.
+const LONG: usize = 4096;
+
 /// A term that grows by the steps of a bracket. What they gather that names no large set is gathered at once, as long as it's
 /// gathered alike.
 pub(crate) struct Growing<'a> {
@@ -159,7 +162,7 @@ impl<'a> Growing<'a> {
         }
     }
 
-    /// The set.
+    /// The set, which is gathered where the term is long.
     pub(crate) fn finish(self, alloc: Global) -> Result<Closed<'a>, NoMemory>
         ensures { IfOk result (λ set. (m : Member) → closed_in set m ≡ growing_in self.entry m) }
     {
@@ -170,6 +173,7 @@ impl<'a> Growing<'a> {
         } = self;
         let plain = Term::of_gathered(alloc, plain)?;
         match grown(term, operation, plain)? {
+            Some(term) if term.len() >= LONG => Ok(Closed::Plain(term.into_gathered(alloc)?)),
             Some(term) => Ok(Closed::Term(Box::new(alloc, term)?)),
             None => Ok(Closed::Plain(Gathered::new(alloc))),
         }

@@ -43,13 +43,13 @@ impl Drop for Later<'_> {
 }
 
 impl<'a> Later<'a> {
-    ghost use Rattle.std.specs.Prelude.{◌≡◌, Bool, true, [], None, slice_get, IfSome, IfNone, IfOk, OnOk};
+    ghost use Rattle.std.specs.Prelude.{◌≡◌, Bool, true, [], None, reverse, slice_get, IfSome, IfNone, IfOk, OnOk};
     ghost use Rattle.uset_grammar.specs.Tree.{Member};
     ghost use Rattle.uset_gather.specs.Gathered.{gathered_in};
     ghost use Rattle.uset_read.specs.Queries.{query_seen};
     ghost use Rattle.uset_steps.specs.Names.{property, Sets, name_seen};
     ghost use Rattle.uset_steps.specs.Operations.{operated};
-    ghost use Rattle.uset_steps.specs.Steps.{step_done, names_none};
+    ghost use Rattle.uset_steps.specs.Steps.{step_done, MakeSame, names_none};
     ghost use Rattle.uset_steps.specs.Terms.{closed_in};
     ghost use Rattle.uset_steps.specs.Places.{IsPlaceIn, HasNoPlace, HasPlace};
     ghost use Rattle.uset_steps.specs.Later.{later_done, LaterFits, Keeps, GathersNamed, GathersAgain};
@@ -93,14 +93,14 @@ impl<'a> Later<'a> {
             later_done self.new m b ≡ operated operation (closed_in set.entry m) (later_done self.old m b)) }
         ensures names { OnOk result ((sets : Sets) → LaterFits sets self.old → LaterFits sets self.new) }
     {
-        self.kept = self.kept.saturating_add(SHARE);
+        self.kept = self.kept.saturating_add(SHARE.saturating_mul(set.len()));
         self.huge = self.huge || set.is_term();
         self.put_off(Step::Set(operation, Box::new(alloc, set)?))
     }
 
-    /// Whether so much is kept that the steps are better done. A term is better as long as it can be.
+    /// Whether so much is kept that the steps are better done.
     pub(crate) fn is_full(&self) -> bool {
-        self.kept >= FULL && !self.huge
+        self.kept >= FULL
     }
 
     /// The place of the set of a property, if it is kept.
@@ -160,10 +160,10 @@ impl<'a> Later<'a> {
         Ok(())
     }
 
-    /// The set once the steps are done, all that they name gathered.
-    #[cold]
-    pub(crate) fn done(self, alloc: Global, gathered: Gathered) -> Result<Gathered, NoMemory>
-        ensures { IfOk result (λ g. (m : Member) → gathered_in g m ≡ later_done self.entry m (gathered_in gathered m)) }
+    /// The sets that are kept, and the steps that have an effect, the last in front.
+    fn counted(self, alloc: Global) -> Result<(Vec<Rc<Named<'a>>>, Vec<Step<'a>>), NoMemory>
+        ensures sets { IfOk result (λ p. p.0 ≡ self.entry.sets) }
+        ensures steps { IfOk result (λ p. MakeSame (reverse p.1.items) self.entry.steps.items) }
     {
         let Later {
             places: _,
@@ -172,7 +172,16 @@ impl<'a> Later<'a> {
             kept: _,
             huge: _,
         } = self;
-        let mut left = counting(alloc, steps, sets.len())?;
+        let left = counting(alloc, steps, sets.len())?;
+        Ok((sets, left))
+    }
+
+    /// The set once the steps are done, all that they name gathered.
+    #[cold]
+    pub(crate) fn done(self, alloc: Global, gathered: Gathered) -> Result<Gathered, NoMemory>
+        ensures { IfOk result (λ g. (m : Member) → gathered_in g m ≡ later_done self.entry m (gathered_in gathered m)) }
+    {
+        let (sets, mut left) = self.counted(alloc)?;
         let mut set = gathered;
         while let Some(step) = left.pop() {
             step.apply(alloc, &mut set, &sets)?;
@@ -184,14 +193,7 @@ impl<'a> Later<'a> {
     fn grown(self, alloc: Global, gathered: Gathered) -> Result<Closed<'a>, NoMemory>
         ensures { IfOk result (λ s. (m : Member) → closed_in s m ≡ later_done self.entry m (gathered_in gathered m)) }
     {
-        let Later {
-            places: _,
-            sets,
-            steps,
-            kept: _,
-            huge: _,
-        } = self;
-        let mut left = counting(alloc, steps, sets.len())?;
+        let (sets, mut left) = self.counted(alloc)?;
         let mut growing = Growing::new(gathered);
         while let Some(step) = left.pop() {
             growing.take(alloc, step, &sets)?;

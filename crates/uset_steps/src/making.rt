@@ -14,10 +14,7 @@ pub(crate) struct Making {
 // By hand, so that letting a value go is one call in each proof.
 impl Drop for Making {
     fn drop(self) {
-        let Self {
-            alloc: _,
-            stack: _,
-        } = self;
+        let Self { alloc: _, stack: _ } = self;
     }
 }
 

@@ -3,8 +3,8 @@ ghost use Rattle.std.specs.Prelude.{OnOk};
 ghost use Rattle.uset_gather.specs.Gathered.{gathered_in, operand_in, HasMembers};
 ghost use Rattle.uset_steps.specs.Operations.{operated};
 
-use crate::literal::{Span, Spelled};
 use crate::closed::Closed;
+use crate::literal::{Span, Spelled};
 use crate::named_set::Named;
 use cp_invlist::NoMemory;
 use std::alloc::Global;

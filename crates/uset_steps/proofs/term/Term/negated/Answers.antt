@@ -7,7 +7,7 @@ use Rattle.uset_steps.proofs.term.Term.negated.Goals as goal
 
 pub invariant_of-result : goal.invariant_of-result
 invariant_of-result c = record {
-  one = one_of c.push.new.self.items (λ m. negation m (term_in c.args.self m)) (λ m stack. negation_made m c.args.self.steps.items c.push.new.self.items stack c.in_ok-push.ensures.items c.args.self.one)
+  one = one_of c.push.new.self.items (λ m. negation m (term_in c.args.self m)) (λ m stack. negation_made m c.args.self.steps.items c.push.new.self.items stack c.in_ok-push.ensures.items c.args.self.one);
 }
 
 pub returns : goal.returns

@@ -1,0 +1,78 @@
+//! Sets with so many strings that they are gathered once the whole pattern is read.
+use crate::fixtures::{assert_holds, have_answer};
+use std::alloc::{AllocError, Global};
+
+/// The line that binds a set of three letters and 64 strings.
+const HUGE: &str =
+    "let w set [a-c{aa}{ab}{ac}{ad}{ae}{af}{ag}{ah}{ba}{bb}{bc}{bd}{be}{bf}{bg}{bh}{ca}{cb}{cc}{cd}{ce}{cf}{cg}{ch}{da}{db}{dc}{dd}{de}{df}{dg}{dh}{ea}{eb}{ec}{ed}{ee}{ef}{eg}{eh}{fa}{fb}{fc}{fd}{fe}{ff}{fg}{fh}{ga}{gb}{gc}{gd}{ge}{gf}{gg}{gh}{ha}{hb}{hc}{hd}{he}{hf}{hg}{hh}]";
+
+/// The members of that set.
+const MEMBERS: &str =
+    "0061-0063 {0061_0061} {0061_0062} {0061_0063} {0061_0064} {0061_0065} {0061_0066} {0061_0067} {0061_0068} {0062_0061} {0062_0062} {0062_0063} {0062_0064} {0062_0065} {0062_0066} {0062_0067} {0062_0068} {0063_0061} {0063_0062} {0063_0063} {0063_0064} {0063_0065} {0063_0066} {0063_0067} {0063_0068} {0064_0061} {0064_0062} {0064_0063} {0064_0064} {0064_0065} {0064_0066} {0064_0067} {0064_0068} {0065_0061} {0065_0062} {0065_0063} {0065_0064} {0065_0065} {0065_0066} {0065_0067} {0065_0068} {0066_0061} {0066_0062} {0066_0063} {0066_0064} {0066_0065} {0066_0066} {0066_0067} {0066_0068} {0067_0061} {0067_0062} {0067_0063} {0067_0064} {0067_0065} {0067_0066} {0067_0067} {0067_0068} {0068_0061} {0068_0062} {0068_0063} {0068_0064} {0068_0065} {0068_0066} {0068_0067} {0068_0068}";
+
+/// Patterns over the set, each with the members that it denotes.
+const DENOTED: &[(&str, &str)] = &[
+    ("[$w]", MEMBERS),
+    ("[[$w-[b]]&[a-z]]", "0061 0063"),
+    ("[[$w-[b]]-[$w-[a{aa}]]]", "0061 {0061_0061}"),
+    ("[[$w-[b]]&[$w-[a]]&[a-z{hh}{zz}]]", "0063 {0068_0068}"),
+    ("[[b{aa}x]-[$w-[{aa}]]]", "0078 {0061_0061}"),
+    ("[[ab]&[[$w]-[$w-[b]]]]", "0062"),
+    ("[[a-c{aa}]&[$w-[$w-[$w-[b]]]]]", "0061 0063 {0061_0061}"),
+    ("[[a-c]&[$w-[a]-[b]]]", "0063"),
+    ("[$w&[ab{aa}]&[bc]]", "0062"),
+    ("[[axy]&[$w-[a][x]]]", "0078"),
+    ("[$w-[a]&[ab{ab}]-[b]]", "{0061_0062}"),
+    ("[[$w{pq}]-[$w]]", "{0070_0071}"),
+    ("[$w[$w]-$w]", ""),
+    ("[[:L:]-[$w]]", "0041-005A 0064-007A"),
+    ("[^$w]", "0000-0060 0064-10FFFF"),
+    ("[^[^$w]]", "0061-0063"),
+    ("[[^$w]&[a-e$w]]", "0064-0065"),
+    ("[[^$w-[b]]&[a-c]]", "0062"),
+];
+
+/// Whether the pattern is read whole, with these members.
+fn denotes(alloc: Global, pattern: &str, members: &str) -> Result<bool, AllocError> {
+    let length = pattern.len();
+    let lines = format!(in alloc; "{HUGE}\npat {pattern}")?;
+    let space = if members.is_empty() { "" } else { " " };
+    let answer = format!(in alloc; "bound w\nok {length}{space}{members}\n")?;
+    have_answer(alloc, &lines, &answer, 0)
+}
+
+#[test]
+fn a_set_of_many_strings_counts_where_it_stands(rt: HostRuntime) {
+    for (pattern, members) in DENOTED {
+        let holds = denotes(rt.alloc(), pattern, members);
+        assert_holds(&rt, holds, pattern, members);
+    }
+}
+
+/// A pattern in which two texts stand a thousand times each: what stands in front, the first of them, what stands between, the second,
+/// and what stands behind; and the members that it denotes.
+type Repeated = (&'static str, &'static str, &'static str, &'static str, &'static str, &'static str);
+
+/// More names of the set than are kept until the whole pattern is read.
+const REPEATED: &[Repeated] = &[
+    ("", "[$w-", "[b]", "]", "", "0062"),
+    ("[", "[$w-[b]]", "&[a-c]", "", "]", "0061 0063"),
+    ("[", "[^$w]", "&[a-d]", "", "]", "0064"),
+];
+
+/// Whether the pattern denotes the members.
+fn denotes_repeated(alloc: Global, row: Repeated) -> Result<bool, AllocError> {
+    let (front, first, middle, second, end, members) = row;
+    let first = first.repeat(alloc, 1000)?;
+    let second = second.repeat(alloc, 1000)?;
+    let pattern = format!(in alloc; "{front}{first}{middle}{second}{end}")?;
+    denotes(alloc, &pattern, members)
+}
+
+#[test]
+fn a_set_of_many_strings_may_be_named_in_a_thousand_brackets(rt: HostRuntime) {
+    for row in REPEATED {
+        let holds = denotes_repeated(rt.alloc(), *row);
+        assert_holds(&rt, holds, row.1, row.5);
+    }
+}
