@@ -169,9 +169,9 @@ fn closed(
 }
 
 /// Whether the bracket is negated, and the inversion list and the strings that it closes with.
-type Closed = (bool, &'static [u32], &'static [&'static str]);
+type ClosedRow = (bool, &'static [u32], &'static [&'static str]);
 
-impl Row<CodePointInversionListAndStringList> for Closed {
+impl Row<CodePointInversionListAndStringList> for ClosedRow {
     fn holds(&self, alloc: Global, large: &CodePointInversionListAndStringList) -> bool {
         let (negated, list, texts) = *self;
         match closed(alloc, large, negated) {
@@ -181,7 +181,7 @@ impl Row<CodePointInversionListAndStringList> for Closed {
     }
 }
 
-const CLOSED: &[Closed] = &[
+const CLOSED: &[ClosedRow] = &[
     (false, &[0x61, 0x62, 0x63, 0x64], &["pq"]),
     (true, &[0, 0x61, 0x62, 0x63, 0x64, 0x11_0000], &[]),
 ];
