@@ -113,11 +113,11 @@ kept_before sets name later place is = record {
 }
 
 -- or it is told for the first time
-pub kept_now : (sets : Sets) (named : NameAndSet) (set : Kept) (old new : Later) (place : ℕ) → set.value ≡ named → place ≡ length old.sets.items → new.sets.items ≡ old.sets.items ++ set ∷ [] →
+pub kept_now : (sets : Sets) (named : NameAndSet) (set : Kept) (old new : Later) (place : ℕ) → set.value ≡ named.set → place ≡ length old.sets.items → new.sets.items ≡ old.sets.items ++ set ∷ [] →
     Adds (name_seen named.name) place old.places new.places → IsSetOf sets named → IsKept sets (name_seen named.name) old new place
 kept_now sets named set old new place of_it at more adds is =
     let it : IsKeptAt sets new.sets.items (name_seen named.name) place =
-    (set, (λ i. slice_get (more i) (at i)) ∙ get_last old.sets.items set, subst (λ (n : NameAndSet). StandsFor sets (name_seen named.name) (named_in n.set)) (sym of_it) is) in record {
+    (set, (λ i. slice_get (more i) (at i)) ∙ get_last old.sets.items set, subst (λ n. StandsFor sets (name_seen named.name) (named_in n)) (sym of_it) is) in record {
       more = set ∷ [];
       grown = more;
       fits = λ fits other p h. fits_others fits other p (adds.others other p h) it;

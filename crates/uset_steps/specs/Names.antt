@@ -45,12 +45,12 @@ strings_of (Complement source) = 0
 abbrev pub is_large : NamedSet → Bool
 is_large set = nat_le 32 (ranges_of set) || nat_le 4 (strings_of set)
 
--- a set that is kept, with its name
+-- a set that is kept, without its name
 abbrev pub Kept : Type 0
-Kept = Rc Named Global
+Kept = Rc NamedSet Global
 
 abbrev pub kept_in : Kept → Member → Bool
-kept_in kept m = named_in kept.value.set m
+kept_in kept m = named_in kept.value m
 
 -- the set that each name stands for, by its members, where it stands for one
 abbrev pub Sets : Type 0

@@ -1,6 +1,6 @@
 //! Terms that are made of others.
 use crate::making::Making;
-use crate::named_set::Named;
+use crate::named_set::NamedSet;
 use crate::step::Operation;
 use crate::term::{Order, Term, TermStep};
 use cp_invlist::NoMemory;
@@ -40,10 +40,10 @@ impl<'a> Term<'a> {
     }
 
     /// The set with a name.
-    pub(crate) fn of_named(alloc: Global, named: Rc<Named<'a>>) -> Result<Term<'a>, NoMemory>
-        ensures { IfOk result (λ term. (m : Member) → term_in term m ≡ kept_in named.entry m) }
+    pub(crate) fn of_named(alloc: Global, set: Rc<NamedSet<'a>>) -> Result<Term<'a>, NoMemory>
+        ensures { IfOk result (λ term. (m : Member) → term_in term m ≡ kept_in set.entry m) }
     {
-        Term::of_step(alloc, TermStep::Named(named))
+        Term::of_step(alloc, TermStep::Named(set))
     }
 
     /// Both, the other above this one.

@@ -5,7 +5,7 @@ ghost use Rattle.uset_steps.specs.Operations.{operated};
 ghost use Rattle.uset_steps.specs.Terms.{term_in, some_in};
 
 use crate::closed::Closed;
-use crate::named_set::Named;
+use crate::named_set::NamedSet;
 use crate::step::{Operation, Step};
 use crate::term::Term;
 use cp_invlist::NoMemory;
@@ -135,7 +135,7 @@ impl<'a> Growing<'a> {
         &mut self,
         alloc: Global,
         step: Step<'a>,
-        sets: &[Rc<Named<'a>>],
+        sets: &[Rc<NamedSet<'a>>],
     ) -> Result<(), NoMemory>
         ensures { OnOk result
             ((m : Member) → growing_in self.new m ≡ step_done sets.now step.entry m (growing_in self.old m)) }
@@ -153,8 +153,8 @@ impl<'a> Growing<'a> {
             }
             Step::Set(operation, set) => self.take_closed(alloc, operation, Box::into_inner(set)),
             Step::Named(operation, place) => match sets.get(place) {
-                Some(named) => {
-                    let term = Term::of_named(alloc, named.clone()?)?;
+                Some(set) => {
+                    let term = Term::of_named(alloc, set.clone()?)?;
                     self.take_term(alloc, operation, term)
                 }
                 None => Ok(()),

@@ -2,7 +2,7 @@
 use crate::closed::Closed;
 use crate::counting::counting;
 use crate::growing::Growing;
-use crate::named_set::Named;
+use crate::named_set::{Named, NamedSet};
 use crate::places::Places;
 use crate::step::{Operation, Step};
 use cp_invlist::NoMemory;
@@ -21,7 +21,7 @@ const FULL: usize = 1 << 20;
 /// Steps that are put off, the first in front, and the sets that they name, each once.
 pub(crate) struct Later<'a> {
     places: Places,
-    sets: Vec<Rc<Named<'a>>>,
+    sets: Vec<Rc<NamedSet<'a>>>,
     steps: Vec<Step<'a>>,
     /// About how much memory is kept, in ranges.
     kept: usize,
@@ -120,11 +120,11 @@ impl<'a> Later<'a> {
         if let Some(place) = self.places.of(&named.name) {
             return Ok(place);
         }
-        let name = named.name.copy(alloc)?;
+        let (name, set) = named.into_parts();
         let place = self.sets.len();
         self.kept = self.kept.saturating_add(SHARE);
-        self.huge = self.huge || named.set.is_huge();
-        self.sets.push(Rc::new(alloc, named)?)?;
+        self.huge = self.huge || set.is_huge();
+        self.sets.push(Rc::new(alloc, set)?)?;
         self.places.add(name, place)?;
         Ok(place)
     }
@@ -161,7 +161,7 @@ impl<'a> Later<'a> {
     }
 
     /// The sets that are kept, and the steps that have an effect, the last in front.
-    fn counted(self, alloc: Global) -> Result<(Vec<Rc<Named<'a>>>, Vec<Step<'a>>), NoMemory>
+    fn counted(self, alloc: Global) -> Result<(Vec<Rc<NamedSet<'a>>>, Vec<Step<'a>>), NoMemory>
         ensures sets { IfOk result (λ p. p.0 ≡ self.entry.sets) }
         ensures steps { IfOk result (λ p. MakeSame (reverse p.1.items) self.entry.steps.items) }
     {

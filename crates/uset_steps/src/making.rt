@@ -87,10 +87,7 @@ impl Making {
     {
         match step {
             TermStep::Plain(set) => self.stack.push(Box::into_inner(set))?,
-            TermStep::Named(named) => {
-                let set = named.as_ref().set.gathered(self.alloc)?;
-                self.stack.push(set)?;
-            }
+            TermStep::Named(set) => self.stack.push(set.as_ref().gathered(self.alloc)?)?,
             TermStep::Both(order, operation) => self.merge_top(order, operation)?,
             TermStep::Negate => self.negate_top()?,
         }

@@ -53,6 +53,19 @@ impl Drop for Named<'_> {
     }
 }
 
+impl<'a> Named<'a> {
+    ghost use Rattle.std.specs.Prelude.{◌≡◌};
+
+    /// The name and the set.
+    pub(crate) fn into_parts(self) -> (Name, NamedSet<'a>)
+        ensures name { result.0 ≡ self.entry.name }
+        ensures set { result.1 ≡ self.entry.set }
+    {
+        let Self { name, set } = self;
+        (name, set)
+    }
+}
+
 impl NamedSet<'_> {
     ghost use Rattle.std.specs.Prelude.{◌≡◌, IfOk};
     ghost use Rattle.uset_grammar.specs.Tree.{Member};

@@ -5,7 +5,7 @@ ghost use Rattle.uset_steps.specs.Operations.{operated};
 
 use crate::closed::Closed;
 use crate::literal::{Span, Spelled};
-use crate::named_set::Named;
+use crate::named_set::NamedSet;
 use cp_invlist::NoMemory;
 use std::alloc::Global;
 use std::rc::Rc;
@@ -63,7 +63,7 @@ impl<'a> Step<'a> {
         self,
         alloc: Global,
         gathered: &mut Gathered,
-        sets: &[Rc<Named<'a>>],
+        sets: &[Rc<NamedSet<'a>>],
     ) -> Result<(), NoMemory>
         ensures { OnOk result (HasMembers gathered.new (λ m. step_done sets.now self.entry m (gathered_in gathered.old m))) }
     {
@@ -75,7 +75,7 @@ impl<'a> Step<'a> {
                 gather(alloc, gathered, operation, Operand::Gathered(set))
             }
             Step::Named(operation, place) => match sets.get(place) {
-                Some(named) => gather(alloc, gathered, operation, named.as_ref().set.operand()),
+                Some(set) => gather(alloc, gathered, operation, set.as_ref().operand()),
                 None => Ok(()),
             },
         }

@@ -1,7 +1,7 @@
 //! Terms: sets that are not gathered before the whole pattern is read.
 ghost use Rattle.uset_steps.specs.TermSteps.{MakesOne};
 
-use crate::named_set::Named;
+use crate::named_set::NamedSet;
 use crate::step::Operation;
 use std::rc::Rc;
 use uset_gather::Gathered;
@@ -21,7 +21,7 @@ pub(crate) enum TermStep<'a> {
     /// Puts down what a bracket gathered.
     Plain(Box<Gathered>),
     /// Puts down the set with a name.
-    Named(Rc<Named<'a>>),
+    Named(Rc<NamedSet<'a>>),
     /// Makes one of the two sets on top.
     Both(Order, Operation),
     /// Exchanges the members of the set on top and the other code points, and forgets its strings.

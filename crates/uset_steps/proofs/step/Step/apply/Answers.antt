@@ -20,8 +20,8 @@ returns-in_ok-set-in-Set c =
 pub returns-in-Some : goal.returns-in-Some
 returns-in-Some c =
     let found = c.in-Some.ensures.lookup in
-    rw (c.in-Named.is, slice_get_read c.args.sets.now _ c.in-Named.place c.in-Some.named.now refl found.3.0 found.1)
-    (on_ok_weaker c.gather-in-Some.result (λ h m. h m ∙ ap (λ has. operated c.in-Named.operation has (gathered_in c.args.gathered.now m)) (c.operand.ensures m ∙ ap (λ n. named_in n.set m) c.as_ref.ensures)) c.gather-in-Some.ensures)
+    rw (c.in-Named.is, slice_get_read c.args.sets.now _ c.in-Named.place c.in-Some.set.now refl found.3.0 found.1)
+    (on_ok_weaker c.gather-in-Some.result (λ h m. h m ∙ ap (λ has. operated c.in-Named.operation has (gathered_in c.args.gathered.now m)) (c.operand.ensures m ∙ ap (λ set. named_in set m) c.as_ref.ensures)) c.gather-in-Some.ensures)
 
 pub returns-in-None : goal.returns-in-None
 returns-in-None c = rw (c.in-Named.is, slice_get_past c.args.sets.now c.in-Named.place c.in-None.ensures.lookup.3) (λ m. refl)
