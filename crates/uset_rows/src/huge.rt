@@ -49,30 +49,56 @@ fn a_set_of_many_strings_counts_where_it_stands(rt: HostRuntime) {
     }
 }
 
-/// A pattern in which two texts stand a thousand times each: what stands in front, the first of them, what stands between, the second,
-/// and what stands behind; and the members that it denotes.
-type Repeated = (&'static str, &'static str, &'static str, &'static str, &'static str, &'static str);
+/// A pattern in which two texts stand a thousand times each.
+struct Repeated {
+    front: &'static str,
+    first: &'static str,
+    middle: &'static str,
+    second: &'static str,
+    end: &'static str,
+    members: &'static str,
+}
 
 /// More names of the set than are kept until the whole pattern is read.
 const REPEATED: &[Repeated] = &[
-    ("", "[$w-", "[b]", "]", "", "0062"),
-    ("[", "[$w-[b]]", "&[a-c]", "", "]", "0061 0063"),
-    ("[", "[^$w]", "&[a-d]", "", "]", "0064"),
+    Repeated {
+        front: "",
+        first: "[$w-",
+        middle: "[b]",
+        second: "]",
+        end: "",
+        members: "0062",
+    },
+    Repeated {
+        front: "[",
+        first: "[$w-[b]]",
+        middle: "&[a-c]",
+        second: "",
+        end: "]",
+        members: "0061 0063",
+    },
+    Repeated {
+        front: "[",
+        first: "[^$w]",
+        middle: "&[a-d]",
+        second: "",
+        end: "]",
+        members: "0064",
+    },
 ];
 
-/// Whether the pattern denotes the members.
-fn denotes_repeated(alloc: Global, row: Repeated) -> Result<bool, AllocError> {
-    let (front, first, middle, second, end, members) = row;
-    let first = first.repeat(alloc, 1000)?;
-    let second = second.repeat(alloc, 1000)?;
-    let pattern = format!(in alloc; "{front}{first}{middle}{second}{end}")?;
-    denotes(alloc, &pattern, members)
+/// Whether the pattern denotes its members.
+fn denotes_repeated(alloc: Global, row: &Repeated) -> Result<bool, AllocError> {
+    let first = row.first.repeat(alloc, 1000)?;
+    let second = row.second.repeat(alloc, 1000)?;
+    let pattern = format!(in alloc; "{}{first}{}{second}{}", row.front, row.middle, row.end)?;
+    denotes(alloc, &pattern, row.members)
 }
 
 #[test]
 fn a_set_of_many_strings_may_be_named_in_a_thousand_brackets(rt: HostRuntime) {
     for row in REPEATED {
-        let holds = denotes_repeated(rt.alloc(), *row);
-        assert_holds(&rt, holds, row.1, row.5);
+        let holds = denotes_repeated(rt.alloc(), row);
+        assert_holds(&rt, holds, row.first, row.members);
     }
 }
