@@ -1,0 +1,6 @@
+pub mod TermsLemmas
+pub mod BitLemmas
+pub mod WindowLemmas
+pub mod ShortenLemmas
+pub mod RunsLemmas
+pub mod StretchLemmas

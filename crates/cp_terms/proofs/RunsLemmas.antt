@@ -1,0 +1,40 @@
+-- Runs of members.
+use Rattle.std.proofs.Common.{List, Bor, map, subst, None, inl, inr, ◌||◌, ◌&&◌, ◌≡◌, ℕ, ◌+◌, ◌-◌, ◌<◌, ◌≤◌, Bool, false, sym, ap, ◌∙◌, arith}
+use Rattle.cp_terms.specs.Terms.{value_of, holds_at}
+use Rattle.cp_terms.specs.Words.{has_bit}
+use Rattle.std.proofs.Math.Bool.{or-false}
+use Rattle.std.proofs.lemmas.Bool.{cases_lt, lt-leb}
+use Rattle.cp_invlist.specs.InversionList.{contains}
+use Rattle.cp_invlist.specs.declared.set.CodePointInversionList.{CodePointInversionList}
+use Rattle.cp_terms.specs.declared.runs.Runs.{Runs}
+use Rattle.cp_terms.specs.declared.step.Step.{Step}
+use Rattle.cp_terms.specs.Runs.{AreConstant, AreRuns, IsOpenBefore, is_in_open, members_of}
+
+-- where all bits are the same, so are the members
+pub constant_word : (m : ℕ → Bool) (place word : ℕ) (inside : Bool) → ((j : ℕ) → j < 128 → has_bit word j ≡ inside) → ((j : ℕ) → j < 128 → m (place + j) ≡ has_bit word j) → AreConstant m place (place + 128) inside
+constant_word m place word inside same bits c le lt =
+    ap m (let e : c ≡ place + (c - place) = omega arith in e) ∙ (bits (c - place) (omega arith) ∙ same (c - place) (omega arith))
+
+-- one bit is one member
+pub constant_bit : (m : ℕ → Bool) (place word j at : ℕ) (inside : Bool) → at ≡ place + j → j < 128 → inside ≡ has_bit word j → ((i : ℕ) → i < 128 → m (place + i) ≡ has_bit word i) → AreConstant m at (at + 1) inside
+constant_bit m place word j at inside is lt same bits c le below =
+    ap m (let e : c ≡ place + j = omega arith in e) ∙ (bits j lt ∙ sym same)
+
+-- what starts before a place starts before a later one
+pub open_later : (runs : Runs) (place later : ℕ) → place ≤ later → IsOpenBefore place runs → IsOpenBefore later runs
+open_later runs place later le h start is = omega (arith, h start is)
+
+-- a step on
+pub runs_at : (m : ℕ → Bool) (runs : Runs) (place other : ℕ) → place ≡ other → AreRuns m place runs → AreRuns m other runs
+runs_at m runs place other same h = subst (λ p. AreRuns m p runs) same h
+
+-- past the code points nothing is a member
+pub members_past : (sets : List (Bor CodePointInversionList)) (ss : List Step) (c : ℕ) → 0x110000 ≤ c → members_of sets ss c ≡ false
+members_past sets ss c le = ap (λ b. b && value_of (holds_at (map (λ s. s.now) sets) c) ss) (lt-leb c 0x10FFFF (omega arith))
+
+-- behind the last code point all is closed
+pub closed_whole : (m : ℕ → Bool) (runs : Runs) → AreRuns m 0x110001 runs → runs.open ≡ None → ((c : ℕ) → 0x110000 ≤ c → m c ≡ false) → (c : ℕ) → contains runs.closed c ≡ m c
+closed_whole m runs are none past c = elim (cases_lt c 0x110001) [
+  | inl below ↦ sym (ap (λ o. contains runs.closed c || is_in_open o c) none ∙ or-false (contains runs.closed c)) ∙ are.below c below
+  | inr behind ↦ are.behind c behind ∙ sym (past c (omega arith))
+]

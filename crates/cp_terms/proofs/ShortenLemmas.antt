@@ -1,0 +1,151 @@
+-- What keeps a shortened term in step with the term.
+use Rattle.std.proofs.Common.{◌≡◌, ℕ, ◌+◌, ◌<◌, ◌≤◌, Bool, true, false, not, Option, None, Some, List, [], ◌∷◌, ◌++◌, length, take, reverse, refl, sym, ap, ap₂, ◌∙◌, arith, subst, length-append, get_or, ◌-◌, IfSome, IfNone}
+use Rattle.std.proofs.Math.Bool.{beq}
+use Rattle.std.proofs.lemmas.List.{take-append-le, take-take, take_all, take_more, reverse-append, length-take-le}
+use Rattle.std.proofs.Math.Seq.{take-append_seam}
+use Rattle.cp_terms.specs.declared.step.Way.{Way}
+use Rattle.cp_terms.specs.declared.step.Step.{Step}
+use Rattle.cp_terms.specs.declared.step.Step.TheVariants.{Push, Both, Complement}
+use Rattle.cp_terms.specs.declared.shorten.Part.{Part}
+use Rattle.cp_terms.specs.declared.shorten.Part.TheVariants.{Empty, Full, Mixed}
+use Rattle.cp_terms.specs.Terms.{combined, both_done, complement_done, steps_done, top, value_of}
+use Rattle.cp_terms.specs.Shorten.{Fits, changed}
+use Rattle.cp_terms.specs.ShortenParts.{constant_of}
+use Rattle.cp_terms.proofs.TermsLemmas.{steps_done-append}
+
+pub reverse-push : {X : Type 0} → (xs ys : List X) (x : X) → xs ≡ ys ++ x ∷ [] → reverse xs ≡ x ∷ reverse ys
+reverse-push xs ys x is = ap reverse is ∙ reverse-append ys (x ∷ [])
+
+pub fits_under_constant : (w : ℕ → Bool) (ss : List Step) (part : Part) (c : Bool) (parts : List Part) (b : Bool) (stack : List Bool) → constant_of part ≡ Some c → Fits w ss (part ∷ parts) (b ∷ stack) →
+    (b ≡ c) × Fits w ss parts stack
+fits_under_constant w ss Empty c parts b stack is h = (h.0 ∙ (let e = is in cc), h.1)
+fits_under_constant w ss Full c parts b stack is h = (h.0 ∙ (let e = is in cc), h.1)
+fits_under_constant w ss (Mixed start) c parts b stack is h = absurd (let e = is in cc)
+
+-- the steps of a set, with one more that changes it
+pub fits_complement : (w : ℕ → Bool) (ss : List Step) (start : ℕ) (parts : List Part) (b : Bool) (stack : List Bool) → Fits w ss (Mixed start ∷ parts) (b ∷ stack) →
+    Fits w (ss ++ Complement ∷ []) (Mixed start ∷ parts) (not b ∷ stack)
+fits_complement w ss start parts b stack h =
+    let same = take-append-le start ss (Complement ∷ []) h.0 in (
+      omega (arith, length-append ss (Complement ∷ [])),
+      steps_done-append w ss (Complement ∷ []) [] ∙ (ap complement_done h.1 ∙ ap (λ l. not b ∷ steps_done w l []) (sym same)),
+      subst (λ l. Fits w l parts stack) (sym same) h.2,
+    )
+
+pub fits_pushed : (w : ℕ → Bool) (ss : List Step) (index : ℕ) (parts : List Part) (b : Bool) (stack : List Bool) → b ≡ w index → Fits w ss parts stack →
+    Fits w (ss ++ Push index ∷ []) (Mixed (length ss) ∷ parts) (b ∷ stack)
+fits_pushed w ss index parts b stack is h =
+    let same = take-append_seam ss (Push index ∷ []) in (
+      omega (arith, length-append ss (Push index ∷ [])),
+      steps_done-append w ss (Push index ∷ []) [] ∙ ap₂ (λ (x : Bool) (l : List Step). x ∷ steps_done w l []) (sym is) (sym same),
+      subst (λ l. Fits w l parts stack) (sym same) h,
+    )
+
+pub fits_both : (w : ℕ → Bool) (way : Way) (ss : List Step) (low high : ℕ) (parts : List Part) (a b : Bool) (stack : List Bool) → Fits w ss (Mixed high ∷ Mixed low ∷ parts) (b ∷ a ∷ stack) →
+    Fits w (ss ++ Both way ∷ []) (Mixed low ∷ parts) (combined way a b ∷ stack)
+fits_both w way ss low high parts a b stack h =
+    let within : low ≤ high = omega (arith, h.2.0, length-take-le high ss h.0) in
+    let twice : take low (take high ss) ≡ take low ss = take-take low high ss within in
+    let same : take low (ss ++ Both way ∷ []) ≡ take low (take high ss) = take-append-le low ss (Both way ∷ []) (omega (arith, within, h.0)) ∙ sym twice in (
+      omega (arith, length-append ss (Both way ∷ []), within, h.0),
+      steps_done-append w ss (Both way ∷ []) []
+          ∙ (ap (both_done way) (h.1 ∙ ap (λ l. b ∷ l) h.2.1) ∙ ap (λ l. combined way a b ∷ steps_done w l []) (sym same)),
+      subst (λ l. Fits w l parts stack) (sym same) h.2.2,
+    )
+
+-- a set under one that is made by the last steps
+pub fits_over_constant : (w : ℕ → Bool) (ss : List Step) (high : ℕ) (lower : Part) (c : Bool) (parts : List Part) (a b : Bool) (stack : List Bool) → constant_of lower ≡ Some c →
+    Fits w ss (Mixed high ∷ lower ∷ parts) (b ∷ a ∷ stack) → (a ≡ c) × Fits w ss (Mixed high ∷ parts) (b ∷ stack)
+fits_over_constant w ss high lower c parts a b stack is h =
+    let under = fits_under_constant w (take high ss) lower c parts a stack is h.2 in
+    (under.0, (h.0, h.1, under.1))
+
+-- what a way makes where the lower is constant
+pub changed-lower : (way : Way) (c b : Bool) → changed (combined way c true) (combined way c false) b ≡ combined way c b
+changed-lower way c true = refl
+changed-lower way c false = refl
+
+pub changed-same : (b : Bool) → changed true false b ≡ b
+changed-same true = refl
+changed-same false = refl
+
+pub changed-not : (b : Bool) → changed false true b ≡ not b
+changed-not true = refl
+changed-not false = refl
+
+-- the set on top
+pub fits_top : (w : ℕ → Bool) (ss : List Step) (part : Part) (parts : List Part) (stack : List Bool) → constant_of part ≡ None → Fits w ss (part ∷ parts) stack → top stack ≡ value_of w ss
+fits_top w ss Empty parts stack is h = absurd (let e = is in cc)
+fits_top w ss Full parts stack is h = absurd (let e = is in cc)
+fits_top w ss (Mixed start) parts [] is h = absurd h
+fits_top w ss (Mixed start) parts (b ∷ stack) is h = ap top (sym h.1)
+
+pub fits_top_constant : (w : ℕ → Bool) (ss : List Step) (part : Part) (c : Bool) (parts : List Part) (stack : List Bool) → constant_of part ≡ Some c → Fits w ss (part ∷ parts) stack → top stack ≡ c
+fits_top_constant w ss Empty c parts [] is h = absurd h
+fits_top_constant w ss Full c parts [] is h = absurd h
+fits_top_constant w ss (Mixed start) c parts stack is h = absurd (let e = is in cc)
+fits_top_constant w ss Empty c parts (b ∷ stack) is h = h.0 ∙ (let e = is in cc)
+fits_top_constant w ss Full c parts (b ∷ stack) is h = h.0 ∙ (let e = is in cc)
+
+-- a set whose two values differ is kept or complemented
+pub kept_or_complemented : (x y b : Bool) → beq x y ≡ false → y ≡ false → changed x y b ≡ b
+kept_or_complemented true false b ne e = changed-same b
+kept_or_complemented false false b ne e = absurd (let e = ne in cc)
+kept_or_complemented x true b ne e = absurd (let h = e in cc)
+
+pub complemented : (x y b : Bool) → beq x y ≡ false → y ≡ true → changed x y b ≡ not b
+complemented false true b ne e = changed-not b
+complemented true true b ne e = absurd (let e = ne in cc)
+complemented x false b ne e = absurd (let h = e in cc)
+
+-- a lower set that is constant below one that is not
+pub put_both_over : (w : ℕ → Bool) (way : Way) (ss : List Step) (upper lower : Part) (c at_member at_other : Bool) (parts : List Part) (a b : Bool) (stack : List Bool) (Goal : List Bool → Type 0) →
+    constant_of upper ≡ None → constant_of lower ≡ Some c → at_member ≡ combined way c true → at_other ≡ combined way c false →
+    (Fits w ss (upper ∷ parts) (b ∷ stack) → Goal (changed at_member at_other b ∷ stack)) → Fits w ss (upper ∷ lower ∷ parts) (b ∷ a ∷ stack) → Goal (combined way a b ∷ stack)
+put_both_over w way ss Empty lower c at_member at_other parts a b stack Goal none is hm ho made h = absurd (let e = none in cc)
+put_both_over w way ss Full lower c at_member at_other parts a b stack Goal none is hm ho made h = absurd (let e = none in cc)
+put_both_over w way ss (Mixed high) lower c at_member at_other parts a b stack Goal none is hm ho made h =
+    let under = fits_over_constant w ss high lower c parts a b stack is h in
+    subst (λ x. Goal (x ∷ stack)) (ap₂ (λ x y. changed x y b) hm ho ∙ (changed-lower way c b ∙ ap (λ x. combined way x b) (sym under.0))) (made under.1)
+
+-- two sets that are not constant
+pub put_both_mixed : (w : ℕ → Bool) (way : Way) (ss new : List Step) (upper lower : Part) (parts news : List Part) (a b : Bool) (stack : List Bool) →
+    constant_of upper ≡ None → constant_of lower ≡ None → new ≡ ss ++ Both way ∷ [] → news ≡ lower ∷ parts → Fits w ss (upper ∷ lower ∷ parts) (b ∷ a ∷ stack) → Fits w new news (combined way a b ∷ stack)
+put_both_mixed w way ss new Empty lower parts news a b stack hu hl is are h = absurd (let e = hu in cc)
+put_both_mixed w way ss new Full lower parts news a b stack hu hl is are h = absurd (let e = hu in cc)
+put_both_mixed w way ss new (Mixed high) Empty parts news a b stack hu hl is are h = absurd (let e = hl in cc)
+put_both_mixed w way ss new (Mixed high) Full parts news a b stack hu hl is are h = absurd (let e = hl in cc)
+put_both_mixed w way ss new (Mixed high) (Mixed low) parts news a b stack hu hl is are h = rw (is, are) (fits_both w way ss low high parts a b stack h)
+
+-- a set that is made by one step
+pub put_one : (w : ℕ → Bool) (ss new : List Step) (index start : ℕ) (parts news : List Part) (stack : List Bool) → new ≡ ss ++ Push index ∷ [] → start ≡ length ss → news ≡ Mixed start ∷ parts → Fits w ss parts stack →
+    Fits w new news (w index ∷ stack)
+put_one w ss new index start parts news stack is at are h = rw (is, are, at) (fits_pushed w ss index parts (w index) stack refl h)
+
+-- a set that is complemented by one step more
+pub put_complement : (w : ℕ → Bool) (ss new : List Step) (start : ℕ) (parts news : List Part) (x y b : Bool) (stack : List Bool) → new ≡ ss ++ Complement ∷ [] → news ≡ Mixed start ∷ parts → beq x y ≡ false → y ≡ true →
+    Fits w ss (Mixed start ∷ parts) (b ∷ stack) → Fits w new news (changed x y b ∷ stack)
+put_complement w ss new start parts news x y b stack is are ne e h = rw (is, are, complemented x y b ne e) (fits_complement w ss start parts b stack h)
+
+-- a set that is kept
+pub put_kept : (w : ℕ → Bool) (ss new : List Step) (start : ℕ) (parts news : List Part) (x y b : Bool) (stack : List Bool) → new ≡ ss → news ≡ Mixed start ∷ parts → beq x y ≡ false → y ≡ false →
+    Fits w ss (Mixed start ∷ parts) (b ∷ stack) → Fits w new news (changed x y b ∷ stack)
+put_kept w ss new start parts news x y b stack is are ne e h = rw (is, are, kept_or_complemented x y b ne e) h
+
+-- the last set is the one on top
+pub reverse-last : (parts : List Part) (part : Part) → 0 < length parts → ((d : Part) → part ≡ get_or parts (length parts - 1) d) → reverse parts ≡ part ∷ reverse (take (length parts - 1) parts)
+reverse-last parts part some is =
+    let short : length parts - 1 + 1 ≡ length parts = omega arith in
+    let below : length parts - 1 < length parts = omega arith in
+    let whole : parts ≡ take (length parts - 1) parts ++ part ∷ [] =
+    sym (take_all (length parts - 1 + 1) parts (omega arith)) ∙ (take_more parts (length parts - 1) Empty below ∙ ap (λ x. take (length parts - 1) parts ++ x ∷ []) (sym (is Empty))) in
+    reverse-push parts (take (length parts - 1) parts) part whole
+
+-- what is told of the set on top
+pub if_constant : (o : Option Bool) (ss : List Step) (part : Part) (parts all : List Part) → o ≡ constant_of part → all ≡ part ∷ parts → IfSome o (λ inside. (w : ℕ → Bool) (stack : List Bool) → Fits w ss all stack → top stack ≡ inside)
+if_constant None ss part parts all is are = tt
+if_constant (Some inside) ss part parts all is are = λ w stack h. fits_top_constant w ss part inside parts stack (sym is) (subst (λ l. Fits w ss l stack) are h)
+
+pub if_mixed : (o : Option Bool) (ss : List Step) (part : Part) (parts all : List Part) → o ≡ constant_of part → all ≡ part ∷ parts → IfNone o ((w : ℕ → Bool) (stack : List Bool) → Fits w ss all stack → top stack ≡ value_of w ss)
+if_mixed None ss part parts all is are = λ w stack h. fits_top w ss part parts stack (sym is) (subst (λ l. Fits w ss l stack) are h)
+if_mixed (Some inside) ss part parts all is are = tt

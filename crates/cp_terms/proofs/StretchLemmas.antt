@@ -1,0 +1,92 @@
+-- What is known of terms on a stretch.
+use Rattle.std.proofs.Common.{◌≡◌, ℕ, ◌+◌, ◌<◌, ◌≤◌, Bool, List, [], Option, None, Some, map, Contains, ◌⊎◌, ◌&&◌, length, get_or, Bor, refl, sym, ap, ◌∙◌, arith, subst, inl, inr}
+use Rattle.std.specs.List.{slice_get}
+use Rattle.std.proofs.lemmas.Option.{slice_get_within, slice_get_cases, slice_get-get_or}
+use Rattle.std.proofs.lemmas.Bool.{le-leb}
+use Rattle.cp_invlist.specs.declared.set.CodePointInversionList.{CodePointInversionList}
+use Rattle.cp_terms.specs.declared.windows.Window.{Window}
+use Rattle.cp_terms.specs.declared.step.Step.{Step}
+use Rattle.cp_terms.specs.declared.shorten.Shortened.{Shortened}
+use Rattle.cp_terms.specs.Terms.{steps_done, top, value_of, holds_at}
+use Rattle.cp_terms.specs.Words.{word_holds}
+use Rattle.cp_terms.specs.Windows.{AreWindows, HasWord, HoldsMixed}
+use Rattle.cp_terms.specs.Shorten.{Agree, AgreesAt, FitsTerm}
+use Rattle.cp_terms.specs.Runs.{AreConstant, AreMade, members_of}
+use Rattle.cp_terms.proofs.WindowLemmas.{window_tells}
+use Rattle.cp_terms.proofs.BitLemmas.{word_holds-get_or}
+use Rattle.cp_terms.proofs.TermsLemmas.{holds_at-reference, holds_at-past}
+
+-- the set with an index
+pub record SetThere (sets : List (Bor CodePointInversionList)) (i : ℕ) : Type 0 where
+  pub set : Bor CodePointInversionList
+  pub at : slice_get sets i ≡ Some set
+
+-- there is a set for each window
+pub set_there : (sets : List (Bor CodePointInversionList)) (windows : List Window) (i : ℕ) (window : Window) → length windows ≡ length sets → slice_get windows i ≡ Some window → SetThere sets i
+set_there sets windows i window same at =
+    let short : i < length sets = omega (arith, slice_get_within windows i window at, same) in
+    found (slice_get sets i) refl (slice_get_cases sets i).1
+  where
+    found : (o : Option (Bor CodePointInversionList)) → slice_get sets i ≡ o → ((x : Bor CodePointInversionList) × (i < length sets) × (slice_get sets i ≡ Some x) × (get_or sets i x ≡ x)) ⊎ ((length sets ≤ i) × (slice_get sets i ≡ None)) → SetThere sets i
+    found o is (inl h) = record { set = h.0; at = h.2 }
+    found o is (inr h) = absurd (omega (arith, slice_get_within windows i window at, same, h.0))
+
+-- the words of the sets that change are right
+pub holds_mixed : (sets : List (Bor CodePointInversionList)) (windows : List Window) (end place j : ℕ) (words mixed : List ℕ) → length words ≡ length sets →
+    ((i : ℕ) (window : Window) → slice_get windows i ≡ Some window → window.next < end → Contains mixed i) → ((i : ℕ) → Contains mixed i → HasWord sets place words i) → j < 128 →
+    HoldsMixed sets windows end (place + j) (word_holds words j)
+holds_mixed sets windows end place j words mixed same listed right lt i set window at of_it below =
+    let short : i < length words = omega (arith, slice_get_within sets i set at, same) in
+    word_holds-get_or words j i ∙ right i (listed i window of_it below) set (get_or words i 0) at (slice_get-get_or words i 0 short) j lt
+
+-- on a stretch the windows and the words of the sets that change tell all members
+pub agree_from : (sets : List (Bor CodePointInversionList)) (windows : List Window) (start end c : ℕ) (w : ℕ → Bool) → length windows ≡ length sets → AreWindows sets start windows → start ≤ c → c < end →
+    HoldsMixed sets windows end c w → Agree windows end (holds_at (map (λ s. s.now) sets) c) w
+agree_from sets windows start end c w same are le lt mixed = record { at = λ i. told i (slice_get windows i) refl }
+  where
+    told : (i : ℕ) (o : Option Window) → slice_get windows i ≡ o → AgreesAt o end (holds_at (map (λ s. s.now) sets) c i) (w i)
+    told i None is = holds_at-past sets c i (past (slice_get_cases windows i).1)
+      where
+        past : ((x : Window) × (i < length windows) × (slice_get windows i ≡ Some x) × (get_or windows i x ≡ x)) ⊎ ((length windows ≤ i) × (slice_get windows i ≡ None)) → length sets ≤ i
+        past (inl h) = absurd (let e = is in let f = h.2 in cc)
+        past (inr h) = omega (arith, h.0, same)
+    told i (Some window) is =
+        let there = set_there sets windows i window same is in
+        let holds = holds_at-reference sets c i there.set there.at in (
+          λ far. holds ∙ window_tells there.set.now start c window (are i there.set window there.at is) le (omega (arith, far)),
+          λ near. holds ∙ sym (mixed i there.set window there.at is near),
+        )
+
+-- the sets themselves tell their members
+pub holds_itself : (sets : List (Bor CodePointInversionList)) (windows : List Window) (end c : ℕ) → HoldsMixed sets windows end c (holds_at (map (λ s. s.now) sets) c)
+holds_itself sets windows end c i set window at of_it below = holds_at-reference sets c i set at
+
+-- the set that the steps make has a code point as the shortened term says
+pub members_told : (sets : List (Bor CodePointInversionList)) (ss : List Step) (c : ℕ) (b : Bool) → c < 0x110000 → value_of (holds_at (map (λ s. s.now) sets) c) ss ≡ b → members_of sets ss c ≡ b
+members_told sets ss c b lt is = ap (λ x. x && value_of (holds_at (map (λ s. s.now) sets) c) ss) (le-leb c 0x10FFFF (omega arith)) ∙ is
+
+-- On a stretch the term and the shortened one make the same.
+pub record Shortens (windows : List Window) (end : ℕ) (ss : List Step) (term : Shortened) : Type 0 where
+  pub fits : (v w : ℕ → Bool) → Agree windows end v w → FitsTerm w term (steps_done v ss [])
+
+pub stretch_constant : (sets : List (Bor CodePointInversionList)) (windows : List Window) (start : ℕ) (ss : List Step) (term : Shortened) (inside : Bool) → start + 0x4000 ≤ 0x110000 → length windows ≡ length sets →
+    AreWindows sets start windows → Shortens windows (start + 0x4000) ss term → ((w : ℕ → Bool) (stack : List Bool) → FitsTerm w term stack → top stack ≡ inside) → AreConstant (members_of sets ss) start (start + 0x4000) inside
+stretch_constant sets windows start ss term inside within same are shortens told c le lt =
+    let v = holds_at (map (λ s. s.now) sets) c in
+    members_told sets ss c inside (omega arith)
+    (told v (steps_done v ss []) (shortens.fits v v (agree_from sets windows start (start + 0x4000) c v same are le lt (holds_itself sets windows (start + 0x4000) c))))
+
+pub stretch_made : (sets : List (Bor CodePointInversionList)) (windows : List Window) (start : ℕ) (ss : List Step) (term : Shortened) → start + 0x4000 ≤ 0x110000 → length windows ≡ length sets →
+    AreWindows sets start windows → Shortens windows (start + 0x4000) ss term → ((w : ℕ → Bool) (stack : List Bool) → FitsTerm w term stack → top stack ≡ value_of w term.steps.items) → AreMade sets windows start term.steps.items (members_of sets ss)
+stretch_made sets windows start ss term within same are shortens told c w le lt mixed =
+    let v = holds_at (map (λ s. s.now) sets) c in
+    members_told sets ss c (value_of w term.steps.items) (omega arith)
+    (told w (steps_done v ss []) (shortens.fits v w (agree_from sets windows start (start + 0x4000) c w same are le lt mixed)))
+
+-- the steps are read as a slice
+pub made_by_slice : (sets : List (Bor CodePointInversionList)) (windows : List Window) (start : ℕ) (ss slice : List Step) (m : ℕ → Bool) → slice ≡ ss → AreMade sets windows start ss m → AreMade sets windows start slice m
+made_by_slice sets windows start ss slice m same made = subst (λ l. AreMade sets windows start l m) (sym same) made
+
+-- the indices are read as a slice
+pub listed_by_slice : (mixed slice : List ℕ) (i : ℕ) → slice ≡ mixed → Contains mixed i → Contains slice i
+listed_by_slice mixed slice i same h = subst (λ (l : List ℕ). Contains l i) (sym same) h

@@ -1,0 +1,150 @@
+-- What windows say of sets.
+use Rattle.std.proofs.Common.{◌≡◌, ℕ, zero, suc, ◌+◌, ◌-◌, ◌%◌, ◌<◌, ◌≤◌, Bool, true, false, ◌==◌, nat_le, List, [], ◌∷◌, Some, Contains, length, take, drop, get_or, All, Bor, refl, sym, ap, ap₂, ◌∙◌, arith, subst, inl, inr}
+use Rattle.std.specs.List.{slice_get}
+use Rattle.std.proofs.lemmas.Option.{slice_get_within, get_or_from_slice_get}
+use Rattle.std.proofs.Math.Seq.{drop-cons}
+use Rattle.std.proofs.lemmas.Bool.{le-leb, lt-leb, cases_lt}
+use Rattle.std.proofs.lemmas.List.{get_or-drop, length-drop, take-append-drop, length-take-le, take_more, take_all}
+use Rattle.std.proofs.lemmas.List.Elements.{Contains-append_cases}
+use Rattle.cp_invlist.specs.InversionList.{contains, differ, ascends_from, IsInversionList}
+use Rattle.cp_invlist.specs.Cuts.{CutAfter}
+use Rattle.cp_invlist.specs.declared.set.CodePointInversionList.{CodePointInversionList}
+use Rattle.cp_invlist.proofs.Lists.{ascends_from-parts, ascends_from-cons, ascends_from-drop, ascends_from-raise, contains-append, contains-below, contains-all_at_most, IsInversionList-parts}
+use Rattle.cp_invlist.proofs.Partition.{IsNonDecreasingBy-ascends, odd_length, contains-cut}
+use Rattle.cp_terms.specs.declared.windows.Window.{Window}
+use Rattle.cp_terms.specs.Windows.{IsWindow, AreWindows, HasWord, is_inside}
+
+-- no element behind a place is below the one there
+pub next_least : (xs : List ℕ) (i next : ℕ) → ascends_from 0 xs ≡ true → i < length xs → ((d : ℕ) → get_or xs i d ≡ next) → All (λ x. next ≤ x) (drop i xs)
+next_least xs i next h lt is k d below =
+    let short : i + k < length xs = omega (arith, length-drop i xs) in
+    let ordered = IsNonDecreasingBy-ascends 0 xs h i (i + k) d (omega arith) short in
+    omega (arith, get_or-drop i xs k d, is d)
+
+-- the first element behind a cut is above the number
+pub next_above : (c : ℕ) (xs : List ℕ) (i next : ℕ) → i < length xs → All (λ x. c < x) (drop i xs) → ((d : ℕ) → get_or xs i d ≡ next) → c < next
+next_above c xs i next lt all is =
+    let first : get_or (drop i xs) 0 0 ≡ get_or xs i 0 = get_or-drop i xs 0 0 ∙ ap (λ k. get_or xs k 0) (omega arith) in
+    omega (arith, all 0 0 (omega (arith, length-drop i xs)), first, is 0)
+
+-- the window at a place, and the element behind it
+pub record IsWindowAhead (xs : List ℕ) (place taken next : ℕ) : Type 0 where
+  pub window : IsWindow xs place (record { taken = taken; next = next })
+  pub ahead : place < next
+
+pub window_at : (xs elements : List ℕ) (place taken next : ℕ) → elements ≡ xs → IsInversionList xs → CutAfter place elements taken → slice_get elements taken ≡ Some next → IsWindowAhead xs place taken next
+window_at xs elements place taken next same list cut at =
+    let here : CutAfter place xs taken = subst (λ (l : List ℕ). CutAfter place l taken) same cut in
+    let found : slice_get xs taken ≡ Some next = subst (λ (l : List ℕ). slice_get l taken ≡ Some next) same at in
+    let short = slice_get_within xs taken next found in
+    let is = λ (d : ℕ). get_or_from_slice_get xs taken next d found in
+    record {
+      window = record { within = omega arith; before = here.before; behind = next_least xs taken next (IsInversionList-parts xs list).0 short is };
+      ahead = next_above place xs taken next short here.behind is;
+    }
+
+-- the window behind all elements
+pub window_behind : (xs elements : List ℕ) (place taken next : ℕ) → elements ≡ xs → taken ≤ length elements → CutAfter place elements taken → length elements ≤ taken → IsWindow xs place (record { taken = taken; next = next })
+window_behind xs elements place taken next same within cut past =
+    let here : CutAfter place xs taken = subst (λ (l : List ℕ). CutAfter place l taken) same cut in
+    let bound : taken ≤ length xs = omega (arith, ap length same) in
+    record { within = bound; before = here.before; behind = λ k d lt. absurd (omega (arith, length-drop taken xs, ap length same)) }
+
+-- a window is one from each later place on
+pub window_later : (xs : List ℕ) (place later : ℕ) (window : Window) → place ≤ later → IsWindow xs place window → IsWindow xs later window
+window_later xs place later window le is = record {
+  within = is.within;
+  before = λ k d lt. omega (arith, is.before k d lt);
+  behind = is.behind;
+}
+
+pub windows_later : (sets : List (Bor CodePointInversionList)) (place later : ℕ) (windows : List Window) → place ≤ later → AreWindows sets place windows → AreWindows sets later windows
+windows_later sets place later windows le are i set window at of_it = window_later set.now place later window le (are i set window at of_it)
+
+-- up to the next element the window tells the members
+pub window_tells : (xs : List ℕ) (place c : ℕ) (window : Window) → IsWindow xs place window → place ≤ c → c < window.next → contains xs c ≡ is_inside window
+window_tells xs place c window is le lt = contains-cut c xs window.taken is.within (record {
+  before = λ k d below. omega (arith, is.before k d below);
+  behind = λ k d below. omega (arith, is.behind k d below);
+})
+
+-- the elements that are left ascend from above the place
+pub rest_ascends : (xs : List ℕ) (place : ℕ) (window : Window) → IsInversionList xs → IsWindow xs place window → place < window.next → ascends_from (place + 1) (drop window.taken xs) ≡ true
+rest_ascends xs place window list is ahead =
+    ascends_from-raise 0 (place + 1) (drop window.taken xs) (λ k d lt. omega (arith, is.behind k d lt)) (ascends_from-drop 0 window.taken xs (IsInversionList-parts xs list).0)
+
+-- the members are told by the elements that are left
+pub contains-rest : (xs : List ℕ) (place c : ℕ) (window : Window) → IsWindow xs place window → place ≤ c → contains xs c ≡ differ (is_inside window) (contains (drop window.taken xs) c)
+contains-rest xs place c window is le =
+    ap (λ l. contains l c) (sym (take-append-drop window.taken xs))
+    ∙ (contains-append (take window.taken xs) (drop window.taken xs) c
+    ∙ ap (λ b. differ b (contains (drop window.taken xs) c)) (contains-all_at_most c (take window.taken xs) (λ k d lt. omega (arith, is.before k d lt)) ∙ (odd_length (take window.taken xs) ∙ ap (λ n. n % 2 == 1) (length-take-le window.taken xs is.within))))
+
+-- an element of an ascending list, and those from there on
+pub record Ascends (n : ℕ) (xs : List ℕ) (i : ℕ) : Type 0 where
+  pub least : n ≤ get_or xs i 0
+  pub rest : ascends_from (get_or xs i 0) (drop i xs) ≡ true
+
+pub ascends_at : (n : ℕ) (xs : List ℕ) (i : ℕ) → ascends_from n xs ≡ true → i < length xs → Ascends n xs i
+ascends_at n xs i h lt =
+    let x = get_or xs i 0 in
+    let split : drop i xs ≡ x ∷ drop (suc i) xs = drop-cons xs i 0 lt in
+    let parts = ascends_from-parts n x (drop (suc i) xs) (subst (λ (l : List ℕ). ascends_from n l ≡ true) split (ascends_from-drop n i xs h)) in
+    record {
+      least = parts.0;
+      rest = subst (λ (l : List ℕ). ascends_from x l ≡ true) (sym split) (ascends_from-cons x x (drop (suc i) xs) (omega arith) parts.1 parts.2);
+    }
+
+-- no element from a place on counts for a number below the one there
+pub contains-front : (n c : ℕ) (xs : List ℕ) (i : ℕ) → ascends_from n xs ≡ true → i < length xs → c < get_or xs i 0 → contains xs c ≡ contains (take i xs) c
+contains-front n c xs i h lt below =
+    ap (λ l. contains l c) (sym (take-append-drop i xs))
+    ∙ (contains-append (take i xs) (drop i xs) c
+    ∙ (ap (differ (contains (take i xs) c)) (contains-below (get_or xs i 0) c (drop i xs) (ascends_at n xs i h lt).rest below) ∙ differ-no (contains (take i xs) c)))
+  where
+    differ-no : (b : Bool) → differ b false ≡ b
+    differ-no true = refl
+    differ-no false = refl
+
+differ-turned : (le start front : Bool) → differ le (differ start front) ≡ differ start (differ front (differ le false))
+differ-turned true true true = refl
+differ-turned true true false = refl
+differ-turned true false true = refl
+differ-turned true false false = refl
+differ-turned false true true = refl
+differ-turned false true false = refl
+differ-turned false false true = refl
+differ-turned false false false = refl
+
+offset_reaches : (x place j : ℕ) → place ≤ x → nat_le (x - place) j ≡ nat_le x (place + j)
+offset_reaches x place j le = elim (cases_lt (place + j) x) [
+  | inl below ↦ lt-leb (x - place) j (omega arith) ∙ sym (lt-leb x (place + j) below)
+  | inr above ↦ le-leb (x - place) j (omega arith) ∙ sym (le-leb x (place + j) above)
+]
+
+-- one element more
+pub turned_more : (start bit : Bool) (xs : List ℕ) (i place j : ℕ) → i < length xs → place ≤ get_or xs i 0 → bit ≡ differ start (contains (take i xs) (place + j)) →
+    differ (nat_le (get_or xs i 0 - place) j) bit ≡ differ start (contains (take (i + 1) xs) (place + j))
+turned_more start bit xs i place j lt le is =
+    let x = get_or xs i 0 in
+    let front = contains (take i xs) (place + j) in
+    ap₂ differ (offset_reaches x place j le) is
+    ∙ (differ-turned (nat_le x (place + j)) start front
+    ∙ ap (differ start) (sym (contains-append (take i xs) (x ∷ []) (place + j)) ∙ ap (λ l. contains l (place + j)) (sym (take_more xs i 0 lt))))
+
+-- a slice up to the end
+pub rest_of : (xs list : List ℕ) (taken : ℕ) → list ≡ xs → take (length list - taken) (drop taken list) ≡ drop taken xs
+rest_of xs list taken same = take_all (length list - taken) (drop taken list) (omega (arith, length-drop taken list)) ∙ ap (drop taken) same
+
+one_listed : (x i : ℕ) → Contains (x ∷ []) i → x ≡ i
+one_listed x i (zero, lt, is) = is
+one_listed x i (suc k, lt, is) = absurd (omega (arith, lt))
+
+-- one word more is right
+pub words_more : (sets : List (Bor CodePointInversionList)) (place : ℕ) (old new mixed : List ℕ) (k : ℕ) → k < length mixed → ((i : ℕ) → Contains (take k mixed) i → HasWord sets place old i) →
+    HasWord sets place new (get_or mixed k 0) → ((i : ℕ) → HasWord sets place old i → HasWord sets place new i) → (i : ℕ) → Contains (take (k + 1) mixed) i → HasWord sets place new i
+words_more sets place old new mixed k lt before here others i listed =
+    elim (Contains-append_cases (take k mixed) (get_or mixed k 0 ∷ []) i (subst (λ (l : List ℕ). Contains l i) (take_more mixed k 0 lt) listed)) [
+      | inl was ↦ others i (before i was)
+      | inr is ↦ subst (HasWord sets place new) (one_listed (get_or mixed k 0) i is) here
+    ]

@@ -1,0 +1,9 @@
+use Rattle.std.proofs.Common.{sym, ◌∙◌}
+use Rattle.cp_terms.proofs.BitLemmas.{has_bit-ones, has_bit-zero}
+use Rattle.cp_terms.proofs.windows.filled.Goals as goal
+
+pub returns-then-inside : goal.returns-then-inside
+returns-then-inside c = λ j h. has_bit-ones j h ∙ sym c.if-inside.true
+
+pub returns-else-inside : goal.returns-else-inside
+returns-else-inside c = λ j h. has_bit-zero j ∙ sym c.if-inside.false

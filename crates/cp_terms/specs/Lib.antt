@@ -1,0 +1,6 @@
+pub mod Terms
+pub mod Words
+pub mod Windows
+pub mod Shorten
+pub mod Runs
+pub mod ShortenParts

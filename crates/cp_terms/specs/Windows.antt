@@ -1,0 +1,32 @@
+-- What is known of sets from a place on.
+use Rattle.std.specs.Prelude.{◌≡◌, ℕ, ◌<◌, ◌≤◌, ◌%◌, ◌==◌, Bool, List, All, take, drop, length, Some, slice_get}
+use Rattle.std.specs.Borrow.{Bor}
+use Rattle.cp_invlist.specs.InversionList.{contains}
+use Rattle.cp_invlist.specs.declared.set.CodePointInversionList.{CodePointInversionList}
+use Rattle.cp_terms.specs.declared.windows.Window.{Window}
+use Rattle.cp_terms.specs.Words.{IsWord}
+
+-- the elements that are counted are at most the place, and the others at least the next
+pub record IsWindow (xs : List ℕ) (place : ℕ) (window : Window) : Type 0 where
+  pub within : window.taken ≤ length xs
+  pub before : All (λ x. x ≤ place) (take window.taken xs)
+  pub behind : All (λ x. window.next ≤ x) (drop window.taken xs)
+
+-- there is an odd number of elements in front
+abbrev pub is_inside : Window → Bool
+is_inside window = window.taken % 2 == 1
+
+-- each set has its window
+abbrev pub AreWindows : List (Bor CodePointInversionList) → ℕ → List Window → Type 0
+AreWindows sets place windows = (i : ℕ) (set : Bor CodePointInversionList) (window : Window) →
+    slice_get sets i ≡ Some set → slice_get windows i ≡ Some window → IsWindow set.now place window
+
+-- the set with the index has its word
+abbrev pub HasWord : List (Bor CodePointInversionList) → ℕ → List ℕ → ℕ → Type 0
+HasWord sets place words i = (set : Bor CodePointInversionList) (word : ℕ) →
+    slice_get sets i ≡ Some set → slice_get words i ≡ Some word → IsWord set.now place word
+
+-- the sets that change before the end have the code point where the valuation says so
+abbrev pub HoldsMixed : List (Bor CodePointInversionList) → List Window → ℕ → ℕ → (ℕ → Bool) → Type 0
+HoldsMixed sets windows end c w = (i : ℕ) (set : Bor CodePointInversionList) (window : Window) →
+    slice_get sets i ≡ Some set → slice_get windows i ≡ Some window → window.next < end → w i ≡ contains set.now c

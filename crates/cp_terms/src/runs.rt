@@ -1,0 +1,112 @@
+//! The runs of members of a set that is written in the order of code points.
+ghost use Rattle.std.specs.Prelude.{◌≡◌, ℕ, ◌<◌, IfSome};
+ghost use Rattle.cp_terms.specs.Words.{has_bit};
+
+use cp_invlist::{CodePointInversionList, CodePointInversionListBuilder, CodePointRange, NoMemory};
+use std::alloc::Global;
+
+/// Whether the word has the bit.
+fn has(word: u128, offset: u32) -> bool
+    requires { offset < 128 }
+    ensures { result ≡ has_bit word offset }
+{
+    (word >> offset) & 1 == 1
+}
+
+/// Whether the word has all bits or none, where either is the case.
+fn constant(word: u128) -> Option<bool>
+    ensures { IfSome result (λ inside. (j : ℕ) → j < 128 → has_bit word j ≡ inside) }
+{
+    if word == 0 {
+        return Some(false);
+    }
+    if word == u128::MAX {
+        return Some(true);
+    }
+    None
+}
+
+/// The runs up to a place.
+pub(crate) struct Runs {
+    closed: CodePointInversionListBuilder,
+    /// Where the run starts that goes on at the place.
+    open: Option<u32>,
+}
+
+// By hand, so that letting a value go is one call in each proof.
+impl Drop for Runs {
+    fn drop(self) {
+        let Self { closed: _, open: _ } = self;
+    }
+}
+
+impl Runs {
+    ghost use Rattle.std.specs.Prelude.{◌≡◌, ℕ, ◌+◌, ◌<◌, ◌≤◌, Bool, false, None, OnOk};
+    ghost use Rattle.cp_invlist.specs.InversionList.{contains};
+    ghost use Rattle.cp_terms.specs.Words.{has_bit};
+    ghost use Rattle.cp_terms.specs.Runs.{IsOpenBefore, AreRuns, AreConstant};
+
+    /// No runs.
+    pub(crate) fn new(alloc: Global) -> Runs
+        ensures runs { (m : ℕ → Bool) → AreRuns m 0 result }
+        ensures open { IsOpenBefore 0 result }
+    {
+        Runs {
+            closed: CodePointInversionListBuilder::new(alloc),
+            open: None,
+        }
+    }
+
+    /// From the place on the code points are members, or not.
+    pub(crate) fn turn(&mut self, inside: bool, place: u32) -> Result<(), NoMemory>
+        requires place { place ≤ 0x11_0000 }
+        requires open { IsOpenBefore place self.old }
+        ensures runs { OnOk result ((m : ℕ → Bool) (end : ℕ) →
+            AreRuns m place self.old → AreConstant m place end inside → place ≤ end → AreRuns m end self.new) }
+        ensures open { OnOk result (IsOpenBefore (place + 1) self.new) }
+        ensures closed { OnOk result (inside ≡ false → self.new.open ≡ None) }
+    {
+        match self.open {
+            None => {
+                if inside {
+                    self.open = Some(place);
+                }
+            }
+            Some(start) => {
+                if !inside {
+                    self.closed.add_range32(CodePointRange {
+                        start,
+                        end: place - 1,
+                    })?;
+                    self.open = None;
+                }
+            }
+        }
+        Ok(())
+    }
+
+    /// Writes the 128 code points from the place on.
+    pub(crate) fn write(&mut self, word: u128, place: u32) -> Result<(), NoMemory>
+        requires place { place + 128 ≤ 0x11_0000 }
+        requires open { IsOpenBefore place self.old }
+        ensures runs { OnOk result ((m : ℕ → Bool) → AreRuns m place self.old →
+            ((j : ℕ) → j < 128 → m (place + j) ≡ has_bit word j) → AreRuns m (place + 128) self.new) }
+        ensures open { OnOk result (IsOpenBefore (place + 128) self.new) }
+    {
+        if let Some(inside) = constant(word) {
+            return self.turn(inside, place);
+        }
+        for offset in 0..128 {
+            self.turn(has(word, offset), place + offset)?;
+        }
+        Ok(())
+    }
+
+    /// The set, once all code points are written.
+    pub(crate) fn into_set(self) -> CodePointInversionList
+        ensures { result ≡ self.closed }
+    {
+        let Self { closed, open: _ } = self;
+        closed.build()
+    }
+}

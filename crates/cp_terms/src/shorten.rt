@@ -1,0 +1,207 @@
+//! Terms without what constant sets decide.
+use crate::step::{Step, Way};
+use crate::windows::Window;
+use cp_invlist::NoMemory;
+use std::alloc::Global;
+
+/// A set on the stack, as far as it is known on a stretch of code points.
+#[derive(Clone, Copy)]
+enum Part {
+    /// It has none of them.
+    Empty,
+    /// It has all of them.
+    Full,
+    /// The steps from this place on make it.
+    Mixed(usize),
+}
+
+impl Part {
+    ghost use Rattle.std.specs.Prelude.{◌≡◌};
+    ghost use Rattle.cp_terms.specs.ShortenParts.{part_of, constant_of};
+
+    fn of_constant(inside: bool) -> Part
+        ensures { result ≡ part_of inside }
+    {
+        if inside { Part::Full } else { Part::Empty }
+    }
+
+    /// Whether it has all or none, where either is known.
+    fn constant(self) -> Option<bool>
+        ensures { result ≡ constant_of self }
+    {
+        match self {
+            Part::Empty => Some(false),
+            Part::Full => Some(true),
+            Part::Mixed(_) => None,
+        }
+    }
+}
+
+/// A term that is shortened, and the sets on its stack.
+pub(crate) struct Shortened {
+    pub(crate) steps: Vec<Step>,
+    stack: Vec<Part>,
+}
+
+// By hand, so that letting a value go is one call in each proof.
+impl Drop for Shortened {
+    fn drop(self) {
+        let Self { steps: _, stack: _ } = self;
+    }
+}
+
+impl Shortened {
+    ghost use Rattle.std.specs.Prelude.{◌≡◌, ℕ, ◌∷◌, Bool, List, [], IfOk, OnOk, IfSome, IfNone};
+    ghost use Rattle.cp_terms.specs.Terms.{combined, both_done, step_done, steps_done, top, value_of};
+    ghost use Rattle.cp_terms.specs.declared.shorten.Part.{Part};
+    ghost use Rattle.cp_terms.specs.Shorten.{Agree, FitsTerm, FitsUnder, FitsUnderBoth, changed, changed_top};
+
+    /// Puts down a set that has all or none.
+    fn put_constant(&mut self, inside: bool) -> Result<(), NoMemory>
+        ensures { OnOk result ((w : ℕ → Bool) (stack : List Bool) →
+            FitsTerm w self.old stack → FitsTerm w self.new (inside ∷ stack)) }
+    {
+        self.stack.push(Part::of_constant(inside))?;
+        Ok(())
+    }
+
+    /// Puts down what the set that the steps from the start on make is made into.
+    fn put_mixed(&mut self, start: usize, at_member: bool, at_other: bool) -> Result<(), NoMemory>
+        ensures { OnOk result ((w : ℕ → Bool) (b : Bool) (stack : List Bool) →
+            FitsUnder w (Part.Mixed start) self.old (b ∷ stack) →
+            FitsTerm w self.new (changed at_member at_other b ∷ stack)) }
+    {
+        if at_member == at_other {
+            self.steps.truncate(start);
+            return self.put_constant(at_member);
+        }
+        if at_other {
+            self.steps.push(Step::Complement)?;
+        }
+        self.stack.push(Part::Mixed(start))?;
+        Ok(())
+    }
+
+    /// Puts down what the set is made into, by whether the result has what the set has and whether it has what the set lacks.
+    fn put_changed(&mut self, part: Part, at_member: bool, at_other: bool) -> Result<(), NoMemory>
+        ensures { OnOk result ((w : ℕ → Bool) (b : Bool) (stack : List Bool) →
+            FitsUnder w part self.old (b ∷ stack) → FitsTerm w self.new (changed at_member at_other b ∷ stack)) }
+    {
+        match part {
+            Part::Empty => self.put_constant(at_other),
+            Part::Full => self.put_constant(at_member),
+            Part::Mixed(start) => self.put_mixed(start, at_member, at_other),
+        }
+    }
+
+    /// Does a step to the set on top.
+    fn change_top(&mut self, at_member: bool, at_other: bool) -> Result<(), NoMemory>
+        ensures { OnOk result ((w : ℕ → Bool) (stack : List Bool) →
+            FitsTerm w self.old stack → FitsTerm w self.new (changed_top at_member at_other stack)) }
+    {
+        match self.stack.pop() {
+            Some(part) => self.put_changed(part, at_member, at_other),
+            None => Ok(()),
+        }
+    }
+
+    /// Makes one set of two.
+    fn put_both(&mut self, way: Way, lower: Part, upper: Part) -> Result<(), NoMemory>
+        ensures { OnOk result ((w : ℕ → Bool) (a b : Bool) (stack : List Bool) →
+            FitsUnderBoth w upper lower self.old (b ∷ a ∷ stack) → FitsTerm w self.new (combined way a b ∷ stack)) }
+    {
+        if let Some(inside) = upper.constant() {
+            return self.put_changed(lower, way.combine(true, inside), way.combine(false, inside));
+        }
+        if let Some(inside) = lower.constant() {
+            return self.put_changed(upper, way.combine(inside, true), way.combine(inside, false));
+        }
+        self.steps.push(Step::Both(way))?;
+        self.stack.push(lower)?;
+        Ok(())
+    }
+
+    /// Makes one set of the two on top.
+    fn merge_top(&mut self, way: Way) -> Result<(), NoMemory>
+        ensures { OnOk result ((w : ℕ → Bool) (stack : List Bool) →
+            FitsTerm w self.old stack → FitsTerm w self.new (both_done way stack)) }
+    {
+        let Some(upper) = self.stack.pop() else {
+            return Ok(());
+        };
+        let Some(lower) = self.stack.pop() else {
+            self.stack.push(upper)?;
+            return Ok(());
+        };
+        self.put_both(way, lower, upper)
+    }
+
+    /// Puts down a set that is neither.
+    fn put_set(&mut self, index: usize) -> Result<(), NoMemory>
+        ensures { OnOk result ((w : ℕ → Bool) (stack : List Bool) →
+            FitsTerm w self.old stack → FitsTerm w self.new (w index ∷ stack)) }
+    {
+        let start = self.steps.len();
+        self.steps.push(Step::Push(index))?;
+        self.stack.push(Part::Mixed(start))?;
+        Ok(())
+    }
+
+    /// Puts down the set with the index.
+    fn put_down(&mut self, windows: &[Window], end: u32, index: usize) -> Result<(), NoMemory>
+        ensures { OnOk result ((v w : ℕ → Bool) (stack : List Bool) →
+            Agree windows.now end v w → FitsTerm w self.old stack → FitsTerm w self.new (v index ∷ stack)) }
+    {
+        match windows.get(index) {
+            None => self.put_constant(false),
+            Some(window) if window.next >= end => self.put_constant(window.is_inside()),
+            Some(_) => self.put_set(index),
+        }
+    }
+
+    /// Does the step.
+    fn take(&mut self, windows: &[Window], end: u32, step: Step) -> Result<(), NoMemory>
+        ensures { OnOk result ((v w : ℕ → Bool) (stack : List Bool) →
+            Agree windows.now end v w → FitsTerm w self.old stack → FitsTerm w self.new (step_done v step stack)) }
+    {
+        match step {
+            Step::Push(index) => self.put_down(windows, end, index),
+            Step::Both(way) => self.merge_top(way),
+            Step::Complement => self.change_top(false, true),
+            Step::Clear => self.change_top(false, false),
+        }
+    }
+
+    /// The steps, shortened for the code points up to the end.
+    pub(crate) fn new(
+        alloc: Global,
+        windows: &[Window],
+        end: u32,
+        steps: &[Step],
+    ) -> Result<Shortened, NoMemory>
+        ensures { IfOk result
+            (λ term. (v w : ℕ → Bool) → Agree windows.now end v w → FitsTerm w term (steps_done v steps.now [])) }
+    {
+        let mut shortened = Shortened {
+            steps: Vec::new(alloc),
+            stack: Vec::new(alloc),
+        };
+        for step in steps {
+            shortened.take(windows, end, *step)?;
+        }
+        Ok(shortened)
+    }
+
+    /// Whether the set on top has all or none, where either is known.
+    pub(crate) fn constant(&self) -> Option<bool>
+        ensures constant { IfSome result
+            (λ inside. (w : ℕ → Bool) (stack : List Bool) → FitsTerm w self.now stack → top stack ≡ inside) }
+        ensures mixed { IfNone result
+            ((w : ℕ → Bool) (stack : List Bool) → FitsTerm w self.now stack → top stack ≡ value_of w self.now.steps.items) }
+    {
+        match self.stack.last() {
+            Some(part) => part.constant(),
+            None => Some(false),
+        }
+    }
+}

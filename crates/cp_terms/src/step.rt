@@ -1,0 +1,57 @@
+//! The steps of a term.
+
+/// How one set is made of the two on top of the stack, the lower and the upper.
+#[derive(Clone, Copy)]
+pub enum Way {
+    /// The members of either.
+    Join,
+    /// The lower without the upper.
+    Remove,
+    /// The members of both.
+    Retain,
+    /// The upper without the lower.
+    RemoveFrom,
+}
+
+impl Way {
+    ghost use Rattle.std.specs.Prelude.{◌≡◌, ℕ, ◌<◌};
+    ghost use Rattle.cp_terms.specs.Terms.{combined};
+    ghost use Rattle.cp_terms.specs.Words.{has_bit};
+
+    /// Whether the set that is made has a member, by whether the two have it.
+    pub(crate) fn combine(self, lower: bool, upper: bool) -> bool
+        ensures { result ≡ combined self lower upper }
+    {
+        match self {
+            Way::Join => lower || upper,
+            Way::Remove => lower && !upper,
+            Way::Retain => lower && upper,
+            Way::RemoveFrom => upper && !lower,
+        }
+    }
+
+    /// The same for the 128 numbers that words stand for.
+    pub(crate) fn combine_words(self, lower: u128, upper: u128) -> u128
+        ensures { (j : ℕ) → j < 128 → has_bit result j ≡ combined self (has_bit lower j) (has_bit upper j) }
+    {
+        match self {
+            Way::Join => lower | upper,
+            Way::Remove => lower & !upper,
+            Way::Retain => lower & upper,
+            Way::RemoveFrom => upper & !lower,
+        }
+    }
+}
+
+/// A step of a term, over a stack of sets (reverse Polish notation).
+#[derive(Clone, Copy)]
+pub enum Step {
+    /// Puts down the set with this index, the empty set where there is none.
+    Push(usize),
+    /// Makes one set of the two on top. Where there are fewer, nothing is done.
+    Both(Way),
+    /// Exchanges the members of the set on top and the other code points. Where there is none, nothing is done.
+    Complement,
+    /// Empties the set on top. Where there is none, nothing is done.
+    Clear,
+}

@@ -1,0 +1,177 @@
+//! What is known of sets from a place on, in the order of code points.
+ghost use Rattle.std.specs.Prelude.{◌≡◌, ℕ, ◌+◌, ◌<◌, ◌≤◌, true, length, Contains, Some, slice_get, IfOk};
+ghost use Rattle.cp_invlist.specs.InversionList.{contains, differ, ascends_from};
+ghost use Rattle.cp_terms.specs.Words.{has_bit};
+ghost use Rattle.cp_terms.specs.Windows.{AreWindows, HasWord};
+ghost use Rattle.cp_terms.specs.declared.windows.Window.{Window};
+
+use cp_invlist::{CodePointInversionList, LAST_CODE_POINT, NoMemory};
+use std::alloc::Global;
+
+/// What is known of a set from a place on.
+#[derive(Clone, Copy)]
+pub(crate) struct Window {
+    /// How many elements of its list are at most the place.
+    pub(crate) taken: usize,
+    /// The next element: up to it either all code points are members or none is.
+    pub(crate) next: u32,
+}
+
+impl Window {
+    ghost use Rattle.std.specs.Prelude.{◌≡◌, ◌<◌};
+    ghost use Rattle.cp_terms.specs.Words.{IsWord};
+    ghost use Rattle.cp_terms.specs.Windows.{IsWindow, is_inside};
+
+    /// What is known of each set before it is looked at.
+    pub(crate) const UNKNOWN: Window = Window { taken: 0, next: 0 };
+
+    /// Whether the code points up to the next element are members.
+    pub(crate) fn is_inside(self) -> bool
+        ensures { result ≡ is_inside self }
+    {
+        self.taken % 2 == 1
+    }
+
+    /// The window at the place.
+    fn at(set: &CodePointInversionList, place: u32) -> Window
+        requires { place < 0x11_0000 }
+        ensures window { IsWindow set.now place result }
+        ensures ahead { place < result.next }
+    {
+        let elements = set.get_inversion_list();
+        let taken = elements.partition_point(|element| *element <= place);
+        let next = match elements.get(taken) {
+            Some(element) => *element,
+            None => LAST_CODE_POINT + 1,
+        };
+        Window { taken, next }
+    }
+
+    /// The window at a place further on.
+    fn moved(self, set: &CodePointInversionList, place: u32) -> Window
+        requires place { place < 0x11_0000 }
+        requires window { IsWindow set.now place self }
+        ensures window { IsWindow set.now place result }
+        ensures ahead { place < result.next }
+    {
+        if self.next > place {
+            self
+        } else {
+            Window::at(set, place)
+        }
+    }
+
+    /// Which of the 128 code points from the place on are members.
+    fn word(self, set: &CodePointInversionList, place: u32) -> u128
+        requires window { IsWindow set.now place self }
+        requires ahead { place < self.next }
+        ensures { IsWord set.now place result }
+    {
+        let start = filled(self.is_inside());
+        if self.next - place >= 128 {
+            return start;
+        }
+        turned(start, &set.get_inversion_list()[self.taken..], place)
+    }
+}
+
+/// The word of a set that has all or none.
+fn filled(inside: bool) -> u128
+    ensures { (j : ℕ) → j < 128 → has_bit result j ≡ inside }
+{
+    if inside { u128::MAX } else { 0 }
+}
+
+/// The word that turns at each of the elements.
+fn turned(start: u128, elements: &[u32], place: u32) -> u128
+    requires { ascends_from (place + 1) elements.now ≡ true }
+    ensures { (j : ℕ) → j < 128 → has_bit result j ≡ differ (has_bit start j) (contains elements.now (place + j)) }
+{
+    let mut word = start;
+    for element in elements {
+        let offset = *element - place;
+        if offset >= 128 {
+            return word;
+        }
+        word ^= u128::MAX << offset;
+    }
+    word
+}
+
+/// Moves all windows on to the place.
+pub(crate) fn move_all(sets: &[&CodePointInversionList], windows: &mut [Window], place: u32)
+    requires place { place < 0x11_0000 }
+    requires one_each { length windows.old ≡ length sets.now }
+    requires windows { AreWindows sets.now place windows.old }
+    ensures one_each { length windows.new ≡ length sets.now }
+    ensures windows { AreWindows sets.now place windows.new }
+{
+    for (index, set) in sets.iter().enumerate() {
+        windows[index] = windows[index].moved(set, place);
+    }
+}
+
+/// The indices of the sets that change before the end.
+pub(crate) fn mixed_before(
+    alloc: Global,
+    windows: &[Window],
+    end: u32,
+) -> Result<Vec<usize>, NoMemory>
+    ensures { IfOk result
+        (λ mixed. (i : ℕ) (window : Window) → slice_get windows.now i ≡ Some window → window.next < end → Contains mixed.items i) }
+{
+    let mut mixed = Vec::new(alloc);
+    for (index, window) in windows.iter().enumerate() {
+        if window.next < end {
+            mixed.push(index)?;
+        }
+    }
+    Ok(mixed)
+}
+
+/// Moves the window of the set with the index on to the place, and makes its word there.
+fn fill_word(
+    sets: &[&CodePointInversionList],
+    index: usize,
+    windows: &mut [Window],
+    words: &mut [u128],
+    place: u32,
+)
+    requires place { place < 0x11_0000 }
+    requires windows_each { length windows.old ≡ length sets.now }
+    requires words_each { length words.old ≡ length sets.now }
+    requires windows { AreWindows sets.now place windows.old }
+    ensures windows_each { length windows.new ≡ length sets.now }
+    ensures words_each { length words.new ≡ length sets.now }
+    ensures windows { AreWindows sets.now place windows.new }
+    ensures word { HasWord sets.now place words.new index }
+    ensures others { (i : ℕ) → HasWord sets.now place words.old i → HasWord sets.now place words.new i }
+{
+    if let Some(set) = sets.get(index) {
+        let window = windows[index].moved(set, place);
+        windows[index] = window;
+        words[index] = window.word(set, place);
+    }
+}
+
+/// Moves the windows of the sets with these indices on to the place, and makes their words there.
+pub(crate) fn fill_words(
+    sets: &[&CodePointInversionList],
+    mixed: &[usize],
+    windows: &mut [Window],
+    words: &mut [u128],
+    place: u32,
+)
+    requires place { place < 0x11_0000 }
+    requires windows_each { length windows.old ≡ length sets.now }
+    requires words_each { length words.old ≡ length sets.now }
+    requires windows { AreWindows sets.now place windows.old }
+    ensures windows_each { length windows.new ≡ length sets.now }
+    ensures words_each { length words.new ≡ length sets.now }
+    ensures windows { AreWindows sets.now place windows.new }
+    ensures words { (i : ℕ) → Contains mixed.now i → HasWord sets.now place words.new i }
+{
+    for index in mixed {
+        fill_word(sets, *index, windows, words, place);
+    }
+}

@@ -1,0 +1,12 @@
+//! What tests of several subjects share.
+use std::fmt;
+use std::process::Abort;
+
+/// Asserts that both values are the same. An assertion is proved slowly wherever it stands, so that tests share this one.
+pub(crate) fn assert_equal<T: PartialEq + fmt::Debug + Drop>(
+    rt: &impl Abort,
+    found: T,
+    expected: T,
+) {
+    assert_eq!(rt; found, expected);
+}

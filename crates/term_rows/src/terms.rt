@@ -1,0 +1,197 @@
+//! Terms over a few sets, and the sets that they make.
+use crate::fixtures::assert_equal;
+use cp_invlist::CodePointInversionList;
+use cp_terms::{Step, Way, evaluate};
+use std::alloc::Global;
+
+/// The sets that the terms are made of.
+const SETS: &[&[u32]] = &[
+    // 0: letters
+    &[0x41, 0x5B, 0x61, 0x7B],
+    // 1: up to the border of a word of 128 code points
+    &[0x70, 0x80],
+    // 2: from there on, and beyond the border of a stretch of 16384
+    &[0x80, 0x4001],
+    // 3: the last code point, and the first
+    &[0, 1, 0x10_FFFF, 0x11_0000],
+    // 4: all
+    &[0, 0x11_0000],
+    // 5: whole stretches, and a single code point behind
+    &[0x4000, 0xC000, 0xC001, 0xC002],
+    // 6: nothing
+    &[],
+];
+
+const EMPTY: &[u32] = &[];
+
+/// Terms, and the lists of the sets that they make.
+const TERMS: &[(&[Step], &[u32])] = &[
+    // no steps
+    (&[], EMPTY),
+    (&[Step::Push(0)], &[0x41, 0x5B, 0x61, 0x7B]),
+    // there is no set with this index
+    (&[Step::Push(7)], EMPTY),
+    (&[Step::Push(usize::MAX), Step::Complement], &[0, 0x11_0000]),
+    // fewer sets than a step takes
+    (&[Step::Complement], EMPTY),
+    (&[Step::Clear], EMPTY),
+    (&[Step::Both(Way::Join)], EMPTY),
+    (&[Step::Push(1), Step::Both(Way::Remove)], &[0x70, 0x80]),
+    (
+        &[
+            Step::Both(Way::Join),
+            Step::Push(1),
+            Step::Push(2),
+            Step::Both(Way::Join),
+        ],
+        &[0x70, 0x4001],
+    ),
+    // only the set on top counts
+    (&[Step::Push(1), Step::Push(6)], EMPTY),
+    // the four ways
+    (
+        &[Step::Push(0), Step::Push(1), Step::Both(Way::Join)],
+        &[0x41, 0x5B, 0x61, 0x80],
+    ),
+    (
+        &[Step::Push(0), Step::Push(1), Step::Both(Way::Remove)],
+        &[0x41, 0x5B, 0x61, 0x70],
+    ),
+    (
+        &[Step::Push(0), Step::Push(1), Step::Both(Way::Retain)],
+        &[0x70, 0x7B],
+    ),
+    (
+        &[Step::Push(0), Step::Push(1), Step::Both(Way::RemoveFrom)],
+        &[0x7B, 0x80],
+    ),
+    // a set and itself
+    (
+        &[Step::Push(0), Step::Push(0), Step::Both(Way::Join)],
+        &[0x41, 0x5B, 0x61, 0x7B],
+    ),
+    (
+        &[Step::Push(0), Step::Push(0), Step::Both(Way::Retain)],
+        &[0x41, 0x5B, 0x61, 0x7B],
+    ),
+    (
+        &[Step::Push(0), Step::Push(0), Step::Both(Way::Remove)],
+        EMPTY,
+    ),
+    (
+        &[Step::Push(0), Step::Push(0), Step::Both(Way::RemoveFrom)],
+        EMPTY,
+    ),
+    // complements, and a set that is emptied
+    (&[Step::Push(6), Step::Complement], &[0, 0x11_0000]),
+    (&[Step::Push(4), Step::Complement], EMPTY),
+    (&[Step::Push(3), Step::Complement], &[1, 0x10_FFFF]),
+    (
+        &[Step::Push(2), Step::Complement],
+        &[0, 0x80, 0x4001, 0x11_0000],
+    ),
+    (
+        &[Step::Push(5), Step::Complement, Step::Complement],
+        &[0x4000, 0xC000, 0xC001, 0xC002],
+    ),
+    (&[Step::Push(5), Step::Clear], EMPTY),
+    (
+        &[
+            Step::Push(5),
+            Step::Push(1),
+            Step::Clear,
+            Step::Both(Way::Join),
+        ],
+        &[0x4000, 0xC000, 0xC001, 0xC002],
+    ),
+    // constant sets below and above
+    (
+        &[Step::Push(4), Step::Push(1), Step::Both(Way::Remove)],
+        &[0, 0x70, 0x80, 0x11_0000],
+    ),
+    (
+        &[Step::Push(1), Step::Push(4), Step::Both(Way::RemoveFrom)],
+        &[0, 0x70, 0x80, 0x11_0000],
+    ),
+    (
+        &[Step::Push(4), Step::Push(1), Step::Both(Way::Retain)],
+        &[0x70, 0x80],
+    ),
+    (
+        &[Step::Push(1), Step::Push(4), Step::Both(Way::Join)],
+        &[0, 0x11_0000],
+    ),
+    (
+        &[Step::Push(1), Step::Push(4), Step::Both(Way::Remove)],
+        EMPTY,
+    ),
+    (
+        &[Step::Push(6), Step::Push(1), Step::Both(Way::RemoveFrom)],
+        &[0x70, 0x80],
+    ),
+    // runs across the borders of stretches
+    (
+        &[Step::Push(2), Step::Push(5), Step::Both(Way::Join)],
+        &[0x80, 0xC000, 0xC001, 0xC002],
+    ),
+    (
+        &[Step::Push(2), Step::Push(5), Step::Both(Way::Retain)],
+        &[0x4000, 0x4001],
+    ),
+    (
+        &[
+            Step::Push(0),
+            Step::Push(2),
+            Step::Both(Way::Join),
+            Step::Push(3),
+            Step::Push(5),
+            Step::Both(Way::Join),
+            Step::Both(Way::RemoveFrom),
+            Step::Complement,
+        ],
+        &[1, 0x4001, 0xC000, 0xC001, 0xC002, 0x10_FFFF],
+    ),
+];
+
+/// Puts the sets of the lists behind those that are there.
+fn add_sets(alloc: Global, lists: &[&[u32]], sets: &mut Vec<CodePointInversionList>) -> Option<()> {
+    for list in lists {
+        let set = CodePointInversionList::try_from_inversion_list(alloc, list).ok()?;
+        sets.push(set).ok()?;
+    }
+    Some(())
+}
+
+/// Whether the steps make the set with this list, of the sets that are given.
+fn makes(
+    alloc: Global,
+    sets: &[CodePointInversionList],
+    steps: &[Step],
+    list: &[u32],
+) -> Option<bool> {
+    let mut references = Vec::new(alloc);
+    for set in sets {
+        references.push(set).ok()?;
+    }
+    let set = evaluate(alloc, &references, steps).ok()?;
+    Some(set.get_inversion_list() == list)
+}
+
+/// The index of the first term that makes another set.
+fn first_wrong(alloc: Global) -> Option<usize> {
+    let mut sets = Vec::new(alloc);
+    if add_sets(alloc, SETS, &mut sets).is_none() {
+        return Some(TERMS.len());
+    }
+    for (index, (steps, list)) in TERMS.iter().enumerate() {
+        if makes(alloc, &sets, steps, list) != Some(true) {
+            return Some(index);
+        }
+    }
+    None
+}
+
+#[test]
+fn terms_make_sets(rt: HostRuntime) {
+    assert_equal(&rt, first_wrong(rt.alloc()), None);
+}
