@@ -1,0 +1,100 @@
+-- Where a string stands in a list of strings in order.
+use Rattle.std.proofs.Common.{◌≡◌, ◌<◌, ◌+◌, ◌↔◌, ℕ, Bool, true, false, Bor, Some, Result, Ok, Err, List, [], ◌∷◌, length, map, get_or, refl, sym, subst, ap, ◌∙◌, arith, nat_cmp, inl, inr}
+use Rattle.std.proofs.lemmas.Bool.{cases_lt}
+use Rattle.std.proofs.lemmas.Cmp.{nat_list_cmp_total}
+use Rattle.std.proofs.lemmas.List.{get_or-map, length-map}
+use Rattle.std.proofs.lemmas.List.Sorted.{searchable_from_sorted}
+use Rattle.std.proofs.lemmas.Map.Text.{is_eq-slice_cmp}
+use Rattle.std.proofs.lemmas.Option.{slice_get_within, slice_get-get_or, get_or_from_slice_get}
+use Rattle.std.proofs.lemmas.Slice.Eq.{bytes_eq-Decides}
+use Rattle.std.specs.declared.cmp.Ordering.TheVariants.{Less, Equal}
+use Rattle.std.specs.Cmp.Lexicographic.{slice_cmp}
+use Rattle.std.specs.List.{AllPairs}
+use Rattle.std.specs.List.Sorted.{IsBinarySearchResult, IsSearchInRange, IsNonDecreasingBy}
+use Rattle.std.specs.Ordering.{is_eq, is_lt, ordering_index, ordering_reverse}
+use Rattle.std.specs.Result.{result_ok}
+use Rattle.cp_strset_terms.specs.Places.{IsAt}
+
+-- by bytes
+abbrev pub IsBelow : List ℕ → List ℕ → Type 0
+IsBelow s t = slice_cmp nat_cmp s t ≡ Less
+
+same_bytes : (s t : List ℕ) → slice_cmp nat_cmp s t ≡ Equal → s ≡ t
+same_bytes s t h = (bytes_eq-Decides s t).0 (sym (is_eq-slice_cmp s t) ∙ ap is_eq h)
+
+-- a text compares equal to itself
+pub equal_bytes : (s : List ℕ) → is_eq (slice_cmp nat_cmp s s) ≡ true
+equal_bytes s = is_eq-slice_cmp s s ∙ (bytes_eq-Decides s s).1 refl
+
+not_below_itself : (s t : List ℕ) → s ≡ t → IsBelow s t → ⊥
+not_below_itself s t same below =
+    let at : is_eq (slice_cmp nat_cmp s t) ≡ true = ap (λ u. is_eq (slice_cmp nat_cmp s u)) (sym same) ∙ equal_bytes s in
+    let not : is_eq (slice_cmp nat_cmp s t) ≡ false = ap is_eq below in
+    cc
+
+-- of two strings of a list in order the one in front is below the other
+pub below_at : (list : List (List ℕ)) → AllPairs IsBelow list → (i j : ℕ) (s t : List ℕ) → IsAt list i s → IsAt list j t → i < j → IsBelow s t
+below_at list ascending i j s t at there before =
+    ap (λ u. slice_cmp nat_cmp u t) (sym (get_or_from_slice_get list i s s at))
+    ∙ (ap (slice_cmp nat_cmp (get_or list i s)) (sym (get_or_from_slice_get list j t s there))
+    ∙ ascending i j s before (slice_get_within list j t there))
+
+-- a string stands at no second place behind one
+place_once : (list : List (List ℕ)) → AllPairs IsBelow list → (i j : ℕ) (s : List ℕ) → IsAt list i s → IsAt list j s → i < j → ⊥
+place_once list ascending i j s at at_too before = not_below_itself s s refl (below_at list ascending i j s s at at_too before)
+
+-- the answer of a comparison with one text rises along texts in order
+pub answers_rise : {X : Type 0} (f : X → List ℕ) (xs : List X) (s : List ℕ) → AllPairs IsBelow (map f xs) → IsNonDecreasingBy (λ y. ordering_index (slice_cmp nat_cmp (f y) s)) xs
+answers_rise f xs s ascending = searchable_from_sorted nat_list_cmp_total f xs s (λ k d from within.
+    let at : IsBelow (f (get_or xs k d)) (f (get_or xs (k + 1) d)) =
+    ap (λ t. slice_cmp nat_cmp t (f (get_or xs (k + 1) d))) (sym (get_or-map f xs k d [] (omega arith)))
+    ∙ ap (slice_cmp nat_cmp (get_or (map f xs) k [])) (sym (get_or-map f xs (k + 1) d [] within))
+    ∙ ascending k (k + 1) [] (omega arith) (omega (arith, within, length-map xs f)) in
+    ap is_lt (nat_list_cmp_total.antisymm (f (get_or xs (k + 1) d)) (f (get_or xs k d)) ∙ ap ordering_reverse at))
+
+-- the text behind the reference at a place
+text_at : (list : List (Bor (List ℕ))) (place : ℕ) (s : List ℕ) (d : Bor (List ℕ)) → IsAt (map (λ text. text.now) list) place s → (get_or list place d).now ≡ s
+text_at list place s d at =
+    let within : place < length list = omega (arith, slice_get_within (map (λ text. text.now) list) place s at, length-map list (λ text. text.now)) in
+    sym (get_or-map (λ text. text.now) list place d [] within) ∙ get_or_from_slice_get (map (λ text. text.now) list) place s [] at
+
+-- a place of the text behind the reference there
+pub is_at : (list : List (Bor (List ℕ))) (place : ℕ) (s : List ℕ) (d : Bor (List ℕ)) → place < length list → (get_or list place d).now ≡ s → IsAt (map (λ text. text.now) list) place s
+is_at list place s d within same =
+    slice_get-get_or (map (λ text. text.now) list) place [] (omega (arith, length-map list (λ text. text.now)))
+    ∙ ap Some (get_or-map (λ text. text.now) list place d [] within ∙ same)
+
+-- a string stands at one place at most
+pub one_place : (list : List (List ℕ)) → AllPairs IsBelow list → (i j : ℕ) (s : List ℕ) → IsAt list i s → IsAt list j s → i ≡ j
+one_place list ascending i j s at at_too = elim (cases_lt i j) [
+  | inl below ↦ absurd (place_once list ascending i j s at at_too below)
+  | inr above ↦ elim (cases_lt j i) [
+    | inl below ↦ absurd (place_once list ascending j i s at_too at below)
+    | inr same ↦ omega arith
+  ]
+]
+
+equal_itself : (s t : List ℕ) (o : Bool) → s ≡ t → is_eq (slice_cmp nat_cmp s t) ≡ o → o ≡ true
+equal_itself s t o same h = sym h ∙ (ap (λ u. is_eq (slice_cmp nat_cmp s u)) (sym same) ∙ equal_bytes s)
+
+-- a binary search in texts in order finds the place of a text, where it has one
+pub search_finds : (list : List (Bor (List ℕ))) (s : List ℕ) (r : Result ℕ ℕ) → AllPairs IsBelow (map (λ text. text.now) list) → IsSearchInRange r (length list) →
+    IsBinarySearchResult (λ y. slice_cmp nat_cmp y.now s) list r → (place : ℕ) → (result_ok r ≡ Some place) ↔ IsAt (map (λ text. text.now) list) place s
+search_finds [] s (Ok i) ascending bound found place = absurd (omega arith)
+search_finds (x ∷ xs) s (Ok i) ascending bound found place =
+    let here = is_at (x ∷ xs) i s x bound (same_bytes (get_or (x ∷ xs) i x).now s (found x)) in (
+      λ e. (let same : i ≡ place = cc in subst (λ k. IsAt (map (λ text. text.now) (x ∷ xs)) k s) same here),
+      λ at. ap Some (one_place (map (λ text. text.now) (x ∷ xs)) ascending i place s here at),
+    )
+search_finds [] s (Err i) ascending bound found place = (λ e. cc, λ e. cc)
+search_finds (x ∷ xs) s (Err i) ascending bound found place = (
+  λ e. cc,
+  λ at.
+      let cut = found (answers_rise (λ text. text.now) (x ∷ xs) s ascending) in
+      let same = text_at (x ∷ xs) place s x at in
+      let within : place < length (x ∷ xs) = omega (arith, slice_get_within (map (λ text. text.now) (x ∷ xs)) place s at, length-map (x ∷ xs) (λ text. text.now)) in
+      elim (cases_lt place i) [
+        | inl before ↦ (let e = equal_itself (get_or (x ∷ xs) place x).now s false same (ap is_eq (cut.0 place x (omega arith) before)) in cc)
+        | inr behind ↦ (let e = equal_itself (get_or (x ∷ xs) place x).now s false same (ap is_eq (cut.1 place x behind within)) in cc)
+      ],
+)

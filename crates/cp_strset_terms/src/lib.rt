@@ -1,0 +1,46 @@
+//! Set expressions over sets with strings, evaluated at once.
+#![tactic(auto)]
+
+ghost use Rattle.std.specs.Prelude.{◌≡◌, ◌&&◌, ℕ, List, IfOk};
+ghost use Rattle.cp_invlist.specs.InversionList.{contains, is_code_point};
+ghost use Rattle.cp_strset.specs.StringList.{holds};
+ghost use Rattle.cp_terms.specs.Terms.{value_of};
+ghost use Rattle.cp_strset_terms.specs.Leaves.{leaf_contains, leaf_holds};
+ghost use Rattle.cp_strset_terms.specs.Steps.{without_complements};
+
+mod cut;
+mod leaf;
+mod members;
+mod numbers;
+mod table;
+
+use cp_invlist::NoMemory;
+use cp_strset::CodePointInversionListAndStringList;
+use cp_strset::laws::faultless;
+pub use cp_terms::{Step, Way};
+pub use leaf::Leaf;
+use leaf::code_point_lists;
+use members::strings_of_term;
+use std::alloc::Global;
+
+/// The set that the steps make of the leaves, which they name by their indices. A leaf that isn't there is the empty set, and
+/// a complement has code points alone. `NoMemory` says that a request for memory was refused.
+pub fn evaluate(
+    alloc: Global,
+    leaves: &[Leaf<'_>],
+    steps: &[Step],
+) -> Result<CodePointInversionListAndStringList, NoMemory>
+    ensures code_points { IfOk result (λ set. (c : ℕ) → contains set.code_points c ≡
+        (is_code_point c && value_of (leaf_contains leaves.now c) steps.now)) }
+    ensures strings { IfOk result (λ set. (bytes : List ℕ) → holds set.strings bytes ≡
+        value_of (leaf_holds leaves.now bytes) (without_complements steps.now)) }
+{
+    let lists = code_point_lists(alloc, leaves)?;
+    let code_points = cp_terms::evaluate(alloc, &lists, steps)?;
+    let strings = strings_of_term(alloc, leaves, steps)?;
+    faultless();
+    match CodePointInversionListAndStringList::try_from(code_points, strings) {
+        Ok(set) => Ok(set),
+        Err(_) => unreachable!(),
+    }
+}

@@ -1,0 +1,205 @@
+//! Terms over five leaves, each beside the set that it stands for.
+use cp_invlist::CodePointInversionList;
+use cp_strset::CodePointInversionListAndStringList;
+use cp_strset_terms::{Leaf, Step, Way, evaluate};
+use std::alloc::{AllocError, Global};
+use std::process::Abort;
+
+/// The letters `a` to `c`.
+const LETTERS: &[u32] = &[0x61, 0x64];
+
+/// The inversion list of each leaf with strings, and its strings.
+const LEAVES: &[(&[u32], &[&str])] = &[
+    (&[0x62, 0x65], &["", "ab", "bc"]),
+    (&[0x10_FFFF, 0x11_0000], &["ab", "zz"]),
+    (&[], &["", "zz"]),
+    (&[], &["ab", "abc", "b\u{301}"]),
+];
+
+/// The steps of a term, and the inversion list and the strings of its set. Leaf 0 is the letters, and those with strings follow.
+const ROWS: &[(&[Step], &[u32], &[&str])] = &[
+    // No steps, and leaves that aren't there.
+    (&[], &[], &[]),
+    (&[Step::Push(5)], &[], &[]),
+    (&[Step::Push(5), Step::Complement], &[0, 0x11_0000], &[]),
+    // Leaves alone.
+    (&[Step::Push(0)], LETTERS, &[]),
+    (&[Step::Push(1)], &[0x62, 0x65], &["", "ab", "bc"]),
+    (
+        &[Step::Push(1), Step::Push(2)],
+        &[0x10_FFFF, 0x11_0000],
+        &["ab", "zz"],
+    ),
+    // Both ways round.
+    (
+        &[Step::Push(0), Step::Push(1), Step::Both(Way::Join)],
+        &[0x61, 0x65],
+        &["", "ab", "bc"],
+    ),
+    (
+        &[Step::Push(1), Step::Push(4), Step::Both(Way::Join)],
+        &[0x62, 0x65],
+        &["", "ab", "abc", "bc", "b\u{301}"],
+    ),
+    (
+        &[Step::Push(1), Step::Push(0), Step::Both(Way::Remove)],
+        &[0x64, 0x65],
+        &["", "ab", "bc"],
+    ),
+    (
+        &[Step::Push(1), Step::Push(2), Step::Both(Way::Remove)],
+        &[0x62, 0x65],
+        &["", "bc"],
+    ),
+    (
+        &[Step::Push(1), Step::Push(2), Step::Both(Way::Retain)],
+        &[],
+        &["ab"],
+    ),
+    (
+        &[Step::Push(0), Step::Push(1), Step::Both(Way::Retain)],
+        &[0x62, 0x64],
+        &[],
+    ),
+    (
+        &[Step::Push(1), Step::Push(2), Step::Both(Way::RemoveFrom)],
+        &[0x10_FFFF, 0x11_0000],
+        &["zz"],
+    ),
+    // A complement has no strings, and what is joined to it keeps its own.
+    (
+        &[Step::Push(1), Step::Complement],
+        &[0, 0x62, 0x65, 0x11_0000],
+        &[],
+    ),
+    (&[Step::Push(2), Step::Complement], &[0, 0x10_FFFF], &[]),
+    (
+        &[Step::Push(1), Step::Complement, Step::Complement],
+        &[0x62, 0x65],
+        &[],
+    ),
+    (
+        &[
+            Step::Push(1),
+            Step::Complement,
+            Step::Push(2),
+            Step::Both(Way::Join),
+        ],
+        &[0, 0x62, 0x65, 0x11_0000],
+        &["ab", "zz"],
+    ),
+    (
+        &[
+            Step::Push(0),
+            Step::Push(1),
+            Step::Complement,
+            Step::Both(Way::Retain),
+        ],
+        &[0x61, 0x62],
+        &[],
+    ),
+    // Steps that find too few sets.
+    (&[Step::Complement], &[], &[]),
+    (&[Step::Both(Way::Join)], &[], &[]),
+    (
+        &[Step::Push(1), Step::Both(Way::Retain)],
+        &[0x62, 0x65],
+        &["", "ab", "bc"],
+    ),
+    (&[Step::Clear, Step::Push(3)], &[], &["", "zz"]),
+    (&[Step::Push(1), Step::Clear], &[], &[]),
+    // The same leaf again, and three of them.
+    (
+        &[Step::Push(1), Step::Push(1), Step::Both(Way::Remove)],
+        &[],
+        &[],
+    ),
+    (
+        &[
+            Step::Push(1),
+            Step::Push(2),
+            Step::Both(Way::Join),
+            Step::Push(3),
+            Step::Both(Way::Remove),
+        ],
+        &[0x62, 0x65, 0x10_FFFF, 0x11_0000],
+        &["ab", "bc"],
+    ),
+];
+
+fn strings(alloc: Global, texts: &[&str]) -> Result<Vec<String>, AllocError> {
+    let mut strings = Vec::new(alloc);
+    for text in texts {
+        strings.push(String::from_str(alloc, text)?)?;
+    }
+    Ok(strings)
+}
+
+/// The set of the list and of the strings.
+fn set_of(
+    alloc: Global,
+    list: &[u32],
+    texts: &[&str],
+) -> Option<CodePointInversionListAndStringList> {
+    let list = CodePointInversionList::try_from_inversion_list(alloc, list).ok()?;
+    let strings = strings(alloc, texts).ok()?;
+    CodePointInversionListAndStringList::try_from(list, strings).ok()
+}
+
+/// The sets of the leaves with strings.
+fn sets(alloc: Global) -> Option<Vec<CodePointInversionListAndStringList>> {
+    let mut sets = Vec::new(alloc);
+    for (list, texts) in LEAVES {
+        sets.push(set_of(alloc, list, texts)?).ok()?;
+    }
+    Some(sets)
+}
+
+/// The letters, and then the sets.
+fn leaves<'a>(
+    alloc: Global,
+    letters: &'a CodePointInversionList,
+    sets: &'a [CodePointInversionListAndStringList],
+) -> Option<Vec<Leaf<'a>>> {
+    let mut leaves = Vec::new(alloc);
+    leaves.push(Leaf::CodePoints(letters)).ok()?;
+    for set in sets {
+        leaves.push(Leaf::WithStrings(set)).ok()?;
+    }
+    Some(leaves)
+}
+
+/// The set that the steps make of the leaves.
+fn evaluated(alloc: Global, steps: &[Step]) -> Option<CodePointInversionListAndStringList> {
+    let letters = CodePointInversionList::try_from_inversion_list(alloc, LETTERS).ok()?;
+    let sets = sets(alloc)?;
+    let leaves = leaves(alloc, &letters, &sets)?;
+    evaluate(alloc, &leaves, steps).ok()
+}
+
+/// Whether the steps make the set of the list and of the strings.
+fn is_evaluated(alloc: Global, steps: &[Step], list: &[u32], texts: &[&str]) -> Option<bool> {
+    let found = evaluated(alloc, steps)?;
+    let expected = set_of(alloc, list, texts)?;
+    Some(found == expected)
+}
+
+/// Asserts that both are the same. An assertion is proved slowly wherever it stands.
+fn assert_same(rt: &impl Abort, found: Option<usize>, expected: Option<usize>) {
+    assert_eq!(rt; found, expected);
+}
+
+/// The first row that doesn't hold.
+fn first_wrong(alloc: Global) -> Option<usize> {
+    for (index, (steps, list, texts)) in ROWS.iter().enumerate() {
+        if is_evaluated(alloc, steps, list, texts) != Some(true) {
+            return Some(index);
+        }
+    }
+    None
+}
+
+#[test]
+fn terms_are_evaluated(rt: HostRuntime) {
+    assert_same(&rt, first_wrong(rt.alloc()), None);
+}
