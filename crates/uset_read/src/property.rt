@@ -11,7 +11,7 @@ ghost use Rattle.uset_read.specs.Queries.{form_seen, key_part_seen, key_read, va
 
 use crate::stop::{Kind, Stop};
 use crate::text::{push_char, read_char, split_first, take_first};
-use cp_invlist::CodePointInversionList;
+use cp_invlist::{CodePointInversionList, NoMemory};
 use std::alloc::Global;
 use uset_grammar::laws::units_by_parts;
 
@@ -43,6 +43,26 @@ impl Drop for Query {
             key: _,
             value: _,
         } = self;
+    }
+}
+
+impl Query {
+    ghost use Rattle.std.specs.Prelude.{◌≡◌, IfOk};
+    ghost use Rattle.uset_read.specs.Queries.{query_seen};
+
+    /// A query that asks the same.
+    pub fn copy(&self, alloc: Global) -> Result<Query, NoMemory>
+        ensures { IfOk result (λ query. query_seen query ≡ query_seen self.now) }
+    {
+        let value = match &self.value {
+            Some(value) => Some(String::from_str(alloc, value.as_str())?),
+            None => None,
+        };
+        Ok(Query {
+            negated: self.negated,
+            key: String::from_str(alloc, self.key.as_str())?,
+            value,
+        })
     }
 }
 
