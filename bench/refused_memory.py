@@ -22,6 +22,9 @@ REFUSED = 5_000
 # The code points of a set that a bracket puts off, each a range of its own.
 LARGE = [f"{code:X}" for code in range(0x100, 0x140, 2)]
 
+# Strings of a set that brackets name in terms.
+HUGE = "".join(f"{{{first}{second}}}" for first in "abcdefgh" for second in "abcdefgh")
+
 # A name, the word, what stands behind the tables, the answer and its status.
 RUNS = [
     ("variables", "eval", SCRIPT, ANSWER, 1),
@@ -31,6 +34,13 @@ RUNS = [
         "eval",
         f"let v set [\\u{{{' '.join(LARGE)}}}{{xy}}]\npat [$v[b{{pq}}]-\\p{{L}}&$v\\p{{L}}[c]-$v]\n",
         "bound v\nok 31 0041-005A 0061-007A\n",
+        0,
+    ),
+    (
+        "term",
+        "eval",
+        f"let v set [a-c{HUGE}]\npat [[$v-[b]][^$v\\p{{L}}]&[a-c{{aa}}]]\n",
+        "bound v\nok 30 0061 0063 {0061_0061}\n",
         0,
     ),
     ("tables", "tables", "", "set 4\nmap 3\nnames 3\nlong 1\nshort 1\nscx 1\next 1\nemoji 1\n", 0),

@@ -7,7 +7,7 @@ use uset_parse::{
     ParseError, ParseErrorKind, VariableMap, parse, parse_unstable, parse_unstable_with_variables,
     parse_with_variables,
 };
-use uset_reader::{Syntax, read_set};
+use uset_reader::{Syntax, evaluate_set, read_set};
 
 /// Which call reads the source.
 #[derive(Clone, Copy)]
@@ -32,8 +32,8 @@ type Answer = Result<(CodePointInversionListAndStringList, usize), ParseError>;
 
 /// The answer of the reader below the calls.
 fn read_below(alloc: Global, syntax: &Syntax<'_>, source: &str) -> Answer {
-    let (gathered, place) = read_set(alloc, syntax, source)?;
-    let set = gathered.into_set(alloc)?;
+    let (closed, place) = read_set(alloc, syntax, source)?;
+    let set = evaluate_set(alloc, syntax, closed)?;
     Ok((set, place.offset()))
 }
 

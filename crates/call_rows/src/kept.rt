@@ -135,13 +135,16 @@ fn place_in(
     Ok(gathering.place_of(&query))
 }
 
-/// What the bracket closes with.
+/// What the bracket closes with, where it names no very large set.
 fn close(
     alloc: Global,
     gathering: &mut Gathering<'_>,
     negated: bool,
 ) -> Result<CodePointInversionListAndStringList, NoMemory> {
-    gathering.close(alloc, negated)?.into_set(alloc)
+    match gathering.close(alloc, negated)? {
+        Closed::Plain(set) => set.into_set(alloc),
+        Closed::Term(_) => Err(NoMemory),
+    }
 }
 
 /// Gathers the letters, and takes those of the property away where they are kept, and the large set.

@@ -20,6 +20,8 @@ mod resolved;
 #[cfg(test)]
 mod shown;
 #[cfg(test)]
+mod terms;
+#[cfg(test)]
 mod units;
 #[cfg(test)]
 mod variables;

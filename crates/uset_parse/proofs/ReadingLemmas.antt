@@ -15,12 +15,13 @@ use Rattle.uset_read.specs.Cursors.{source_of, left_of}
 use Rattle.uset_fault.specs.declared.error.ParseError.{ParseError}
 use Rattle.uset_fault.specs.declared.error.ParseErrorKind.TheVariants.{Internal}
 use Rattle.uset_fault.specs.Errors.{kind_of, offset_in, kind_told, ToldAs}
+use Rattle.uset_reader.specs.Named.{sets_of}
 use Rattle.uset_reader.specs.Readings.{IsReading, IsRefusal}
 use Rattle.uset_parse.specs.Reading.{IsRead, IsRefused}
 
 -- what was gathered up to a cursor is what is read under the syntax that is there
 pub reading : (l : Language) (syntax : Option Language) (source : List ℕ) (gathered : ClosedSet) (end : Cursor) (set : StringSet) (n : ℕ) → syntax ≡ Some l → IsReading l source gathered end →
-    ((m : Member) → in_set set m ≡ closed_in gathered m) → n + size (chars (left_of end)) ≡ length (source_of end) → IsRead syntax source set n
+    ((m : Member) → in_set set m ≡ closed_in (sets_of l) gathered m) → n + size (chars (left_of end)) ≡ length (source_of end) → IsRead syntax source set n
 reading l syntax source gathered end set n there h made place = record {
   tree = h.tree;
   rest = chars (left_of end);

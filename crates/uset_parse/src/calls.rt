@@ -6,7 +6,7 @@ use cp_strset::CodePointInversionListAndStringList;
 use prop_data::PropertyDatabase;
 use std::alloc::Global;
 use uset_fault::{ParseError, ParseErrorKind};
-use uset_reader::{Syntax, read_set};
+use uset_reader::{Syntax, evaluate_set, read_set};
 use uset_variables::VariableMap;
 
 /// Reads the pattern at the front of the source (UTS 35, Unicode Sets), with these variables. The answer is the set, and
@@ -25,7 +25,7 @@ pub fn parse_unstable_with_variables(
         return Err(ParseErrorKind::Internal.into());
     };
     let (closed, place) = read_set(alloc, &syntax, source)?;
-    let set = closed.into_set(alloc)?;
+    let set = evaluate_set(alloc, &syntax, closed)?;
     Ok((set, place.offset()))
 }
 

@@ -1,10 +1,11 @@
 -- Brackets that gather.
-use Rattle.std.proofs.Common.{◌≡◌, ◌≢◌, ◌<◌, ◌+◌, ℕ, suc, Bool, true, false, List, [], ◌∷◌, ◌++◌, length, take, slice_index_or, Option, Some, None, Box, not, ◌||◌, ◌&&◌, refl, sym, ap, ◌∙◌, subst, arith}
+use Rattle.std.proofs.Common.{◌≡◌, ◌≢◌, ◌<◌, ◌+◌, ℕ, suc, Bool, true, false, List, [], ◌∷◌, ◌++◌, length, take, slice_index_or, Option, Some, None, Result, Ok, Err, OnOk, Box, not, ◌||◌, ◌&&◌, refl, sym, ap, ◌∙◌, subst, arith}
 use Rattle.std.proofs.Math.Seq.{take-suc}
 use Rattle.std.specs.Global.{Global}
 use Rattle.std.specs.declared.string.String.{String}
 use Rattle.std.specs.String.{string_bytes}
-use Rattle.uset_grammar.specs.Tree.{Tree, Member, has, Steps, add, gathers, leading_hyphen}
+use Rattle.cp_invlist.specs.declared.error.NoMemory.{NoMemory}
+use Rattle.uset_grammar.specs.Tree.{Tree, Member, has, Steps, add, gathers, in_range, leading_hyphen}
 use Rattle.uset_grammar.specs.Item.{Item, chars, tree_of}
 use Rattle.uset_grammar.specs.Body.{add_each}
 use Rattle.uset_grammar.specs.Text.{Text}
@@ -24,7 +25,7 @@ use Rattle.uset_steps.specs.declared.step.Operation.TheVariants.{Join, Remove, R
 use Rattle.uset_steps.specs.declared.gathering.Place.{Place}
 use Rattle.uset_steps.specs.Names.{Name, Sets, StandsFor, named_in, IsSetOf}
 use Rattle.uset_steps.specs.Operations.{operated}
-use Rattle.uset_steps.specs.Gathering.{gathering_in, closed as finished, IsPlaceOf, Fits as NamesFit, Becomes as StepsBecome, BecomesWith as StepsBecomeWith}
+use Rattle.uset_steps.specs.Gathering.{gathering_in, closed as finished, IsPlaceOf, KeepsPlaces, Fits as NamesFit, Becomes as StepsBecome, BecomesWith as StepsBecomeWith}
 use Rattle.uset_reader.specs.declared.item.Codes.{Codes}
 use Rattle.uset_reader.specs.declared.item.Item.{Item as CodeItem}
 use Rattle.uset_reader.specs.declared.item.Item.TheVariants.{Minus, Ampersand, Dollar, Single, Several, Text as Spelled, Set}
@@ -41,7 +42,7 @@ use Rattle.uset_reader.specs.Brackets.{opening_seen, KeepsFrame, Follows, Become
 
 -- a bracket that begins
 pub begins : (l : Language) (b : CodeBracket) (opening : CodeOpening) (before : Text) (place : ℕ) → b.opening ≡ opening → b.awaits ≡ Element → b.before ≡ place → place ≡ size before →
-    ((m : Member) → gathering_in b.gathered m ≡ leading_hyphen opening.leading m) → NamesFit (sets_of l) b.gathered → Stands l b (begun before opening)
+    ((m : Member) → gathering_in (sets_of l) b.gathered m ≡ leading_hyphen opening.leading m) → NamesFit (sets_of l) b.gathered → Stands l b (begun before opening)
 begins l b opening before place o a p at g fits = record {
   header = sym (ap opening_seen o);
   before = p ∙ at;
@@ -51,6 +52,21 @@ begins l b opening before place o a p at g fits = record {
   fits = fits;
 }
 
+on_both : {A E : Type 0} (result : Result A E) {P Q R : Type 0} → (P → Q → R) → OnOk result P → OnOk result Q → OnOk result R
+on_both (Ok x) f h k = f h k
+on_both (Err e) f h k = tt
+
+-- a range that was added
+becomes_added : (old new : Gathering) (first last : ℕ) → StepsBecome old new (λ sets m. gathering_in sets old m || in_range first last m) → KeepsPlaces old new → Becomes old (add first last) new
+becomes_added old new first last h places = record {
+  fitting = λ sets f. let k = h sets f in record { follows = λ rest m. ap (gathers rest m) (sym (k.has m)); fits = k.fits };
+  places = places;
+}
+
+pub added : (result : Result (Unit {0}) NoMemory) (old new : Gathering) (first last : ℕ) → OnOk result (StepsBecome old new (λ sets m. gathering_in sets old m || in_range first last m)) → OnOk result (KeepsPlaces old new) →
+    OnOk result (Becomes old (add first last) new)
+added result old new first last h places = on_both result (becomes_added old new first last) h places
+
 -- one more code point
 each_more : (cs : List ℕ) (c : ℕ) (rest : Steps) → add_each (cs ++ c ∷ []) rest ≡ add_each cs (add c c rest)
 each_more [] c rest = refl
@@ -58,8 +74,13 @@ each_more (d ∷ cs) c rest = ap (add d d) (each_more cs c rest)
 
 pub becomes_more : (old between new : Gathering) (cs : List ℕ) (c : ℕ) → Becomes old (add_each cs) between → Becomes between (add c c) new → Becomes old (add_each (cs ++ c ∷ [])) new
 becomes_more old between new cs c h k = record {
-  follows = λ rest m. ap (λ s. gathers s m (gathering_in old m)) (each_more cs c rest) ∙ (h.follows (add c c rest) m ∙ k.follows rest m);
-  fits = λ sets f. k.fits sets (h.fits sets f);
+  fitting = λ sets f.
+      let first = h.fitting sets f in
+      let then = k.fitting sets first.fits in
+      record {
+        follows = λ rest m. ap (λ s. gathers s m (gathering_in sets old m)) (each_more cs c rest) ∙ (first.follows (add c c rest) m ∙ then.follows rest m);
+        fits = then.fits;
+      };
   places = λ name place at. k.places name place (h.places name place at);
 }
 
@@ -76,7 +97,7 @@ pub keeps_then : (old between new : CodeBracket) → KeepsFrame old between → 
 keeps_then old between new h k = record { opening = k.opening ∙ h.opening; before = k.before ∙ h.before; awaits = k.awaits ∙ h.awaits }
 
 -- one after another
-pub becomes_then : (l : Language) (old between new : Gathering) (f g : Steps → Steps) → Becomes old f between → BecomesWith l between g new → BecomesWith l old (λ rest. f (g rest)) new
+pub becomes_then : (l : Language) (old between new : Gathering) (f g : Steps → Steps) → BecomesWith (sets_of l) old f between → BecomesWith (sets_of l) between g new → BecomesWith (sets_of l) old (λ rest. f (g rest)) new
 becomes_then l old between new f g h k = record { follows = λ rest m. h.follows (g rest) m ∙ k.follows rest m; fits = k.fits }
 
 -- the own steps of several code points
@@ -86,7 +107,7 @@ own_several operation c (d ∷ cs) rest n = refl
 
 -- an item that was arranged and gathered
 pub took : (l : Language) (awaited : AwaitedTells) (old new : CodeBracket) (o : OpenBracket) (i : Item) (a : Arranged) (n : Next) → next (awaits_seen old.awaits) i ≡ n → Arranges n i (Some a) →
-    new.awaits ≡ a.awaits → new.opening ≡ old.opening → new.before ≡ old.before → BecomesWith l old.gathered (arranged_steps a i) new.gathered → Stands l old o → Took l old new o i
+    new.awaits ≡ a.awaits → new.opening ≡ old.opening → new.before ≡ old.before → BecomesWith (sets_of l) old.gathered (arranged_steps a i) new.gathered → Stands l old o → Took l old new o i
 took l awaited old new o i a stuck e h w op be g s = absurd h
 took l awaited old new o i a (on t f) e h w op be g s =
     let more = awaited o.items (awaits_seen old.awaits) s.steps s.awaited i in record {
@@ -96,7 +117,7 @@ took l awaited old new o i a (on t f) e h w op be g s =
         before = be ∙ s.before;
         steps = λ rest. s.steps (f rest);
         awaited = more.1 ∙ (ap (after s.steps) e ∙ ap (λ z. on z (λ rest. s.steps (f rest))) (h.0 ∙ ap awaits_seen (sym w)));
-        gathered = λ rest m. s.gathered (f rest) m ∙ (ap (λ z. gathers z m (gathering_in old.gathered m)) (h.1 rest) ∙ g.follows rest m);
+        gathered = λ rest m. s.gathered (f rest) m ∙ (ap (λ z. gathers z m (gathering_in (sets_of l) old.gathered m)) (h.1 rest) ∙ g.follows rest m);
         fits = g.fits;
       };
     }
@@ -122,53 +143,56 @@ not_arranged i (on s f) h = absurd h
 
 -- a bracket that closes
 pub closes : (l : Language) (b : CodeBracket) (o : OpenBracket) (all : Gathering) (set : ClosedSet) (ends : Bool) → Stands l b o → ends ≡ true → EndedAs (ending (awaits_seen b.awaits)) b.gathered all ends →
-    ((m : Member) → closed_in set m ≡ finished b.opening.negated m (gathering_in all m)) → Closed o set
+    (NamesFit (sets_of l) all → (m : Member) → closed_in (sets_of l) set m ≡ finished b.opening.negated m (gathering_in (sets_of l) all m)) → Closed l o set
 closes l b o all set ends s is h g = by (ending (awaits_seen b.awaits)) refl h
   where
-    by : (e : Option Steps) → ending (awaits_seen b.awaits) ≡ e → EndedAs e b.gathered all ends → Closed o set
+    by : (e : Option Steps) → ending (awaits_seen b.awaits) ≡ e → EndedAs e b.gathered all ends → Closed l o set
     by None e none = absurd (let k : false ≡ true = sym none ∙ is in cc)
     by (Some last) e some = record {
       steps = s.steps last;
       arranged = ap arranged s.awaited ∙ ap (finish s.steps) e;
       members = λ m.
-          g m
-          ∙ (ap (finished b.opening.negated m) (sym (some.1 m) ∙ (sym (s.gathered last m) ∙ ap (λ h. gathers (s.steps last) m (leading_hyphen h.leading m)) s.header))
+          g (some.1 (sets_of l) s.fits).fits m
+          ∙ (ap (finished b.opening.negated m) (sym ((some.1 (sets_of l) s.fits).has m) ∙ (sym (s.gathered last m) ∙ ap (λ h. gathers (s.steps last) m (leading_hyphen h.leading m)) s.header))
           ∙ sym (ap (λ h. has (tree_of h (s.steps last)) m) s.header));
     }
 
 -- SETS AND STEPS
 -- a set was gathered whose members the tree has
-operation_follows : (operation : Operation) (tree : Tree) (old new : Gathering) (set : Member → Bool) → ((m : Member) → gathering_in new m ≡ operated operation (set m) (gathering_in old m)) →
-    ((m : Member) → has tree m ≡ set m) → Follows old (operated_steps operation tree) new
-operation_follows Join tree old new set g same rest m = ap (gathers rest m) (ap (λ b. gathering_in old m || b) (same m) ∙ sym (g m))
-operation_follows Remove tree old new set g same rest m = ap (gathers rest m) (ap (λ b. gathering_in old m && not b) (same m) ∙ sym (g m))
-operation_follows Retain tree old new set g same rest m = ap (gathers rest m) (ap (λ b. gathering_in old m && b) (same m) ∙ sym (g m))
+operation_follows : (sets : Sets) (operation : Operation) (tree : Tree) (old new : Gathering) (set : Member → Bool) → ((m : Member) → gathering_in sets new m ≡ operated operation (set m) (gathering_in sets old m)) →
+    ((m : Member) → has tree m ≡ set m) → Follows sets old (operated_steps operation tree) new
+operation_follows sets Join tree old new set g same rest m = ap (gathers rest m) (ap (λ b. gathering_in sets old m || b) (same m) ∙ sym (g m))
+operation_follows sets Remove tree old new set g same rest m = ap (gathers rest m) (ap (λ b. gathering_in sets old m && not b) (same m) ∙ sym (g m))
+operation_follows sets Retain tree old new set g same rest m = ap (gathers rest m) (ap (λ b. gathering_in sets old m && b) (same m) ∙ sym (g m))
 
-pub gathers_inner : (operation : Operation) (set : ClosedSet) (old new : Gathering) → StepsBecome old new (λ m. operated operation (closed_in set m) (gathering_in old m)) → GathersSet operation (Inner set) old new
-gathers_inner operation set old new h l tree fits is = record { follows = operation_follows operation tree old new (closed_in set) h.has is; fits = h.fits (sets_of l) fits }
+pub gathers_inner : (operation : Operation) (set : ClosedSet) (old new : Gathering) → StepsBecome old new (λ sets m. operated operation (closed_in sets set m) (gathering_in sets old m)) → GathersSet operation (Inner set) old new
+gathers_inner operation set old new h l tree fits is =
+    let k = h (sets_of l) fits in record { follows = operation_follows (sets_of l) operation tree old new (closed_in (sets_of l) set) k.has is; fits = k.fits }
 
 pub gathers_named : (operation : Operation) (named : Box NamedOperand Global) (old new : Gathering) →
-    ((sets : Sets) → NamesFit sets old → IsSetOf sets named.value → StepsBecomeWith sets new (λ m. operated operation (named_in named.value.set m) (gathering_in old m))) → GathersSet operation (Named named) old new
+    ((sets : Sets) → NamesFit sets old → IsSetOf sets named.value → StepsBecomeWith sets new (λ m. operated operation (named_in named.value.set m) (gathering_in sets old m))) → GathersSet operation (Named named) old new
 gathers_named operation named old new h l tree fits is =
-    let k = h (sets_of l) fits is.1 in record { follows = operation_follows operation tree old new (named_in named.value.set) k.has is.0; fits = k.fits }
+    let k = h (sets_of l) fits is.1 in record { follows = operation_follows (sets_of l) operation tree old new (named_in named.value.set) k.has is.0; fits = k.fits }
 
 -- the code points of an escape
 pub gathers_several : (operation : Operation) (codes : Codes) (old new : Gathering) → Becomes old (add_each (codes.first ∷ codes.more.items)) new → GathersItem operation (Several codes) old new
-gathers_several operation codes old new h l tree fits is = record {
-  follows = λ rest m. ap (λ s. gathers s m (gathering_in old m)) (own_several operation codes.first codes.more.items rest codes.several) ∙ h.follows rest m;
-  fits = h.fits (sets_of l) fits;
-}
+gathers_several operation codes old new h l tree fits is =
+    let k = h.fitting (sets_of l) fits in record {
+      follows = λ rest m. ap (λ s. gathers s m (gathering_in (sets_of l) old m)) (own_several operation codes.first codes.more.items rest codes.several) ∙ k.follows rest m;
+      fits = k.fits;
+    }
 
 -- a string
-pub gathers_text : (operation : Operation) (s : String Global) (old new : Gathering) → StepsBecome old new (λ m. gathering_in old m || is_string (string_bytes s) m) → GathersItem operation (Spelled s) old new
-gathers_text operation s old new h l tree fits is = record { follows = λ rest m. ap (gathers rest m) (sym (h.has m)); fits = h.fits (sets_of l) fits }
+pub gathers_text : (operation : Operation) (s : String Global) (old new : Gathering) → StepsBecome old new (λ sets m. gathering_in sets old m || is_string (string_bytes s) m) → GathersItem operation (Spelled s) old new
+gathers_text operation s old new h l tree fits is =
+    let k = h (sets_of l) fits in record { follows = λ rest m. ap (gathers rest m) (sym (k.has m)); fits = k.fits }
 
 -- a set that is kept was gathered again
 pub gathers_again : (operation : Operation) (place : Place) (old new : Gathering) →
-    ((sets : Sets) (name : Name) (set : Member → Bool) → NamesFit sets old → IsPlaceOf old name place → StandsFor sets name set → StepsBecomeWith sets new (λ m. operated operation (set m) (gathering_in old m))) →
+    ((sets : Sets) (name : Name) (set : Member → Bool) → NamesFit sets old → IsPlaceOf old name place → StandsFor sets name set → StepsBecomeWith sets new (λ m. operated operation (set m) (gathering_in sets old m))) →
     GathersSet operation (Again place) old new
 gathers_again operation place old new h l tree fits (name, at, stands) =
-    let k = h (sets_of l) name (has tree) fits at stands in record { follows = operation_follows operation tree old new (has tree) k.has (λ m. refl); fits = k.fits }
+    let k = h (sets_of l) name (has tree) fits at stands in record { follows = operation_follows (sets_of l) operation tree old new (has tree) k.has (λ m. refl); fits = k.fits }
 
 -- an item stays what it is where the same sets are kept at their places
 pub tree_still : (l : Language) (old new : Gathering) (item : CodeItem) (tree : Tree) → ((name : Name) (place : Place) → IsPlaceOf old name place → IsPlaceOf new name place) → IsTreeOf l old item tree → IsTreeOf l new item tree

@@ -5,4 +5,5 @@ pub mod PropertyLemmas
 pub mod UnitLemmas
 pub mod TurnLemmas
 pub mod ReaderLemmas
+pub mod EvaluationLemmas
 pub mod SyntaxLemmas

@@ -39,6 +39,7 @@ use Rattle.uset_reader.specs.Faults.{IsAt, IsBefore, IsStop}
 use Rattle.uset_reader.specs.Syntaxes.{language_seen}
 use Rattle.uset_reader.specs.Turns.{Around, Before, Turns}
 use Rattle.uset_reader.specs.Units.{OperandIs, OperandStops}
+use Rattle.uset_reader.specs.Named.{sets_of}
 use Rattle.uset_reader.specs.Readings.{IsReading, IsRefusal}
 use Rattle.uset_reader.proofs.TurnLemmas.{tells, tells_too, tells_nothing}
 
@@ -152,7 +153,7 @@ module _ (s : Syntax) (source : List ℕ) where
     refused_other cursor e v some other same is h =
         refused_first spoken source e unexpected_variable (Some ends.0) is (no_set_variable begins_so (bound_by ∙ ap (option_map value_seen) some) other ends.1) (placed cursor e same h)
 
-    pub read_variable : (made : ClosedSet) (v : StringSet) (end : Cursor) → bound s.variables.now name ≡ Some (UnicodeSet v) → ((m : Member) → closed_in made m ≡ in_set v m) → source_of end ≡ source → left_of end ≡ rest →
+    pub read_variable : (made : ClosedSet) (v : StringSet) (end : Cursor) → bound s.variables.now name ≡ Some (UnicodeSet v) → ((m : Member) → closed_in (sets_of spoken) made m ≡ in_set v m) → source_of end ≡ source → left_of end ≡ rest →
         IsReading spoken source made end
     read_variable made v end some members same left = record {
       tree = given (in_set v);
@@ -162,7 +163,7 @@ module _ (s : Syntax) (source : List ℕ) where
     }
 
   module _ (units : UnitReader spoken) (begins_so : first spoken (chars source) ≡ of_property) where
-    pub read_property : (named : Named) (made : ClosedSet) (rest : List ℕ) (end : Cursor) → OperandIs spoken source named rest → ((m : Member) → closed_in made m ≡ named_in named.set m) → source_of end ≡ source →
+    pub read_property : (named : Named) (made : ClosedSet) (rest : List ℕ) (end : Cursor) → OperandIs spoken source named rest → ((m : Member) → closed_in (sets_of spoken) made m ≡ named_in named.set m) → source_of end ≡ source →
         left_of end ≡ rest → IsReading spoken source made end
     read_property named made rest end h members same left =
         let found = h (units.property_begins (chars source) begins_so) in record {

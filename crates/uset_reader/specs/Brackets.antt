@@ -27,32 +27,31 @@ use Rattle.uset_reader.specs.Items.{number_of, item_seen, IsTreeOf, IsOperand, a
 abbrev pub opening_seen : CodeOpening → Opening
 opening_seen o = record { negated = o.negated; leading = o.leading }
 
--- the set is what the steps make of another, whatever steps follow
-abbrev pub Follows : Gathering → (Steps → Steps) → Gathering → Type 0
-Follows old steps new =
-    (rest : Steps) (m : Member) → gathers (steps rest) m (gathering_in old m) ≡ gathers rest m (gathering_in new m)
+-- the set is what the steps make of another, whatever steps follow, where the names stand for these sets
+abbrev pub Follows : Sets → Gathering → (Steps → Steps) → Gathering → Type 0
+Follows sets old steps new = (rest : Steps) (m : Member) →
+    gathers (steps rest) m (gathering_in sets old m) ≡ gathers rest m (gathering_in sets new m)
 
--- the same, and it fits each meaning of the names that the other fits, and keeps the same sets at their places
+-- the same, and it fits this meaning of the names
+pub record BecomesWith (sets : Sets) (old : Gathering) (steps : Steps → Steps) (new : Gathering) : Type 0 where
+  pub follows : Follows sets old steps new
+  pub fits : NamesFit sets new
+
+-- the same for each meaning of the names that the other fits, and the same sets are kept at their places
 pub record Becomes (old : Gathering) (steps : Steps → Steps) (new : Gathering) : Type 0 where
-  pub follows : Follows old steps new
-  pub fits : (sets : Sets) → NamesFit sets old → NamesFit sets new
+  pub fitting : (sets : Sets) → NamesFit sets old → BecomesWith sets old steps new
   pub places : (name : Name) (place : Place) → IsPlaceOf old name place → IsPlaceOf new name place
-
--- the same for the meaning that the language gives them
-pub record BecomesWith (l : Language) (old : Gathering) (steps : Steps → Steps) (new : Gathering) : Type 0 where
-  pub follows : Follows old steps new
-  pub fits : NamesFit (sets_of l) new
 
 -- the set is what an item's own steps make of another, or an operation with an operand
 abbrev pub GathersItem : Operation → CodeItem → Gathering → Gathering → Type 0
 GathersItem operation item old new =
     (l : Language) (tree : Tree) → NamesFit (sets_of l) old → IsTreeOf l old item tree →
-    BecomesWith l old (own_steps operation (item_seen tree item)) new
+    BecomesWith (sets_of l) old (own_steps operation (item_seen tree item)) new
 
 abbrev pub GathersSet : Operation → Operand → Gathering → Gathering → Type 0
 GathersSet operation operand old new =
     (l : Language) (tree : Tree) → NamesFit (sets_of l) old → IsOperand l old operand tree →
-    BecomesWith l old (operated operation tree) new
+    BecomesWith (sets_of l) old (operated operation tree) new
 
 -- What the code keeps of an open bracket: what it begins with and where, what is awaited behind its items, and what
 -- they gather, with sets that their names stand for.
@@ -62,7 +61,8 @@ pub record Stands (l : Language) (b : CodeBracket) (o : OpenBracket) : Type 0 wh
   pub steps : Steps → Steps
   pub awaited : run element o.items ≡ on (awaits_seen b.awaits) steps
   pub gathered : (rest : Steps) (m : Member) →
-      gathers (steps rest) m (leading_hyphen o.header.leading m) ≡ gathers rest m (gathering_in b.gathered m)
+      gathers (steps rest) m (leading_hyphen o.header.leading m) ≡
+      gathers rest m (gathering_in (sets_of l) b.gathered m)
   pub fits : NamesFit (sets_of l) b.gathered
 
 -- what was gathered alone has changed
@@ -112,22 +112,27 @@ Takes old item taken new =
 abbrev pub IsBegun : CodeOpening → ℕ → CodeBracket → Type 0
 IsBegun opening place b = (l : Language) (before : Text) → place ≡ size before → Stands l b (begun before opening)
 
+-- what is gathered once a `]` was read, by the steps of what is left standing for itself
+pub record EndsWith (sets : Sets) (old : Gathering) (last : Steps) (new : Gathering) : Type 0 where
+  pub has : (m : Member) → gathers last m (gathering_in sets old m) ≡ gathering_in sets new m
+  pub fits : NamesFit sets new
+
 -- whether a `]` fits, and what is gathered then
 abbrev pub EndedAs : Option Steps → Gathering → Gathering → Bool → Type 0
 EndedAs None old new ends = ends ≡ false
 EndedAs (Some last) old new ends =
-    (ends ≡ true) × ((m : Member) → gathers last m (gathering_in old m) ≡ gathering_in new m)
+    (ends ≡ true) × ((sets : Sets) → NamesFit sets old → EndsWith sets old last new)
 
 -- the set is that of the bracket, whose items are arranged to these steps
-pub record Closed (o : OpenBracket) (set : ClosedSet) : Type 0 where
+pub record Closed (l : Language) (o : OpenBracket) (set : ClosedSet) : Type 0 where
   pub steps : Steps
   pub arranged : arrange o.items ≡ Some steps
-  pub members : (m : Member) → closed_in set m ≡ has (tree_of o.header steps) m
+  pub members : (m : Member) → closed_in (sets_of l) set m ≡ has (tree_of o.header steps) m
 
-abbrev pub ClosedAs : Option ClosedSet → OpenBracket → Type 0
-ClosedAs None o = arrange o.items ≡ None
-ClosedAs (Some set) o = Closed o set
+abbrev pub ClosedAs : Language → Option ClosedSet → OpenBracket → Type 0
+ClosedAs l None o = arrange o.items ≡ None
+ClosedAs l (Some set) o = Closed l o set
 
 -- how a bracket closes, for every one that the code's stands for
 abbrev pub Closes : CodeBracket → Option ClosedSet → Type 0
-Closes b set = (l : Language) (o : OpenBracket) → Stands l b o → ClosedAs set o
+Closes b set = (l : Language) (o : OpenBracket) → Stands l b o → ClosedAs l set o

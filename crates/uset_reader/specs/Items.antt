@@ -52,7 +52,7 @@ IsNamedOf l named tree = IsNamed named.set tree × IsSetOf (sets_of l) named
 -- The tree has the members of the operand, which a name stands for where it has one. Where the operand tells a place, it is that of
 -- the name in what was gathered.
 abbrev pub IsOperand : Language → Gathering → Operand → Tree → Type 0
-IsOperand l g (Inner set) tree = (m : Member) → has tree m ≡ closed_in set m
+IsOperand l g (Inner set) tree = (m : Member) → has tree m ≡ closed_in (sets_of l) set m
 IsOperand l g (Named named) tree = IsNamedOf l named.value tree
 IsOperand l g (Again place) tree = (name : Name) × IsPlaceOf g name place × StandsFor (sets_of l) name (has tree)
 

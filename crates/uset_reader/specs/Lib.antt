@@ -8,4 +8,5 @@ pub mod Units
 pub mod Faults
 pub mod Turns
 pub mod Readings
+pub mod Evaluation
 pub mod Laws

@@ -11,14 +11,15 @@ use Rattle.uset_steps.specs.declared.closed.Closed.{Closed as ClosedSet}
 use Rattle.uset_steps.specs.Terms.{closed_in}
 use Rattle.uset_read.specs.declared.cursor.Cursor.{Cursor}
 use Rattle.uset_read.specs.Cursors.{source_of, left_of}
+use Rattle.uset_reader.specs.Named.{sets_of}
 use Rattle.uset_fault.specs.declared.error.ParseError.{ParseError}
 use Rattle.uset_fault.specs.Errors.{Tells}
 
--- the source is read up to the cursor, with this set
+-- the source is read up to the cursor, with this set; names in a term stand for the sets that the language gives them
 pub record IsReading (l : Language) (source : List ℕ) (set : ClosedSet) (end : Cursor) : Type 0 where
   pub tree : Tree
   pub read : Reads l (chars source) tree (chars (left_of end))
-  pub members : (m : Member) → closed_in set m ≡ has tree m
+  pub members : (m : Member) → closed_in (sets_of l) set m ≡ has tree m
   pub same : source_of end ≡ source
 
 -- the error is the fault of the source, with its place in bytes; or memory was refused

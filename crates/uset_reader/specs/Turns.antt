@@ -25,6 +25,7 @@ use Rattle.uset_read.specs.declared.cursor.Cursor.{Cursor}
 use Rattle.uset_read.specs.Cursors.{source_of, left_of}
 use Rattle.uset_reader.specs.declared.bracket.Opening.{Opening as CodeOpening}
 use Rattle.uset_reader.specs.declared.item.Item.{Item as CodeItem}
+use Rattle.uset_reader.specs.Named.{sets_of}
 use Rattle.uset_reader.specs.Brackets.{Stands, IsItem, begun}
 use Rattle.uset_fault.specs.Errors.{Tells}
 
@@ -46,7 +47,8 @@ TurnedTo l t outer b (Ok (GoesOn rest)) =
     (o : OpenBracket) × (os : List OpenBracket) × (t ≡ goes (o ∷ os) (chars rest.now)) × Stands l b o ×
     Around l outer os
 TurnedTo l t outer b (Ok (Done set rest)) =
-    (tree : Tree) × (t ≡ stops (accepted tree (chars rest.now))) × ((m : Member) → closed_in set m ≡ has tree m)
+    (tree : Tree) × (t ≡ stops (accepted tree (chars rest.now))) ×
+    ((m : Member) → closed_in (sets_of l) set m ≡ has tree m)
 TurnedTo l t outer b (Err error) =
     Tells error (λ kind offset. (place : Option Text) × (t ≡ stops (rejected kind place)) × (offset ≡ offset_of kind place))
 

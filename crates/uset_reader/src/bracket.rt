@@ -207,7 +207,7 @@ impl<'a> OpenBracket<'a> {
     }
 
     /// Takes `]`. The answer is the bracket's set, which is moved out, and `None` where no `]` fits.
-    pub(crate) fn close(&mut self, alloc: Global) -> Result<Option<Closed<'a>>, NoMemory>
+    pub(crate) fn close(&mut self, alloc: Global) -> Result<Option<Closed>, NoMemory>
         ensures set { IfOk result (Closes self.old) }
         ensures place { self.new.before ≡ self.old.before }
     {

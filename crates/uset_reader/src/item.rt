@@ -16,7 +16,7 @@ pub(crate) struct Codes {
 #[derive(Drop)]
 pub(crate) enum Operand<'a> {
     /// The set of a bracket inside.
-    Inner(Closed<'a>),
+    Inner(Closed),
     /// A property, or a variable that is bound to a set, with its name.
     Named(Box<Named<'a>>),
     /// A property that was named before in the bracket, which keeps it at this place.

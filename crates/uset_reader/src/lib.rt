@@ -4,6 +4,7 @@
 mod arrange;
 mod bracket;
 mod code_point;
+mod evaluation;
 mod fault;
 mod front;
 mod item;
@@ -14,5 +15,6 @@ mod syntax;
 mod turn;
 mod unit;
 
+pub use evaluation::evaluate_set;
 pub use reader::read_set;
 pub use syntax::Syntax;

@@ -16,7 +16,7 @@ use uset_resolve::{Resolution, Resolver};
 use uset_steps::{Gathering, Name, Named, NamedSet};
 
 /// What a property asks for.
-fn resolve_query<'v>(
+pub(crate) fn resolve_query<'v>(
     alloc: Global,
     resolver: &mut Resolver<'v>,
     query: &Query,
@@ -31,7 +31,7 @@ fn resolve_query<'v>(
 }
 
 /// The set of a property, or what is wrong with it.
-fn set_of<'v>(resolution: Resolution<'v>, negated: bool) -> Result<NamedSet<'v>, Kind>
+pub(crate) fn set_of<'v>(resolution: Resolution<'v>, negated: bool) -> Result<NamedSet<'v>, Kind>
     ensures { IsSetOfProperty resolution.entry negated result }
 {
     match resolution {

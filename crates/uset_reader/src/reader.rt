@@ -26,7 +26,7 @@ fn read_bracket<'v, 'a>(
     source: &'a str,
     opening: Opening,
     inner: &'a str,
-) -> Result<(Closed<'v>, Cursor<'a>), ParseError>
+) -> Result<(Closed, Cursor<'a>), ParseError>
     requires begins { first (language_seen syntax.now) (chars source.now) ≡
         of_bracket (opening_seen opening) (chars inner.now) }
     requires behind { length inner.now < length source.now }
@@ -65,7 +65,7 @@ fn read_variable<'v, 'a>(
     source: &'a str,
     name: &str,
     rest: &'a str,
-) -> Result<(Closed<'v>, Cursor<'a>), ParseError>
+) -> Result<(Closed, Cursor<'a>), ParseError>
     requires begins { first (language_seen syntax.now) (chars source.now) ≡
         of_variable (chars name.now) (chars rest.now) }
     requires behind { length rest.now < length source.now }
@@ -89,7 +89,7 @@ fn read_property<'v, 'a>(
     alloc: Global,
     syntax: &Syntax<'v>,
     source: &'a str,
-) -> Result<(Closed<'v>, Cursor<'a>), ParseError>
+) -> Result<(Closed, Cursor<'a>), ParseError>
     requires { first (language_seen syntax.now) (chars source.now) ≡ of_property }
     ensures read { IfOk result (λ p. IsReading (language_seen syntax.now) source.now p.0 p.1) }
     ensures refused { IfErr result (IsRefusal (language_seen syntax.now) source.now) }
@@ -111,7 +111,7 @@ pub fn read_set<'v, 'a>(
     alloc: Global,
     syntax: &Syntax<'v>,
     source: &'a str,
-) -> Result<(Closed<'v>, Cursor<'a>), ParseError>
+) -> Result<(Closed, Cursor<'a>), ParseError>
     ensures read { IfOk result (λ p. IsReading (language_seen syntax.now) source.now p.0 p.1) }
     ensures refused { IfErr result (IsRefusal (language_seen syntax.now) source.now) }
 {

@@ -32,11 +32,11 @@ use uset_variables::VariableValue;
 
 /// What a turn made of the open brackets.
 #[derive(Drop)]
-pub(crate) enum Progress<'v, 'a> {
+pub(crate) enum Progress<'a> {
     /// A bracket is still open, in front of this rest.
     GoesOn(&'a str),
     /// The outermost bracket was closed, with this set and in front of this rest.
-    Done(Closed<'v>, &'a str),
+    Done(Closed, &'a str),
 }
 
 /// How an item is written.
@@ -71,7 +71,7 @@ fn take<'v, 'a>(
     item: Item<'v>,
     text: &'a str,
     rest: &'a str,
-) -> Result<Progress<'v, 'a>, ParseError>
+) -> Result<Progress<'a>, ParseError>
     requires proper { IsProper item }
     requires within { length text.now ≤ length (left_of cursor) }
     requires behind { length rest.now < length (left_of cursor) }
@@ -119,7 +119,7 @@ fn take_variable<'v, 'a>(
     name: &str,
     text: &'a str,
     rest: &'a str,
-) -> Result<Progress<'v, 'a>, ParseError>
+) -> Result<Progress<'a>, ParseError>
     requires within { length text.now ≤ length (left_of cursor) }
     requires behind { length rest.now < length (left_of cursor) }
     ensures takes { TakesVariable (language_seen syntax.now)
@@ -153,7 +153,7 @@ fn take_unit<'v, 'a>(
     cursor: Cursor<'a>,
     bracket: &mut OpenBracket<'v>,
     text: &'a str,
-) -> Result<Progress<'v, 'a>, ParseError>
+) -> Result<Progress<'a>, ParseError>
     requires known { resolver.old ≡ syntax.now.database.now }
     requires within { length text.now ≤ length (left_of cursor) }
     ensures same { resolver.new ≡ resolver.old }
@@ -183,7 +183,7 @@ fn open<'v, 'a>(
     opening: Opening,
     text: &'a str,
     inner: &'a str,
-) -> Result<Progress<'v, 'a>, ParseError>
+) -> Result<Progress<'a>, ParseError>
     requires within { length text.now ≤ length (left_of cursor) }
     requires behind { length inner.now < length (left_of cursor) }
     ensures opens { Opens (source_of cursor.entry) outer.old.items bracket.old opening text.now inner.now
@@ -205,7 +205,7 @@ fn close<'v, 'a>(
     bracket: &mut OpenBracket<'v>,
     text: &'a str,
     rest: &'a str,
-) -> Result<Progress<'v, 'a>, ParseError>
+) -> Result<Progress<'a>, ParseError>
     requires within { length text.now ≤ length (left_of cursor) }
     requires behind { length rest.now < length (left_of cursor) }
     ensures closes { ClosesAs
@@ -238,7 +238,7 @@ pub(crate) fn turn<'v, 'a>(
     cursor: Cursor<'a>,
     outer: &mut Vec<OpenBracket<'v>>,
     bracket: &mut OpenBracket<'v>,
-) -> Result<Progress<'v, 'a>, ParseError>
+) -> Result<Progress<'a>, ParseError>
     requires { resolver.old ≡ syntax.now.database.now }
     ensures same { resolver.new ≡ resolver.old }
     ensures turns { TurnsAt

@@ -1,4 +1,4 @@
-//! Sets with so many strings that they are gathered once the whole pattern is read.
+//! Sets with so many strings that brackets which name them are terms.
 use crate::fixtures::{assert_holds, have_answer};
 use std::alloc::{AllocError, Global};
 
@@ -30,6 +30,14 @@ const DENOTED: &[(&str, &str)] = &[
     ("[^[^$w]]", "0061-0063"),
     ("[[^$w]&[a-e$w]]", "0064-0065"),
     ("[[^$w-[b]]&[a-c]]", "0062"),
+    ("[$w[:^L:]&[a-e{aa}]]", "0061-0063 {0061_0061}"),
+    ("[[$w&[:^L:]]{aa}x]", "0078 {0061_0061}"),
+    (
+        "[[$w[:L:]-[:^L:]]&[A-Cab{aa}{zz}]]",
+        "0041-0043 0061-0062 {0061_0061}",
+    ),
+    ("[[$w-[:l:]]&[a{ab}]]", "{0061_0062}"),
+    ("[^[$w[:^L:]]]", "0041-005A 0064-007A"),
 ];
 
 /// Whether the pattern is read whole, with these members.
@@ -59,7 +67,7 @@ struct Repeated {
     members: &'static str,
 }
 
-/// More names of the set than are kept until the whole pattern is read.
+/// Names of the set in a thousand brackets.
 const REPEATED: &[Repeated] = &[
     Repeated {
         front: "",

@@ -6,20 +6,21 @@ use Rattle.uset_gather.specs.Gathered.{gathered_in}
 use Rattle.uset_steps.specs.declared.gathering.Gathering.{Gathering}
 use Rattle.uset_steps.specs.declared.later.Later.{Later}
 use Rattle.uset_steps.specs.declared.gathering.Place.{Place}
+use Rattle.uset_steps.specs.declared.named_set.Named.{Named}
 use Rattle.uset_steps.specs.declared.step.Operation.{Operation}
-use Rattle.uset_steps.specs.Names.{Name, Sets, Kept, StandsFor}
+use Rattle.uset_steps.specs.Names.{Name, Sets, StandsFor}
 use Rattle.uset_steps.specs.Places.{IsPlaceIn}
 use Rattle.uset_steps.specs.Operations.{operated}
 use Rattle.uset_steps.specs.Later.{later_done, LaterFits}
 
 -- whether something is a member behind the steps that were put off, where there are some
-abbrev pub behind : Option (Box Later Global) → Member → Bool → Bool
-behind None m b = b
-behind (Some later) m b = later_done later.value m b
+abbrev pub behind : Sets → Option (Box Later Global) → Member → Bool → Bool
+behind sets None m b = b
+behind sets (Some later) m b = later_done sets later.value m b
 
--- the member was gathered
-abbrev pub gathering_in : Gathering → Member → Bool
-gathering_in g m = behind g.later m (gathered_in g.gathered m)
+-- the member was gathered, where the names stand for these sets
+abbrev pub gathering_in : Sets → Gathering → Member → Bool
+gathering_in sets g m = behind sets g.later m (gathered_in g.gathered m)
 
 abbrev pub BehindFits : Sets → Option (Box Later Global) → Type 0
 BehindFits sets None = Unit {0}
@@ -34,11 +35,11 @@ abbrev pub Fits : Sets → Gathering → Type 0
 Fits sets g = BehindFits sets g.later
 
 -- the set that is kept at the place, where one is
-abbrev pub kept_behind : Option (Box Later Global) → ℕ → Option Kept
+abbrev pub kept_behind : Option (Box Later Global) → ℕ → Option Named
 kept_behind None place = None
 kept_behind (Some later) place = slice_get later.value.sets.items place
 
-abbrev pub kept_at : Gathering → Place → Option Kept
+abbrev pub kept_at : Gathering → Place → Option Named
 kept_at g place = kept_behind g.later place.index
 
 -- the set with this name is kept at the place
@@ -60,19 +61,18 @@ IsNowhere g name = (place : ℕ) → IsPlaceBehind g.later name place → ⊥
 abbrev pub KeepsPlaces : Gathering → Gathering → Type 0
 KeepsPlaces old new = (name : Name) (place : Place) → IsPlaceOf old name place → IsPlaceOf new name place
 
--- What was gathered has these members, and fits each meaning of the names that it did before.
-pub record Becomes (old new : Gathering) (members : Member → Bool) : Type 0 where
-  pub has : (m : Member) → gathering_in new m ≡ members m
-  pub fits : (sets : Sets) → Fits sets old → Fits sets new
+-- What was gathered has these members, and fits this meaning of the names.
+pub record BecomesWith (sets : Sets) (new : Gathering) (members : Member → Bool) : Type 0 where
+  pub has : (m : Member) → gathering_in sets new m ≡ members m
+  pub fits : Fits sets new
+
+-- the same for each meaning of the names that what was gathered before fits
+abbrev pub Becomes : Gathering → Gathering → (Sets → Member → Bool) → Type 0
+Becomes old new members = (sets : Sets) → Fits sets old → BecomesWith sets new (members sets)
 
 -- the same members were gathered
 abbrev pub Settles : Gathering → Gathering → Type 0
-Settles old new = Becomes old new (gathering_in old)
-
--- the same for the meaning of the names that is told
-pub record BecomesWith (sets : Sets) (new : Gathering) (members : Member → Bool) : Type 0 where
-  pub has : (m : Member) → gathering_in new m ≡ members m
-  pub fits : Fits sets new
+Settles old new = Becomes old new (λ sets. gathering_in sets old)
 
 -- The name stands for a set, where each set that is kept is the one that its name stands for.
 abbrev pub StandsForSome : Gathering → Name → Type 0
@@ -83,4 +83,4 @@ abbrev pub GathersKept : Operation → Place → Gathering → Gathering → Typ
 GathersKept operation place old new =
     (sets : Sets) (name : Name) (set : Member → Bool) → Fits sets old → IsPlaceOf old name place →
     StandsFor sets name set →
-    BecomesWith sets new (λ m. operated operation (set m) (gathering_in old m))
+    BecomesWith sets new (λ m. operated operation (set m) (gathering_in sets old m))

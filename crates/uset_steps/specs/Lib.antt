@@ -2,9 +2,10 @@ pub mod Names
 pub mod Operations
 pub mod TermSteps
 pub mod Terms
-pub mod Making
+pub mod NumberedTerms
 pub mod Places
 pub mod Steps
 pub mod Seen
 pub mod Later
+pub mod Numbering
 pub mod Gathering

@@ -1,8 +1,6 @@
 -- The names of sets, and the sets that they stand for.
-use Rattle.std.specs.Prelude.{◌≡◌, ℕ, ◌/◌, Bool, ◌||◌, nat_le, List, length, Option, Some}
-use Rattle.std.specs.Global.{Global}
+use Rattle.std.specs.Prelude.{◌≡◌, ℕ, ◌/◌, Bool, false, ◌||◌, nat_le, List, length, Option, Some, None}
 use Rattle.std.specs.String.{string_bytes}
-use Rattle.std.specs.declared.rc.Rc.{Rc}
 use Rattle.cp_invlist.specs.InversionList.{contains}
 use Rattle.uset_grammar.specs.Property.{Query}
 use Rattle.uset_grammar.specs.Tree.{Member, in_source, negation}
@@ -45,16 +43,18 @@ strings_of (Complement source) = 0
 abbrev pub is_large : NamedSet → Bool
 is_large set = nat_le 32 (ranges_of set) || nat_le 4 (strings_of set)
 
--- a set that is kept, without its name
-abbrev pub Kept : Type 0
-Kept = Rc NamedSet Global
-
-abbrev pub kept_in : Kept → Member → Bool
-kept_in kept m = named_in kept.value m
-
 -- the set that each name stands for, by its members, where it stands for one
 abbrev pub Sets : Type 0
 Sets = Name → Option (Member → Bool)
+
+-- whether the set has the member, where there is one
+abbrev pub in_some : Option (Member → Bool) → Member → Bool
+in_some None m = false
+in_some (Some members) m = members m
+
+-- the set that the name stands for has the member
+abbrev pub in_meant : Sets → Name → Member → Bool
+in_meant sets name m = in_some (sets name) m
 
 -- the set is the one that the name stands for
 pub record StandsFor (sets : Sets) (name : Name) (set : Member → Bool) : Type 0 where

@@ -8,31 +8,33 @@ use Rattle.uset_steps.specs.declared.step.Operation.{Operation}
 use Rattle.uset_steps.specs.declared.step.Operation.TheVariants.{Join, Remove, Retain}
 use Rattle.uset_steps.specs.declared.step.Step.{Step}
 use Rattle.uset_steps.specs.declared.step.Step.TheVariants.{Range, Text, Set, Named}
-use Rattle.uset_steps.specs.Names.{Kept, kept_in}
+use Rattle.uset_steps.specs.declared.named_set.Named.{Named as NamedSet}
+use Rattle.uset_steps.specs.Names.{Sets, named_in}
 use Rattle.uset_steps.specs.Operations.{operated}
 use Rattle.uset_steps.specs.Terms.{closed_in}
 
 -- the same with a set that is kept, where there is one
-abbrev pub with_kept : Operation → Option Kept → Member → Bool → Bool
+abbrev pub with_kept : Operation → Option NamedSet → Member → Bool → Bool
 with_kept operation None m b = b
-with_kept operation (Some set) m b = operated operation (kept_in set m) b
+with_kept operation (Some named) m b = operated operation (named_in named.set m) b
 
--- whether something is a member once the step is done, by whether it was one
-abbrev pub step_done : List Kept → Step → Member → Bool → Bool
-step_done sets (Range span) m b = b || in_range span.range.start span.range.end m
-step_done sets (Text spelled) m b = b || is_string (string_bytes spelled.value.text) m
-step_done sets (Set operation set) m b = operated operation (closed_in set.value m) b
-step_done sets (Named operation place) m b = with_kept operation (slice_get sets place) m b
+-- whether something is a member once the step is done, by whether it was one, over the sets that are kept; the names in terms
+-- stand for the sets that are told
+abbrev pub step_done : Sets → List NamedSet → Step → Member → Bool → Bool
+step_done sets kept (Range span) m b = b || in_range span.range.start span.range.end m
+step_done sets kept (Text spelled) m b = b || is_string (string_bytes spelled.value.text) m
+step_done sets kept (Set operation set) m b = operated operation (closed_in sets set.value m) b
+step_done sets kept (Named operation place) m b = with_kept operation (slice_get kept place) m b
 
 -- the same once all steps are done, from left to right
-abbrev pub steps_done : List Kept → List Step → Member → Bool → Bool
-steps_done sets [] m b = b
-steps_done sets (s ∷ ss) m b = steps_done sets ss m (step_done sets s m b)
+abbrev pub steps_done : Sets → List NamedSet → List Step → Member → Bool → Bool
+steps_done sets kept [] m b = b
+steps_done sets kept (s ∷ ss) m b = steps_done sets kept ss m (step_done sets kept s m b)
 
--- both lists of steps make the same of every set, whatever sets are kept
+-- both lists of steps make the same of every set, whatever sets are kept, and named in terms
 abbrev pub MakeSame : List Step → List Step → Type 0
-MakeSame ss others =
-    (sets : List Kept) (m : Member) (b : Bool) → steps_done sets ss m b ≡ steps_done sets others m b
+MakeSame ss others = (sets : Sets) (kept : List NamedSet) (m : Member) (b : Bool) →
+    steps_done sets kept ss m b ≡ steps_done sets kept others m b
 
 -- the step names no set that is kept but one of so many
 abbrev pub IsWithin : ℕ → Step → Type 0

@@ -1,41 +1,33 @@
 //! Sets of brackets that are closed.
 use crate::term::Term;
 use cp_invlist::NoMemory;
-use cp_strset::CodePointInversionListAndStringList;
 use std::alloc::Global;
 use uset_gather::Gathered;
 
 /// The set of a bracket that is closed.
 #[derive(Drop)]
-pub enum Closed<'a> {
+pub enum Closed {
     /// As it was gathered.
     Plain(Gathered),
-    /// As a term, since sets with so many ranges or strings are named in it that they are gathered once the whole pattern is read.
-    Term(Box<Term<'a>>),
+    /// As a term, since sets with so many ranges or strings are named in it that each is gathered once for the whole pattern.
+    Term(Box<Term>),
 }
 
-impl<'a> Closed<'a> {
+impl Closed {
     ghost use Rattle.std.specs.Prelude.{◌≡◌, IfOk};
     ghost use Rattle.uset_grammar.specs.Tree.{Member, negation};
-    ghost use Rattle.uset_gather.specs.Gathered.{gathered_in, in_set};
+    ghost use Rattle.uset_steps.specs.Names.{Sets};
     ghost use Rattle.uset_steps.specs.Terms.{closed_in};
 
-    /// How many steps the set has, of which one that was gathered is one.
-    pub(crate) fn len(&self) -> usize {
-        match self {
-            Closed::Plain(_) => 1,
-            Closed::Term(term) => term.len(),
-        }
-    }
-
-    /// Whether the set is kept as a term.
+    /// Whether the set is left as a term.
     pub(crate) fn is_term(&self) -> bool {
         matches!(self, Closed::Term(_))
     }
 
     /// The other code points, and no strings.
-    pub(crate) fn negated(self, alloc: Global) -> Result<Closed<'a>, NoMemory>
-        ensures { IfOk result (λ set. (m : Member) → closed_in set m ≡ negation m (closed_in self.entry m)) }
+    pub(crate) fn negated(self, alloc: Global) -> Result<Closed, NoMemory>
+        ensures { IfOk result
+            (λ set. (sets : Sets) (m : Member) → closed_in sets set m ≡ negation m (closed_in sets self m)) }
     {
         match self {
             Closed::Plain(mut set) => {
@@ -47,22 +39,5 @@ impl<'a> Closed<'a> {
                 Ok(Closed::Term(Box::new(alloc, term)?))
             }
         }
-    }
-
-    /// The set, with all that it names gathered.
-    pub(crate) fn into_gathered(self, alloc: Global) -> Result<Gathered, NoMemory>
-        ensures { IfOk result (λ set. (m : Member) → gathered_in set m ≡ closed_in self.entry m) }
-    {
-        match self {
-            Closed::Plain(set) => Ok(set),
-            Closed::Term(term) => Box::into_inner(term).into_gathered(alloc),
-        }
-    }
-
-    /// The set as lists.
-    pub fn into_set(self, alloc: Global) -> Result<CodePointInversionListAndStringList, NoMemory>
-        ensures { IfOk result (λ set. (m : Member) → in_set set m ≡ closed_in self.entry m) }
-    {
-        self.into_gathered(alloc)?.into_set(alloc)
     }
 }

@@ -1,31 +1,54 @@
 //! Terms that are made of others.
-use crate::making::Making;
-use crate::named_set::NamedSet;
+use crate::name::Name;
 use crate::step::Operation;
-use crate::term::{Order, Term, TermStep};
+use crate::term::{Term, TermStep};
 use cp_invlist::NoMemory;
+use cp_terms::Way;
 use std::alloc::Global;
-use std::rc::Rc;
 use uset_gather::Gathered;
 
-impl<'a> Term<'a> {
-    ghost use Rattle.std.specs.Prelude.{◌≡◌, IfOk};
-    ghost use Rattle.uset_grammar.specs.Tree.{Member, negation};
-    ghost use Rattle.uset_gather.specs.Gathered.{gathered_in};
-    ghost use Rattle.uset_steps.specs.Names.{kept_in};
+impl Operation {
+    ghost use Rattle.std.specs.Prelude.{◌≡◌, Bool};
+    ghost use Rattle.cp_terms.specs.Terms.{combined};
     ghost use Rattle.uset_steps.specs.Operations.{operated};
-    ghost use Rattle.uset_steps.specs.TermSteps.{put_down, PutsDown, merged};
-    ghost use Rattle.uset_steps.specs.Terms.{term_in};
 
-    /// How many steps there are.
-    pub(crate) fn len(&self) -> usize {
-        self.steps.len()
+    /// How the upper of two sets is gathered into the lower.
+    fn of_upper(self) -> Way
+        ensures { (lower upper : Bool) → combined result lower upper ≡ operated self upper lower }
+    {
+        match self {
+            Operation::Join => Way::Join,
+            Operation::Remove => Way::Remove,
+            Operation::Retain => Way::Retain,
+        }
     }
 
+    /// How the lower of two sets is gathered into the upper.
+    fn of_lower(self) -> Way
+        ensures { (lower upper : Bool) → combined result lower upper ≡ operated self lower upper }
+    {
+        match self {
+            Operation::Join => Way::Join,
+            Operation::Remove => Way::RemoveFrom,
+            Operation::Retain => Way::Retain,
+        }
+    }
+}
+
+impl Term {
+    ghost use Rattle.std.specs.Prelude.{◌≡◌, IfOk};
+    ghost use Rattle.cp_terms.specs.Terms.{combined};
+    ghost use Rattle.uset_grammar.specs.Tree.{Member, negation};
+    ghost use Rattle.uset_gather.specs.Gathered.{gathered_in};
+    ghost use Rattle.uset_steps.specs.Names.{Sets, name_seen, in_meant};
+    ghost use Rattle.uset_steps.specs.Operations.{operated};
+    ghost use Rattle.uset_steps.specs.TermSteps.{put_down, PutsDown};
+    ghost use Rattle.uset_steps.specs.Terms.{term_in};
+
     /// The term of one step that puts a set down.
-    fn of_step(alloc: Global, step: TermStep<'a>) -> Result<Term<'a>, NoMemory>
+    fn of_step(alloc: Global, step: TermStep) -> Result<Term, NoMemory>
         requires { PutsDown step }
-        ensures { IfOk result (λ term. (m : Member) → term_in term m ≡ put_down step.entry m) }
+        ensures { IfOk result (λ term. (sets : Sets) (m : Member) → term_in sets term m ≡ put_down sets step m) }
     {
         let mut steps = Vec::new(alloc);
         steps.push(step)?;
@@ -33,65 +56,50 @@ impl<'a> Term<'a> {
     }
 
     /// What a bracket gathered.
-    pub(crate) fn of_gathered(alloc: Global, set: Gathered) -> Result<Term<'a>, NoMemory>
-        ensures { IfOk result (λ term. (m : Member) → term_in term m ≡ gathered_in set m) }
+    pub(crate) fn of_gathered(alloc: Global, set: Gathered) -> Result<Term, NoMemory>
+        ensures { IfOk result (λ term. (sets : Sets) (m : Member) → term_in sets term m ≡ gathered_in set m) }
     {
         Term::of_step(alloc, TermStep::Plain(Box::new(alloc, set)?))
     }
 
-    /// The set with a name.
-    pub(crate) fn of_named(alloc: Global, set: Rc<NamedSet<'a>>) -> Result<Term<'a>, NoMemory>
-        ensures { IfOk result (λ term. (m : Member) → term_in term m ≡ kept_in set.entry m) }
+    /// The set with this name.
+    pub(crate) fn of_name(alloc: Global, name: Name) -> Result<Term, NoMemory>
+        ensures { IfOk result (λ term. (sets : Sets) (m : Member) → term_in sets term m ≡ in_meant sets (name_seen name) m) }
     {
-        Term::of_step(alloc, TermStep::Named(set))
+        Term::of_step(alloc, TermStep::Named(Box::new(alloc, name)?))
     }
 
     /// Both, the other above this one.
-    fn below(
-        self,
-        order: Order,
-        operation: Operation,
-        upper: Term<'a>,
-    ) -> Result<Term<'a>, NoMemory>
-        ensures { IfOk result
-            (λ term. (m : Member) → term_in term m ≡ merged order operation (term_in self.entry m) (term_in upper.entry m)) }
+    fn below(self, way: Way, upper: Term) -> Result<Term, NoMemory>
+        ensures { IfOk result (λ term. (sets : Sets) (m : Member) →
+            term_in sets term m ≡ combined way (term_in sets self m) (term_in sets upper m)) }
     {
         let mut steps = self.steps;
         let mut more = upper.steps;
         steps.append(&mut more)?;
-        steps.push(TermStep::Both(order, operation))?;
+        steps.push(TermStep::Both(way))?;
         Ok(Term { steps })
     }
 
     /// This set, into which the other was gathered. The shorter term is put behind the longer.
-    pub(crate) fn with(self, operation: Operation, other: Term<'a>) -> Result<Term<'a>, NoMemory>
-        ensures { IfOk result
-            (λ term. (m : Member) → term_in term m ≡ operated operation (term_in other.entry m) (term_in self.entry m)) }
+    pub(crate) fn with(self, operation: Operation, other: Term) -> Result<Term, NoMemory>
+        ensures { IfOk result (λ term. (sets : Sets) (m : Member) →
+            term_in sets term m ≡ operated operation (term_in sets other m) (term_in sets self m)) }
     {
         if self.steps.len() < other.steps.len() {
-            other.below(Order::Lower, operation, self)
+            other.below(operation.of_lower(), self)
         } else {
-            self.below(Order::Upper, operation, other)
+            self.below(operation.of_upper(), other)
         }
     }
 
     /// The other code points, and no strings.
-    pub(crate) fn negated(self) -> Result<Term<'a>, NoMemory>
-        ensures { IfOk result (λ term. (m : Member) → term_in term m ≡ negation m (term_in self.entry m)) }
+    pub(crate) fn negated(self) -> Result<Term, NoMemory>
+        ensures { IfOk result
+            (λ term. (sets : Sets) (m : Member) → term_in sets term m ≡ negation m (term_in sets self m)) }
     {
         let mut steps = self.steps;
         steps.push(TermStep::Negate)?;
         Ok(Term { steps })
-    }
-
-    /// The set, step by step.
-    pub(crate) fn into_gathered(self, alloc: Global) -> Result<Gathered, NoMemory>
-        ensures { IfOk result (λ set. (m : Member) → gathered_in set m ≡ term_in self.entry m) }
-    {
-        let mut making = Making::new(alloc);
-        for step in self.steps {
-            making.take(step)?;
-        }
-        Ok(making.into_top())
     }
 }

@@ -54,7 +54,7 @@ impl Seen {
     }
 
     /// Marks what the step names. The answer is true where a step behind names the same, so that this one has no effect.
-    fn note(&mut self, step: &Step<'_>) -> bool
+    fn note(&mut self, step: &Step) -> bool
         ensures before { OnTrue result (IsRepeated self.old step.now) }
         ensures marked { MarksOnly self.old step.now self.new }
     {
@@ -71,12 +71,12 @@ impl Seen {
 
 /// The steps that have an effect, the last in front: one that gathers a set that is kept is passed over where a step behind it
 /// decides about the same members.
-pub(crate) fn counting<'a>(
+pub(crate) fn counting(
     alloc: Global,
-    mut steps: Vec<Step<'a>>,
+    mut steps: Vec<Step>,
     sets: usize,
-) -> Result<Vec<Step<'a>>, NoMemory>
-    ensures { IfOk result (λ kept. MakeSame (reverse kept.items) steps.entry.items) }
+) -> Result<Vec<Step>, NoMemory>
+    ensures { IfOk result (λ kept. MakeSame (reverse kept.items) steps.items) }
 {
     let mut seen = Seen::new(alloc, sets)?;
     let mut kept = Vec::new(alloc);

@@ -49,7 +49,7 @@ impl<'a> Gathering<'a> {
 
     /// Nothing yet.
     pub fn new(alloc: Global) -> Gathering<'a>
-        ensures members { (m : Member) → gathering_in result m ≡ false }
+        ensures members { (sets : Sets) (m : Member) → gathering_in sets result m ≡ false }
         ensures names { (sets : Sets) → Fits sets result }
         ensures kept { (place : Place) → kept_at result place ≡ None }
     {
@@ -64,7 +64,7 @@ impl<'a> Gathering<'a> {
     pub fn add_range(&mut self, range: CodePointRange) -> Result<(), NoMemory>
         requires { range.end ≤ 0x10_FFFF }
         ensures becomes { OnOk result
-            (Becomes self.old self.new (λ m. gathering_in self.old m || in_range range.start range.end m)) }
+            (Becomes self.old self.new (λ sets m. gathering_in sets self.old m || in_range range.start range.end m)) }
         ensures places { OnOk result (KeepsPlaces self.old self.new) }
     {
         let Some(later) = &mut self.later else {
@@ -77,7 +77,7 @@ impl<'a> Gathering<'a> {
     pub fn add_text(&mut self, alloc: Global, text: String) -> Result<(), NoMemory>
         requires { sole_of (chars (string_bytes text)) ≡ None }
         ensures becomes { OnOk result
-            (Becomes self.old self.new (λ m. gathering_in self.old m || is_string (string_bytes text) m)) }
+            (Becomes self.old self.new (λ sets m. gathering_in sets self.old m || is_string (string_bytes text) m)) }
         ensures places { OnOk result (KeepsPlaces self.old self.new) }
     {
         match &mut self.later {
@@ -86,17 +86,22 @@ impl<'a> Gathering<'a> {
         }
     }
 
-    /// Does the steps that were put off.
+    /// Does the steps that were put off. Where they make a term it is the one that is put off then.
     #[cold]
     fn settle(&mut self, alloc: Global) -> Result<(), NoMemory>
-        ensures settles { OnOk result (Settles self.old self.new) }
-        ensures done { OnOk result (self.new.later ≡ None) }
+        ensures { OnOk result (Settles self.old self.new) }
     {
-        if let Some(later) = self.later.take() {
-            let gathered = replace(&mut self.gathered, Gathered::new(alloc));
-            self.gathered = Box::into_inner(later).done(alloc, gathered)?;
+        let Some(later) = self.later.take() else {
+            return Ok(());
+        };
+        let gathered = replace(&mut self.gathered, Gathered::new(alloc));
+        match Box::into_inner(later).closed(alloc, gathered)? {
+            Closed::Plain(set) => {
+                self.gathered = set;
+                Ok(())
+            }
+            set => self.put_off_first(alloc, Operation::Join, set),
         }
-        Ok(())
     }
 
     /// Does the steps that were put off where they keep too much.
@@ -116,11 +121,11 @@ impl<'a> Gathering<'a> {
         &mut self,
         alloc: Global,
         operation: Operation,
-        set: Closed<'a>,
+        set: Closed,
     ) -> Result<(), NoMemory>
         requires { self.old.later ≡ None }
         ensures { OnOk result
-            (Becomes self.old self.new (λ m. operated operation (closed_in set.entry m) (gathering_in self.old m))) }
+            (Becomes self.old self.new (λ sets m. operated operation (closed_in sets set m) (gathering_in sets self.old m))) }
     {
         let mut later = Box::new(alloc, Later::new(alloc))?;
         later.put_off_set(alloc, operation, set)?;
@@ -134,10 +139,10 @@ impl<'a> Gathering<'a> {
         &mut self,
         alloc: Global,
         operation: Operation,
-        set: Closed<'a>,
+        set: Closed,
     ) -> Result<(), NoMemory>
         ensures { OnOk result
-            (Becomes self.old self.new (λ m. operated operation (closed_in set.entry m) (gathering_in self.old m))) }
+            (Becomes self.old self.new (λ sets m. operated operation (closed_in sets set m) (gathering_in sets self.old m))) }
     {
         self.make_way(alloc)?;
         match (&mut self.later, set) {
@@ -161,7 +166,7 @@ impl<'a> Gathering<'a> {
         named: Named<'a>,
     ) -> Result<(), NoMemory>
         ensures becomes { OnOk result ((sets : Sets) → Fits sets self.old → IsSetOf sets named.entry → BecomesWith
-            sets self.new (λ m. operated operation (named_in named.entry.set m) (gathering_in self.old m))) }
+            sets self.new (λ m. operated operation (named_in named.entry.set m) (gathering_in sets self.old m))) }
         ensures kept { OnOk result
             (is_large named.entry.set ≡ true → IsSomewhere self.new (name_seen named.entry.name)) }
     {
@@ -206,10 +211,10 @@ impl<'a> Gathering<'a> {
 
     /// Moves out the set of what was gathered, or where it is negated that of the other code points. Nothing is left then.
     #[inline]
-    pub fn close(&mut self, alloc: Global, negated: bool) -> Result<Closed<'a>, NoMemory>
-        ensures set { IfOk result
-            (λ set. (m : Member) → closed_in set m ≡ closed negated m (gathering_in self.old m)) }
-        ensures emptied { OnOk result ((m : Member) → gathering_in self.new m ≡ false) }
+    pub fn close(&mut self, alloc: Global, negated: bool) -> Result<Closed, NoMemory>
+        ensures set { IfOk result (λ set. (sets : Sets) → Fits sets self.old → (m : Member) →
+            closed_in sets set m ≡ closed negated m (gathering_in sets self.old m)) }
+        ensures emptied { OnOk result ((sets : Sets) (m : Member) → gathering_in sets self.new m ≡ false) }
         ensures forgotten { OnOk result ((place : Place) → kept_at self.new place ≡ None) }
     {
         let gathered = replace(&mut self.gathered, Gathered::new(alloc));

@@ -1,181 +1,180 @@
-//! Terms in the making.
-ghost use Rattle.std.specs.Prelude.{◌≡◌, IfOk};
+//! Sets that grow by the steps that were put off.
+ghost use Rattle.std.specs.Prelude.{◌≡◌, ◌||◌, Bool, IfOk};
+ghost use Rattle.std.specs.Bool.{OnTrue};
 ghost use Rattle.uset_grammar.specs.Tree.{Member};
+ghost use Rattle.uset_gather.specs.Gathered.{gathered_in, operand_in};
 ghost use Rattle.uset_steps.specs.Operations.{operated};
-ghost use Rattle.uset_steps.specs.Terms.{term_in, some_in};
 
 use crate::closed::Closed;
-use crate::named_set::NamedSet;
-use crate::step::{Operation, Step};
+use crate::literal::{Span, Spelled};
+use crate::named_set::Named;
+use crate::step::{Operation, Step, gather};
 use crate::term::Term;
 use cp_invlist::NoMemory;
 use std::alloc::Global;
-use std::mem::replace;
-use std::rc::Rc;
 use uset_gather::{Gathered, Operand};
 
-/// A term of so many steps is gathered, so that its steps take no more memory than a few large sets.
-const LONG: usize = 4096;
-
-/// A term that grows by the steps of a bracket. What they gather that names no large set is gathered at once, as long as it's
-/// gathered alike.
-pub(crate) struct Growing<'a> {
-    term: Option<Term<'a>>,
-    /// How `plain` is gathered into the term.
-    operation: Operation,
-    plain: Gathered,
+/// A set that grows by the steps of a bracket. What names no very large set is gathered at once, as long as it's gathered alike.
+#[derive(Drop)]
+pub(crate) enum Growing {
+    /// All was gathered.
+    Plain(Gathered),
+    /// A term.
+    Term(Term),
+    /// A term, into which what was gathered behind it is gathered so.
+    Both(Term, Operation, Gathered),
 }
 
-// By hand, so that letting a value go is one call in each proof.
-impl Drop for Growing<'_> {
-    fn drop(self) {
-        let Self {
-            term: _,
-            operation: _,
-            plain: _,
-        } = self;
-    }
-}
-
-/// The term of both, where there may be none before: nothing is gathered then.
-fn grown<'a>(
-    before: Option<Term<'a>>,
-    operation: Operation,
-    term: Term<'a>,
-) -> Result<Option<Term<'a>>, NoMemory>
-    ensures { IfOk result
-        (λ both. (m : Member) → some_in both m ≡ operated operation (term_in term.entry m) (some_in before.entry m)) }
+/// Whether gathering one set and then another so is gathering all that either has.
+fn joins(first: Operation, second: Operation) -> bool
+    ensures { OnTrue result ((a b c : Bool) → operated second b (operated first a c) ≡ operated first (a || b) c) }
 {
-    match (before, operation) {
-        (Some(before), operation) => Ok(Some(before.with(operation, term)?)),
-        (None, Operation::Join) => Ok(Some(term)),
-        (None, Operation::Remove | Operation::Retain) => Ok(None),
-    }
+    matches!(
+        (first, second),
+        (Operation::Join, Operation::Join) | (Operation::Remove, Operation::Remove)
+    )
 }
 
-impl<'a> Growing<'a> {
-    ghost use Rattle.std.specs.Prelude.{◌≡◌, IfOk, OnOk};
-    ghost use Rattle.uset_grammar.specs.Tree.{Member};
-    ghost use Rattle.uset_gather.specs.Gathered.{gathered_in};
+/// What the operand has.
+fn alone(alloc: Global, operand: Operand<'_>) -> Result<Gathered, NoMemory>
+    ensures { IfOk result (λ set. (m : Member) → gathered_in set m ≡ operand_in operand.entry m) }
+{
+    let mut set = Gathered::new(alloc);
+    set.join(alloc, operand)?;
+    Ok(set)
+}
+
+impl Growing {
+    ghost use Rattle.std.specs.Prelude.{◌≡◌, ◌||◌, All, IfOk};
+    ghost use Rattle.std.specs.String.{string_bytes};
+    ghost use Rattle.uset_grammar.specs.Tree.{Member, in_range};
+    ghost use Rattle.uset_gather.specs.Gathered.{operand_in, is_string};
+    ghost use Rattle.uset_steps.specs.Names.{Sets, IsSetOf};
     ghost use Rattle.uset_steps.specs.Operations.{operated};
     ghost use Rattle.uset_steps.specs.Steps.{step_done};
     ghost use Rattle.uset_steps.specs.Terms.{term_in, closed_in, growing_in};
 
-    /// What was gathered.
-    pub(crate) fn new(plain: Gathered) -> Growing<'a>
-        ensures { (m : Member) → growing_in result m ≡ gathered_in plain m }
+    /// The set as a term.
+    fn into_term(self, alloc: Global) -> Result<Term, NoMemory>
+        ensures { IfOk result (λ term. (sets : Sets) (m : Member) → term_in sets term m ≡ growing_in sets self m) }
     {
-        Growing {
-            term: None,
-            operation: Operation::Join,
-            plain,
+        match self {
+            Growing::Plain(set) => Term::of_gathered(alloc, set),
+            Growing::Term(term) => Ok(term),
+            Growing::Both(term, operation, set) => term.with(
+                operation,
+                Term::of_gathered(alloc, set)?,
+            ),
         }
     }
 
     /// Gathers a term.
-    fn take_term(
-        &mut self,
-        alloc: Global,
-        operation: Operation,
-        term: Term<'a>,
-    ) -> Result<(), NoMemory>
-        ensures { OnOk result
-            ((m : Member) → growing_in self.new m ≡ operated operation (term_in term.entry m) (growing_in self.old m)) }
+    fn with_term(self, alloc: Global, operation: Operation, term: Term) -> Result<Growing, NoMemory>
+        ensures { IfOk result (λ new. (sets : Sets) (m : Member) →
+            growing_in sets new m ≡ operated operation (term_in sets term m) (growing_in sets self m)) }
     {
-        let plain = replace(&mut self.plain, Gathered::new(alloc));
-        let plain = Term::of_gathered(alloc, plain)?;
-        let before = grown(self.term.take(), self.operation, plain)?;
-        self.term = grown(before, operation, term)?;
-        self.operation = Operation::Join;
-        Ok(())
+        let whole = self.into_term(alloc)?.with(operation, term)?;
+        Ok(Growing::Term(whole))
     }
 
-    /// Gathers what names no large set.
-    fn take_plain(
-        &mut self,
+    /// Gathers what names no very large set.
+    fn with_plain(
+        self,
         alloc: Global,
         operation: Operation,
-        set: Gathered,
-    ) -> Result<(), NoMemory>
-        ensures { OnOk result
-            ((m : Member) → growing_in self.new m ≡ operated operation (gathered_in set m) (growing_in self.old m)) }
+        operand: Operand<'_>,
+    ) -> Result<Growing, NoMemory>
+        ensures { IfOk result (λ new. (sets : Sets) (m : Member) →
+            growing_in sets new m ≡ operated operation (operand_in operand.entry m) (growing_in sets self m)) }
     {
-        match (self.operation, operation) {
-            (Operation::Join, Operation::Join) | (Operation::Remove, Operation::Remove) => {
-                self.plain.join(alloc, Operand::Gathered(set))
+        match self {
+            Growing::Plain(mut set) => {
+                gather(alloc, &mut set, operation, operand)?;
+                Ok(Growing::Plain(set))
             }
-            _ => {
-                let plain = replace(&mut self.plain, set);
-                let plain = Term::of_gathered(alloc, plain)?;
-                self.term = grown(self.term.take(), self.operation, plain)?;
-                self.operation = operation;
-                Ok(())
+            Growing::Both(term, before, mut set) if joins(before, operation) => {
+                set.join(alloc, operand)?;
+                Ok(Growing::Both(term, before, set))
+            }
+            growing => {
+                let term = growing.into_term(alloc)?;
+                Ok(Growing::Both(term, operation, alone(alloc, operand)?))
             }
         }
     }
 
-    /// Gathers the set of a bracket.
-    fn take_closed(
-        &mut self,
-        alloc: Global,
-        operation: Operation,
-        set: Closed<'a>,
-    ) -> Result<(), NoMemory>
-        ensures { OnOk result
-            ((m : Member) → growing_in self.new m ≡ operated operation (closed_in set.entry m) (growing_in self.old m)) }
+    /// Adds the range.
+    fn with_range(self, alloc: Global, span: Span) -> Result<Growing, NoMemory>
+        ensures { IfOk result (λ new. (sets : Sets) (m : Member) →
+            growing_in sets new m ≡ (growing_in sets self m || in_range span.range.start span.range.end m)) }
     {
-        match set {
-            Closed::Plain(set) => self.take_plain(alloc, operation, set),
-            Closed::Term(term) => self.take_term(alloc, operation, Box::into_inner(term)),
-        }
-    }
-
-    /// Does the step.
-    pub(crate) fn take(
-        &mut self,
-        alloc: Global,
-        step: Step<'a>,
-        sets: &[Rc<NamedSet<'a>>],
-    ) -> Result<(), NoMemory>
-        ensures { OnOk result
-            ((m : Member) → growing_in self.new m ≡ step_done sets.now step.entry m (growing_in self.old m)) }
-    {
-        match step {
-            Step::Range(span) => {
+        match self {
+            Growing::Plain(mut set) => {
+                set.add_range(span.range)?;
+                Ok(Growing::Plain(set))
+            }
+            growing => {
                 let mut set = Gathered::new(alloc);
                 set.add_range(span.range)?;
-                self.take_plain(alloc, Operation::Join, set)
+                growing.with_plain(alloc, Operation::Join, Operand::Gathered(set))
             }
-            Step::Text(spelled) => {
+        }
+    }
+
+    /// Adds the string.
+    fn with_text(self, alloc: Global, spelled: Spelled) -> Result<Growing, NoMemory>
+        ensures { IfOk result (λ new. (sets : Sets) (m : Member) →
+            growing_in sets new m ≡ (growing_in sets self m || is_string (string_bytes spelled.text) m)) }
+    {
+        match self {
+            Growing::Plain(mut set) => {
+                set.add_text(spelled.text)?;
+                Ok(Growing::Plain(set))
+            }
+            growing => {
                 let mut set = Gathered::new(alloc);
-                set.add_text(Box::into_inner(spelled).text)?;
-                self.take_plain(alloc, Operation::Join, set)
+                set.add_text(spelled.text)?;
+                growing.with_plain(alloc, Operation::Join, Operand::Gathered(set))
             }
-            Step::Set(operation, set) => self.take_closed(alloc, operation, Box::into_inner(set)),
+        }
+    }
+
+    /// Does the step. With `named` the sets that it names become leaves of a term.
+    pub(crate) fn with_step(
+        self,
+        alloc: Global,
+        step: Step,
+        sets: &[Named<'_>],
+        named: bool,
+    ) -> Result<Growing, NoMemory>
+        ensures { IfOk result (λ new. (meant : Sets) → All (IsSetOf meant) sets.now → (m : Member) →
+            growing_in meant new m ≡ step_done meant sets.now step m (growing_in meant self m)) }
+    {
+        match step {
+            Step::Range(span) => self.with_range(alloc, span),
+            Step::Text(spelled) => self.with_text(alloc, Box::into_inner(spelled)),
+            Step::Set(operation, set) => match Box::into_inner(set) {
+                Closed::Plain(set) => self.with_plain(alloc, operation, Operand::Gathered(set)),
+                Closed::Term(term) => self.with_term(alloc, operation, Box::into_inner(term)),
+            },
             Step::Named(operation, place) => match sets.get(place) {
-                Some(set) => {
-                    let term = Term::of_named(alloc, set.clone()?)?;
-                    self.take_term(alloc, operation, term)
+                Some(set) if named => {
+                    let term = Term::of_name(alloc, set.name.copy(alloc)?)?;
+                    self.with_term(alloc, operation, term)
                 }
-                None => Ok(()),
+                Some(set) => self.with_plain(alloc, operation, set.set.operand()),
+                None => Ok(self),
             },
         }
     }
 
-    /// The set, which is gathered where the term is long.
-    pub(crate) fn finish(self, alloc: Global) -> Result<Closed<'a>, NoMemory>
-        ensures { IfOk result (λ set. (m : Member) → closed_in set m ≡ growing_in self.entry m) }
+    /// The set, which is a term where one was gathered.
+    pub(crate) fn finish(self, alloc: Global) -> Result<Closed, NoMemory>
+        ensures { IfOk result (λ set. (sets : Sets) (m : Member) → closed_in sets set m ≡ growing_in sets self m) }
     {
-        let Growing {
-            term,
-            operation,
-            plain,
-        } = self;
-        let plain = Term::of_gathered(alloc, plain)?;
-        match grown(term, operation, plain)? {
-            Some(term) if term.len() >= LONG => Ok(Closed::Plain(term.into_gathered(alloc)?)),
-            Some(term) => Ok(Closed::Term(Box::new(alloc, term)?)),
-            None => Ok(Closed::Plain(Gathered::new(alloc))),
+        match self {
+            Growing::Plain(set) => Ok(Closed::Plain(set)),
+            growing => Ok(Closed::Term(Box::new(alloc, growing.into_term(alloc)?)?)),
         }
     }
 }

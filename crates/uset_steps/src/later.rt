@@ -2,12 +2,11 @@
 use crate::closed::Closed;
 use crate::counting::counting;
 use crate::growing::Growing;
-use crate::named_set::{Named, NamedSet};
+use crate::named_set::Named;
 use crate::places::Places;
 use crate::step::{Operation, Step};
 use cp_invlist::NoMemory;
 use std::alloc::Global;
-use std::rc::Rc;
 use uset_gather::Gathered;
 use uset_read::Query;
 
@@ -21,11 +20,11 @@ const FULL: usize = 1 << 20;
 /// Steps that are put off, the first in front, and the sets that they name, each once.
 pub(crate) struct Later<'a> {
     places: Places,
-    sets: Vec<Rc<NamedSet<'a>>>,
-    steps: Vec<Step<'a>>,
+    sets: Vec<Named<'a>>,
+    steps: Vec<Step>,
     /// About how much memory is kept, in ranges.
     kept: usize,
-    /// Whether one of the sets is so large that the bracket's set becomes a term.
+    /// Whether one of the sets is so large that the set of the bracket becomes a term.
     huge: bool,
 }
 
@@ -56,7 +55,7 @@ impl<'a> Later<'a> {
 
     /// None yet.
     pub(crate) fn new(alloc: Global) -> Later<'a>
-        ensures members { (m : Member) (b : Bool) → later_done result m b ≡ b }
+        ensures members { (sets : Sets) (m : Member) (b : Bool) → later_done sets result m b ≡ b }
         ensures names { (sets : Sets) → LaterFits sets result }
     {
         Later {
@@ -70,10 +69,10 @@ impl<'a> Later<'a> {
 
     /// Puts off a step that names no set.
     #[cold]
-    pub(crate) fn put_off(&mut self, step: Step<'a>) -> Result<(), NoMemory>
+    pub(crate) fn put_off(&mut self, step: Step) -> Result<(), NoMemory>
         requires { names_none step ≡ true }
-        ensures members { OnOk result
-            ((m : Member) (b : Bool) → later_done self.new m b ≡ step_done [] step.entry m (later_done self.old m b)) }
+        ensures members { OnOk result ((sets : Sets) (m : Member) (b : Bool) →
+            later_done sets self.new m b ≡ step_done sets [] step m (later_done sets self.old m b)) }
         ensures names { OnOk result ((sets : Sets) → LaterFits sets self.old → LaterFits sets self.new) }
         ensures places { self.new.places ≡ self.old.places }
     {
@@ -87,13 +86,13 @@ impl<'a> Later<'a> {
         &mut self,
         alloc: Global,
         operation: Operation,
-        set: Closed<'a>,
+        set: Closed,
     ) -> Result<(), NoMemory>
-        ensures members { OnOk result ((m : Member) (b : Bool) →
-            later_done self.new m b ≡ operated operation (closed_in set.entry m) (later_done self.old m b)) }
+        ensures members { OnOk result ((sets : Sets) (m : Member) (b : Bool) →
+            later_done sets self.new m b ≡ operated operation (closed_in sets set m) (later_done sets self.old m b)) }
         ensures names { OnOk result ((sets : Sets) → LaterFits sets self.old → LaterFits sets self.new) }
     {
-        self.kept = self.kept.saturating_add(SHARE.saturating_mul(set.len()));
+        self.kept = self.kept.saturating_add(SHARE);
         self.huge = self.huge || set.is_term();
         self.put_off(Step::Set(operation, Box::new(alloc, set)?))
     }
@@ -120,11 +119,11 @@ impl<'a> Later<'a> {
         if let Some(place) = self.places.of(&named.name) {
             return Ok(place);
         }
-        let (name, set) = named.into_parts();
         let place = self.sets.len();
         self.kept = self.kept.saturating_add(SHARE);
-        self.huge = self.huge || set.is_huge();
-        self.sets.push(Rc::new(alloc, set)?)?;
+        self.huge = self.huge || named.set.is_huge();
+        let name = named.name.copy(alloc)?;
+        self.sets.push(named)?;
         self.places.add(name, place)?;
         Ok(place)
     }
@@ -160,55 +159,24 @@ impl<'a> Later<'a> {
         Ok(())
     }
 
-    /// The sets that are kept, and the steps that have an effect, the last in front.
-    fn counted(self, alloc: Global) -> Result<(Vec<Rc<NamedSet<'a>>>, Vec<Step<'a>>), NoMemory>
-        ensures sets { IfOk result (λ p. p.0 ≡ self.entry.sets) }
-        ensures steps { IfOk result (λ p. MakeSame (reverse p.1.items) self.entry.steps.items) }
+    /// The set of the bracket once the steps are done. It is a term where one of the sets is so large, or was one.
+    #[cold]
+    pub(crate) fn closed(self, alloc: Global, gathered: Gathered) -> Result<Closed, NoMemory>
+        ensures { IfOk result (λ s. (sets : Sets) → LaterFits sets self.entry → (m : Member) →
+            closed_in sets s m ≡ later_done sets self.entry m (gathered_in gathered m)) }
     {
         let Later {
             places: _,
             sets,
             steps,
             kept: _,
-            huge: _,
+            huge,
         } = self;
-        let left = counting(alloc, steps, sets.len())?;
-        Ok((sets, left))
-    }
-
-    /// The set once the steps are done, all that they name gathered.
-    #[cold]
-    pub(crate) fn done(self, alloc: Global, gathered: Gathered) -> Result<Gathered, NoMemory>
-        ensures { IfOk result (λ g. (m : Member) → gathered_in g m ≡ later_done self.entry m (gathered_in gathered m)) }
-    {
-        let (sets, mut left) = self.counted(alloc)?;
-        let mut set = gathered;
+        let mut left = counting(alloc, steps, sets.len())?;
+        let mut growing = Growing::Plain(gathered);
         while let Some(step) = left.pop() {
-            step.apply(alloc, &mut set, &sets)?;
-        }
-        Ok(set)
-    }
-
-    /// The term of the steps.
-    fn grown(self, alloc: Global, gathered: Gathered) -> Result<Closed<'a>, NoMemory>
-        ensures { IfOk result (λ s. (m : Member) → closed_in s m ≡ later_done self.entry m (gathered_in gathered m)) }
-    {
-        let (sets, mut left) = self.counted(alloc)?;
-        let mut growing = Growing::new(gathered);
-        while let Some(step) = left.pop() {
-            growing.take(alloc, step, &sets)?;
+            growing = growing.with_step(alloc, step, &sets, huge)?;
         }
         growing.finish(alloc)
-    }
-
-    /// The set of the bracket, which is a term where one of the sets is so large.
-    #[cold]
-    pub(crate) fn closed(self, alloc: Global, gathered: Gathered) -> Result<Closed<'a>, NoMemory>
-        ensures { IfOk result (λ s. (m : Member) → closed_in s m ≡ later_done self.entry m (gathered_in gathered m)) }
-    {
-        if self.huge {
-            return self.grown(alloc, gathered);
-        }
-        Ok(Closed::Plain(self.done(alloc, gathered)?))
     }
 }

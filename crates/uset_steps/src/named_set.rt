@@ -11,7 +11,7 @@ const MANY_RANGES: usize = 32;
 /// The same of strings, each of which is copied.
 const MANY_STRINGS: usize = 4;
 
-/// From so many ranges on a set is not gathered before the whole pattern is read.
+/// From so many ranges on a set is named in terms, and not gathered.
 const HUGE_RANGES: usize = 4096;
 
 /// The same of strings.
@@ -50,19 +50,6 @@ pub struct Named<'a> {
 impl Drop for Named<'_> {
     fn drop(self) {
         let Self { name: _, set: _ } = self;
-    }
-}
-
-impl<'a> Named<'a> {
-    ghost use Rattle.std.specs.Prelude.{◌≡◌};
-
-    /// The name and the set.
-    pub(crate) fn into_parts(self) -> (Name, NamedSet<'a>)
-        ensures name { result.0 ≡ self.entry.name }
-        ensures set { result.1 ≡ self.entry.set }
-    {
-        let Self { name, set } = self;
-        (name, set)
     }
 }
 
@@ -112,7 +99,7 @@ impl NamedSet<'_> {
         ranges >= MANY_RANGES || strings >= MANY_STRINGS
     }
 
-    /// Whether the set is so large that it's gathered once the whole pattern is read.
+    /// Whether the set is so large that brackets which name it are left as terms.
     pub(crate) fn is_huge(&self) -> bool {
         let (ranges, strings) = self.sizes();
         ranges >= HUGE_RANGES || strings >= HUGE_STRINGS

@@ -1,36 +1,26 @@
-//! Terms: sets that are not gathered before the whole pattern is read.
+//! Terms: sets of brackets that name very large sets, which are not gathered before the whole pattern is read.
 ghost use Rattle.uset_steps.specs.TermSteps.{MakesOne};
 
-use crate::named_set::NamedSet;
-use crate::step::Operation;
-use std::rc::Rc;
+use crate::name::Name;
+use cp_terms::Way;
 use uset_gather::Gathered;
-
-/// Which of the two sets on top is gathered into the other.
-#[derive(Clone, Copy)]
-pub(crate) enum Order {
-    /// The upper into the lower.
-    Upper,
-    /// The lower into the upper.
-    Lower,
-}
 
 /// A step of a term, over a stack of sets.
 #[derive(Drop)]
-pub(crate) enum TermStep<'a> {
+pub(crate) enum TermStep {
     /// Puts down what a bracket gathered.
     Plain(Box<Gathered>),
-    /// Puts down the set with a name.
-    Named(Rc<NamedSet<'a>>),
+    /// Puts down the set with this name.
+    Named(Box<Name>),
     /// Makes one of the two sets on top.
-    Both(Order, Operation),
+    Both(Way),
     /// Exchanges the members of the set on top and the other code points, and forgets its strings.
     Negate,
 }
 
 /// A set as steps over a stack, on which they leave it above what was there.
 #[derive(Drop)]
-pub struct Term<'a> {
-    pub(crate) steps: Vec<TermStep<'a>>,
+pub struct Term {
+    pub(crate) steps: Vec<TermStep>,
     ghost one: { MakesOne steps.items },
 }

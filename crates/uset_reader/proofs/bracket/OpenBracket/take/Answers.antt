@@ -18,5 +18,5 @@ returns c = λ l o i s item.
     let is = item_seen item.tree c.args.item in
     rw item.is (took l c.arranging.ensures old _ o is arranged (next (awaits_seen old.awaits) is) refl (c.in-Some.ensures.arranged item.tree) refl
     (c.gather.ensures.same.opening ∙ c.add_front.ensures.same.opening) (c.gather.ensures.same.before ∙ c.add_front.ensures.same.before)
-    (becomes_then l old.gathered c.add_front.new.self.gathered c.gather.new.self.gathered (range_steps arranged.adds) (own_steps arranged.operation is) c.in_ok-add_front.ensures.becomes (c.in_ok-gather.ensures.becomes l item.tree (c.in_ok-add_front.ensures.becomes.fits (sets_of l) s.fits)
+    (becomes_then l old.gathered c.add_front.new.self.gathered c.gather.new.self.gathered (range_steps arranged.adds) (own_steps arranged.operation is) (c.in_ok-add_front.ensures.becomes.fitting (sets_of l) s.fits) (c.in_ok-gather.ensures.becomes l item.tree (c.in_ok-add_front.ensures.becomes.fitting (sets_of l) s.fits).fits
     (tree_still l old.gathered c.add_front.new.self.gathered c.args.item item.tree c.in_ok-add_front.ensures.becomes.places item.same))) s)

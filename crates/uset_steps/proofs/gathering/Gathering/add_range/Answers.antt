@@ -10,8 +10,8 @@ pub returns-clause-becomes : goal.returns-clause-becomes
 returns-clause-becomes c =
     let before = c.in-Some.later in
     on_both c.put_off.result (λ members fits.
-    put_off c.args.self.now _ before (with_value before c.put_off.new.self) (λ m b. b || in_range c.args.range.start c.args.range.end m) c.in-Some.is refl refl
-    (λ m b. members m b ∙ ap (λ r. later_done before.value m b || in_range r.start r.end m) c.new.ensures) fits)
+    put_off c.args.self.now _ before (with_value before c.put_off.new.self) (λ sets m b. b || in_range c.args.range.start c.args.range.end m) c.in-Some.is refl refl
+    (λ sets m b. members sets m b ∙ ap (λ r. later_done sets before.value m b || in_range r.start r.end m) c.new.ensures) fits)
     (rw c.deref_mut.ensures.value at c.put_off.ensures.members) (rw c.deref_mut.ensures.value at c.put_off.ensures.names)
 
 pub returns-clause-places : goal.returns-clause-places

@@ -12,8 +12,8 @@ returns-in_ok-new-in-Some-clause-becomes c =
     let before = c.in-Some.later in
     let same = ap (λ s. string_bytes s.text) c.in_ok-new-in-Some.ensures.ok ∙ c.new.ensures in
     on_both c.put_off.result (λ members fits.
-    put_off c.args.self.now _ before (with_value before c.put_off.new.self) (λ m b. b || is_string (string_bytes c.args.text) m) c.in-Some.is refl refl
-    (λ m b. members m b ∙ ap (λ bytes. later_done before.value m b || is_string bytes m) same) fits)
+    put_off c.args.self.now _ before (with_value before c.put_off.new.self) (λ sets m b. b || is_string (string_bytes c.args.text) m) c.in-Some.is refl refl
+    (λ sets m b. members sets m b ∙ ap (λ bytes. later_done sets before.value m b || is_string bytes m) same) fits)
     (rw c.deref_mut.ensures.value at c.put_off.ensures.members) (rw c.deref_mut.ensures.value at c.put_off.ensures.names)
 
 pub returns-in_ok-new-in-Some-clause-places : goal.returns-in_ok-new-in-Some-clause-places

@@ -10,12 +10,12 @@ pub returns : goal.returns
 returns c =
     let old = c.args.self.now in
     let made = c.in_ok-later.ensures.ok in
-    record {
+    λ sets fits. record {
       has = λ m.
-          (rw c.deref_mut.ensures.value at c.in_ok-put_off_set.ensures.members) m (gathered_in old.gathered m)
-          ∙ ap (operated c.args.operation (closed_in c.args.set m))
-          ((ap (λ later. later_done later m (gathered_in old.gathered m)) made ∙ c.new.ensures.members m (gathered_in old.gathered m))
-          ∙ sym (ap (λ later. behind later m (gathered_in old.gathered m)) c.requires));
-      fits = λ sets fits.
+          (rw c.deref_mut.ensures.value at c.in_ok-put_off_set.ensures.members) sets m (gathered_in old.gathered m)
+          ∙ ap (operated c.args.operation (closed_in sets c.args.set m))
+          ((ap (λ later. later_done sets later m (gathered_in old.gathered m)) made ∙ c.new.ensures.members sets m (gathered_in old.gathered m))
+          ∙ sym (ap (λ later. behind sets later m (gathered_in old.gathered m)) c.requires));
+      fits =
           (rw c.deref_mut.ensures.value at c.in_ok-put_off_set.ensures.names) sets (subst (LaterFits sets) (sym made) (c.new.ensures.names sets));
     }

@@ -1,4 +1,4 @@
-use Rattle.std.proofs.Common.{rules, ◌∙◌}
+use Rattle.std.proofs.Common.{rules}
 use Rattle.uset_steps.specs.Names.{name_seen}
 use Rattle.uset_steps.proofs.KeptLemmas.{kept_before, kept_now}
 use Rattle.uset_steps.proofs.later.Later.keep.Goals as goal
@@ -8,4 +8,4 @@ returns-in-Some-clause-kept c = λ sets is. kept_before sets (name_seen c.args.n
 
 pub returns-clause-kept : goal.returns-clause-kept
 returns-clause-kept c = λ sets is.
-    kept_now sets c.args.named c.in_ok-new.field-0 c.args.self.now _ c.len-place.result (c.in_ok-new.ensures.ok ∙ c.into_parts-name.ensures.set) (search rules) c.in_ok-push.ensures.items (rw c.into_parts-name.ensures.name at c.in_ok-add.ensures) is
+    kept_now sets c.args.named c.args.self.now _ c.len-place.result (search rules) c.in_ok-push.ensures.items (rw c.in_ok-name.ensures at c.in_ok-add.ensures) is

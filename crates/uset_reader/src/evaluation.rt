@@ -1,0 +1,263 @@
+//! The sets of brackets that were left as terms: each name in a term is looked up once.
+ghost use Rattle.std.specs.Prelude.{◌≡◌, All, [], IfOk, OnOk, map};
+ghost use Rattle.cp_invlist.specs.InversionList.{IsInversionList};
+ghost use Rattle.cp_strset_terms.specs.Leaves.{code_points_of};
+ghost use Rattle.prop_data.specs.Database.{tables_of};
+ghost use Rattle.uset_grammar.specs.Language.{Language};
+ghost use Rattle.uset_grammar.specs.Tree.{Member};
+ghost use Rattle.uset_read.specs.Queries.{query_seen};
+ghost use Rattle.uset_resolve.specs.Resolution.{resolve};
+ghost use Rattle.uset_gather.specs.Gathered.{in_set};
+ghost use Rattle.uset_steps.specs.Names.{variable, property, name_seen, in_meant};
+ghost use Rattle.uset_steps.specs.NumberedTerms.{put_in, steps_over};
+ghost use Rattle.uset_steps.specs.Terms.{term_in, closed_in};
+ghost use Rattle.uset_reader.specs.Evaluation.{lists_of_leaf, lists_of_found, found_in, lists_of_named, some_named_in, puts_complement, AreFound, PushesStep, listed_at, found_at};
+ghost use Rattle.uset_reader.specs.Named.{sets_of};
+ghost use Rattle.uset_reader.specs.Syntaxes.{language_seen};
+
+use crate::property::{resolve_query, set_of};
+use crate::syntax::Syntax;
+use cp_invlist::laws::members_are_code_points;
+use cp_invlist::{CodePointInversionList, NoMemory};
+use cp_strset::CodePointInversionListAndStringList;
+use cp_strset_terms::{Leaf, Step, evaluate};
+use std::alloc::Global;
+use uset_gather::Gathered;
+use uset_read::Query;
+use uset_resolve::Resolver;
+use uset_steps::{Closed, Name, NamedSet, NumberedTerm, Term, TermSet};
+
+/// A set that a term puts down, once its name was looked up.
+enum FoundSet<'v> {
+    /// The set that a name stands for.
+    Named(NamedSet<'v>),
+    /// A set without a name.
+    Gathered(CodePointInversionListAndStringList),
+}
+
+// By hand, so that letting a value go is one call in each proof.
+impl Drop for FoundSet<'_> {
+    fn drop(self) {
+        match self {
+            FoundSet::Named(_) => {}
+            FoundSet::Gathered(_) => {}
+        }
+    }
+}
+
+/// The lists of the set, or of the one whose other code points it has.
+fn leaf_of_named<'f>(set: &'f NamedSet<'_>) -> Leaf<'f>
+    ensures { lists_of_leaf result ≡ lists_of_named set.now }
+{
+    match set {
+        NamedSet::Set(set) => Leaf::WithStrings(set),
+        NamedSet::CodePoints(source) | NamedSet::Complement(source) => Leaf::CodePoints(
+            source.list(),
+        ),
+    }
+}
+
+impl FoundSet<'_> {
+    ghost use Rattle.std.specs.Prelude.{◌≡◌};
+    ghost use Rattle.cp_invlist.specs.InversionList.{IsInversionList};
+    ghost use Rattle.cp_strset_terms.specs.Leaves.{code_points_of};
+    ghost use Rattle.uset_reader.specs.Evaluation.{lists_of_leaf, lists_of_found, is_complement};
+
+    /// The code points of the set, or of the one whose other code points it has.
+    fn code_points(&self) -> &CodePointInversionList
+        ensures list { result.now ≡ (lists_of_found self.now).code_points }
+    {
+        match self {
+            FoundSet::Named(NamedSet::Set(set)) => set.code_points(),
+            FoundSet::Named(NamedSet::CodePoints(source) | NamedSet::Complement(source)) =>
+                source.list(),
+            FoundSet::Gathered(set) => set.code_points(),
+        }
+    }
+
+    /// The lists of the set, or of the one whose other code points it has.
+    fn leaf(&self) -> Leaf<'_>
+        ensures lists { lists_of_leaf result ≡ lists_of_found self.now }
+        ensures canonical { IsInversionList (lists_of_found self.now).code_points }
+    {
+        let _ = self.code_points().get_inversion_list();
+        match self {
+            FoundSet::Named(set) => leaf_of_named(set),
+            FoundSet::Gathered(set) => Leaf::WithStrings(set),
+        }
+    }
+
+    /// Whether the set has the other code points.
+    fn is_complement(&self) -> bool
+        ensures { result ≡ is_complement self.now }
+    {
+        matches!(self, FoundSet::Named(NamedSet::Complement(_)))
+    }
+}
+
+/// The set that the variable is bound to, if it is bound to one.
+fn look_up_variable<'v>(syntax: &Syntax<'v>, name: &str) -> Option<NamedSet<'v>>
+    ensures { (m : Member) →
+        some_named_in result m ≡ in_meant (sets_of (language_seen syntax.now)) (variable name.now) m }
+{
+    let Some(value) = syntax.variables.get(name) else {
+        return None;
+    };
+    match value.as_set() {
+        Some(set) => Some(NamedSet::Set(set)),
+        None => None,
+    }
+}
+
+/// The set that the property asks for, if it resolves.
+fn look_up_property<'v>(
+    alloc: Global,
+    resolver: &mut Resolver<'v>,
+    query: &Query,
+) -> Result<Option<NamedSet<'v>>, NoMemory>
+    ensures same { resolver.new ≡ resolver.old }
+    ensures set { IfOk result (λ set. (l : Language) → l.resolve ≡ resolve (tables_of resolver.old) → (m : Member) →
+        some_named_in set m ≡ in_meant (sets_of l) (property (query_seen query.now)) m) }
+{
+    let resolution = resolve_query(alloc, resolver, query)?;
+    match set_of(resolution, query.negated) {
+        Ok(set) => Ok(Some(set)),
+        Err(_) => Ok(None),
+    }
+}
+
+/// The set that the name stands for, if it stands for one.
+fn look_up<'v>(
+    alloc: Global,
+    syntax: &Syntax<'v>,
+    resolver: &mut Resolver<'v>,
+    name: &Name,
+) -> Result<Option<NamedSet<'v>>, NoMemory>
+    requires { resolver.old ≡ syntax.now.database.now }
+    ensures same { resolver.new ≡ resolver.old }
+    ensures set { IfOk result (λ set. (m : Member) →
+        some_named_in set m ≡ in_meant (sets_of (language_seen syntax.now)) (name_seen name.now) m) }
+{
+    match name {
+        Name::Variable(name) => Ok(look_up_variable(syntax, name.as_str())),
+        Name::Property(query) => look_up_property(alloc, resolver, query),
+    }
+}
+
+/// The set, with its name looked up where it has one.
+fn find<'v>(
+    alloc: Global,
+    syntax: &Syntax<'v>,
+    resolver: &mut Resolver<'v>,
+    set: TermSet,
+) -> Result<FoundSet<'v>, NoMemory>
+    requires { resolver.old ≡ syntax.now.database.now }
+    ensures same { resolver.new ≡ resolver.old }
+    ensures set { IfOk result (λ found. (m : Member) →
+        found_in found m ≡ put_in (sets_of (language_seen syntax.now)) set m) }
+{
+    let name = match set {
+        TermSet::Gathered(set) => return Ok(FoundSet::Gathered(set)),
+        TermSet::Named(name) => name,
+    };
+    match look_up(alloc, syntax, resolver, &name)? {
+        Some(set) => Ok(FoundSet::Named(set)),
+        None => Ok(FoundSet::Gathered(Gathered::new(alloc).into_set(alloc)?)),
+    }
+}
+
+/// The sets, with their names looked up.
+fn find_all<'v>(
+    alloc: Global,
+    syntax: &Syntax<'v>,
+    sets: Vec<TermSet>,
+) -> Result<Vec<FoundSet<'v>>, NoMemory>
+    ensures { IfOk result (λ found. AreFound (sets_of (language_seen syntax.now)) sets.items found.items) }
+{
+    let mut resolver = Resolver::new(alloc, syntax.database);
+    let mut found = Vec::with_capacity(alloc, sets.len())?;
+    for set in sets {
+        found.push(find(alloc, syntax, &mut resolver, set)?)?;
+    }
+    Ok(found)
+}
+
+/// The lists of the sets.
+fn leaves_of<'f>(alloc: Global, found: &'f [FoundSet<'_>]) -> Result<Vec<Leaf<'f>>, NoMemory>
+    ensures lists { IfOk result (λ leaves. map lists_of_leaf leaves.items ≡ map lists_of_found found.now) }
+    ensures canonical { IfOk result (λ leaves. All (λ leaf. IsInversionList (code_points_of leaf)) leaves.items) }
+{
+    let mut leaves = Vec::with_capacity(alloc, found.len())?;
+    for set in found {
+        leaves.push(set.leaf())?;
+    }
+    Ok(leaves)
+}
+
+/// Whether the step puts down the lists of a set that has the other code points.
+fn puts_complement(step: Step, found: &[FoundSet<'_>]) -> bool
+    ensures { result ≡ puts_complement found.now step }
+{
+    match step {
+        Step::Push(number) => found.get(number).is_some_and(FoundSet::is_complement),
+        Step::Both(_) | Step::Complement | Step::Clear => false,
+    }
+}
+
+/// Puts the step behind the others, and where it puts down the lists of a set that has the other code points a complement too.
+fn push_step(all: &mut Vec<Step>, step: Step, found: &[FoundSet<'_>]) -> Result<(), NoMemory>
+    ensures { OnOk result (PushesStep found.now step all.old.items all.new.items) }
+{
+    all.push(step)?;
+    if puts_complement(step, found) {
+        all.push(Step::Complement)?;
+    }
+    Ok(())
+}
+
+/// The steps over the lists of the sets.
+fn with_complements(
+    alloc: Global,
+    steps: &[Step],
+    found: &[FoundSet<'_>],
+) -> Result<Vec<Step>, NoMemory>
+    ensures { IfOk result (λ all. (m : Member) →
+        steps_over m (listed_at (map lists_of_found found.now) m) all.items [] ≡
+        steps_over m (found_at found.now m) steps.now []) }
+{
+    let mut all = Vec::with_capacity(alloc, steps.len())?;
+    for step in steps {
+        push_step(&mut all, *step, found)?;
+    }
+    Ok(all)
+}
+
+/// The set of the term.
+fn evaluate_term(
+    alloc: Global,
+    syntax: &Syntax<'_>,
+    term: Term,
+) -> Result<CodePointInversionListAndStringList, NoMemory>
+    ensures { IfOk result (λ set. (m : Member) → in_set set m ≡ term_in (sets_of (language_seen syntax.now)) term m) }
+{
+    let NumberedTerm { sets, steps } = term.into_numbered(alloc)?;
+    let found = find_all(alloc, syntax, sets)?;
+    let steps = with_complements(alloc, &steps, &found)?;
+    let leaves = leaves_of(alloc, &found)?;
+    members_are_code_points();
+    evaluate(alloc, &leaves, &steps)
+}
+
+/// The set that was read with this syntax, as lists.
+pub fn evaluate_set(
+    alloc: Global,
+    syntax: &Syntax<'_>,
+    set: Closed,
+) -> Result<CodePointInversionListAndStringList, NoMemory>
+    ensures { IfOk result (λ s. (m : Member) → in_set s m ≡ closed_in (sets_of (language_seen syntax.now)) set m) }
+{
+    match set {
+        Closed::Plain(set) => set.into_set(alloc),
+        Closed::Term(term) => evaluate_term(alloc, syntax, Box::into_inner(term)),
+    }
+}
