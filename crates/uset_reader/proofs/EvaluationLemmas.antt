@@ -30,8 +30,8 @@ use Rattle.uset_steps.specs.declared.numbering.TermSet.{TermSet}
 use Rattle.uset_steps.specs.Names.{Sets, variable, in_some, in_meant}
 use Rattle.uset_steps.specs.TermSteps.{negated_top}
 use Rattle.uset_steps.specs.NumberedTerms.{put_in, some_put_in, has_at, step_over, steps_over, numbered_in}
-use Rattle.uset_reader.specs.declared.evaluation.FoundSet.{FoundSet}
-use Rattle.uset_reader.specs.declared.evaluation.FoundSet.TheVariants.{Named, Gathered}
+use Rattle.uset_reader.specs.declared.found.FoundSet.{FoundSet}
+use Rattle.uset_reader.specs.declared.found.FoundSet.TheVariants.{Named, Gathered}
 use Rattle.uset_reader.specs.declared.syntax.Syntax.{Syntax}
 use Rattle.uset_reader.specs.Named.{bound_set, sets_of}
 use Rattle.uset_reader.specs.Syntaxes.{language_seen}
@@ -41,6 +41,12 @@ use Rattle.uset_reader.specs.Evaluation.{lists_of_leaf, lists_of_found, is_compl
 over_more : (m : Member) (v : ℕ → Bool) (ss : List Step) (s : Step) (stack : List Bool) → steps_over m v (ss ++ s ∷ []) stack ≡ step_over m v s (steps_over m v ss stack)
 over_more m v [] s stack = refl
 over_more m v (t ∷ ss) s stack = over_more m v ss s (step_over m v t stack)
+
+-- the next step of a list
+pub over_next : (m : Member) (v : ℕ → Bool) (steps : List Step) (i : ℕ) (d : Step) → i < length steps → step_over m v (slice_index_or steps i d) (steps_over m v (take i steps) []) ≡ steps_over m v (take (i + 1) steps) []
+over_next m v steps i d below =
+    let one : i + 1 ≡ suc i = omega arith in
+    sym (over_more m v (take i steps) (slice_index_or steps i d) []) ∙ ap (λ ss. steps_over m v ss []) (sym (take-suc steps i d below) ∙ ap (λ n. take n steps) (sym one))
 
 -- STEPS OVER CODE POINTS AND STRINGS
 module _ (c : ℕ) (is : is_code_point c ≡ true) (v : ℕ → Bool) where
@@ -155,11 +161,7 @@ module _ (found : List FoundSet) where
   -- the next step was pushed
   pub pushed_next : (steps : List Step) (i : ℕ) (d : Step) (old new : List Step) → i < length steps → ((m : Member) → steps_over m (listed_at (map lists_of_found found) m) old [] ≡ steps_over m (found_at found m) (take i steps) []) →
       PushesStep found (slice_index_or steps i d) old new → (m : Member) → steps_over m (listed_at (map lists_of_found found) m) new [] ≡ steps_over m (found_at found m) (take (i + 1) steps) []
-  pushed_next steps i d old new below h pushes m =
-      let one : i + 1 ≡ suc i = omega arith in
-      pushes m
-      ∙ (ap (step_over m (found_at found m) (slice_index_or steps i d)) (h m)
-      ∙ (sym (over_more m (found_at found m) (take i steps) (slice_index_or steps i d) []) ∙ ap (λ ss. steps_over m (found_at found m) ss []) (sym (take-suc steps i d below) ∙ ap (λ n. take n steps) (sym one))))
+  pushed_next steps i d old new below h pushes m = pushes m ∙ (ap (step_over m (found_at found m) (slice_index_or steps i d)) (h m) ∙ over_next m (found_at found m) steps i d below)
 
 -- the lists of leaves
 leaf_lists : (leaves : List Leaf) (c number : ℕ) → leaf_contains leaves c number ≡ listed_at (map lists_of_leaf leaves) (point c) number
@@ -237,28 +239,27 @@ module _ (s : Syntax) (name : List ℕ) (utf8 : encode_utf8_all (chars name) ≡
 abbrev over : List Leaf → List Step → Member → Bool
 over leaves steps m = top (steps_over m (listed_at (map lists_of_leaf leaves) m) steps [])
 
--- a set that was evaluated has the members of the term
-pub evaluated : MembersAreCodePoints → (sets : Sets) (term : NumberedTerm) (found : List FoundSet) (leaves : List Leaf) (steps : List Step) (set : StringSet) → AreFound sets term.sets.items found →
-    ((m : Member) → steps_over m (listed_at (map lists_of_found found) m) steps [] ≡ steps_over m (found_at found m) term.steps.items []) → map lists_of_leaf leaves ≡ map lists_of_found found →
-    All (λ leaf. IsInversionList (code_points_of leaf)) leaves → ((c : ℕ) → contains set.code_points c ≡ (is_code_point c && value_of (leaf_contains leaves c) steps)) →
-    ((bytes : List ℕ) → holds set.strings bytes ≡ value_of (leaf_holds leaves bytes) (without_complements steps)) → (m : Member) → in_set set m ≡ numbered_in sets term m
-evaluated law sets term found leaves steps set finds same lists canonical points strings m = by m ∙ means m
+-- a set that was evaluated at once has the members that the steps make
+pub at_once : MembersAreCodePoints → (found : List FoundSet) (leaves : List Leaf) (steps all : List Step) (set : StringSet) →
+    ((m : Member) → steps_over m (listed_at (map lists_of_found found) m) all [] ≡ steps_over m (found_at found m) steps []) → map lists_of_leaf leaves ≡ map lists_of_found found →
+    All (λ leaf. IsInversionList (code_points_of leaf)) leaves → ((c : ℕ) → contains set.code_points c ≡ (is_code_point c && value_of (leaf_contains leaves c) all)) →
+    ((bytes : List ℕ) → holds set.strings bytes ≡ value_of (leaf_holds leaves bytes) (without_complements all)) → (m : Member) → in_set set m ≡ top (steps_over m (found_at found m) steps [])
+at_once law found leaves steps all set same lists canonical points strings m = by m ∙ ((λ i. top (steps_over m (listed_at (lists i) m) all [])) ∙ ap top (same m))
   where
-    means : (m : Member) → over leaves steps m ≡ numbered_in sets term m
-    means m =
-        (λ i. top (steps_over m (listed_at (lists i) m) steps []))
-        ∙ (ap top (same m) ∙ (λ i. top (steps_over m (λ number. found_as_put sets term.sets.items found finds m number i) term.steps.items [])))
-
-    at_point : (c : ℕ) (x : Bool) → is_code_point c ≡ x → (is_code_point c && value_of (leaf_contains leaves c) steps) ≡ over leaves steps (point c)
+    at_point : (c : ℕ) (x : Bool) → is_code_point c ≡ x → (is_code_point c && value_of (leaf_contains leaves c) all) ≡ over leaves all (point c)
     at_point c true is =
-        ap (λ t. t && value_of (leaf_contains leaves c) steps) is
-        ∙ ((λ i. value_of (λ number. leaf_lists leaves c number i) steps) ∙ ap top (sym (steps_at c is (listed_at (map lists_of_leaf leaves) (point c)) steps [])))
+        ap (λ t. t && value_of (leaf_contains leaves c) all) is
+        ∙ ((λ i. value_of (λ number. leaf_lists leaves c number i) all) ∙ ap top (sym (steps_at c is (listed_at (map lists_of_leaf leaves) (point c)) all [])))
     at_point c false is =
-        ap (λ t. t && value_of (leaf_contains leaves c) steps) is
-        ∙ sym (none_beyond c is (listed_at (map lists_of_leaf leaves) (point c)) (lists_within law leaves canonical c is) steps)
+        ap (λ t. t && value_of (leaf_contains leaves c) all) is
+        ∙ sym (none_beyond c is (listed_at (map lists_of_leaf leaves) (point c)) (lists_within law leaves canonical c is) all)
 
-    by : (m : Member) → in_set set m ≡ over leaves steps m
+    by : (m : Member) → in_set set m ≡ over leaves all m
     by (point c) = points c ∙ at_point c (is_code_point c) refl
     by (string bytes) =
         strings bytes
-        ∙ ((λ i. value_of (λ number. leaf_strings leaves bytes number i) (without_complements steps)) ∙ ap top (sym (string_steps bytes (listed_at (map lists_of_leaf leaves) (string bytes)) steps [])))
+        ∙ ((λ i. value_of (λ number. leaf_strings leaves bytes number i) (without_complements all)) ∙ ap top (sym (string_steps bytes (listed_at (map lists_of_leaf leaves) (string bytes)) all [])))
+
+-- what the steps make of the sets that were found is the set of the term
+pub as_numbered : (sets : Sets) (term : NumberedTerm) (found : List FoundSet) → AreFound sets term.sets.items found → (m : Member) → top (steps_over m (found_at found m) term.steps.items []) ≡ numbered_in sets term m
+as_numbered sets term found finds m = λ i. top (steps_over m (λ number. found_as_put sets term.sets.items found finds m number i) term.steps.items [])

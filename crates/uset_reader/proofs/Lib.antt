@@ -6,4 +6,5 @@ pub mod UnitLemmas
 pub mod TurnLemmas
 pub mod ReaderLemmas
 pub mod EvaluationLemmas
+pub mod MakingLemmas
 pub mod SyntaxLemmas

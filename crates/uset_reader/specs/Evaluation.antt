@@ -12,8 +12,8 @@ use Rattle.uset_steps.specs.declared.named_set.NamedSet.TheVariants.{Set, CodePo
 use Rattle.uset_steps.specs.declared.numbering.TermSet.{TermSet}
 use Rattle.uset_steps.specs.Names.{Sets, named_in}
 use Rattle.uset_steps.specs.NumberedTerms.{put_in, step_over, steps_over}
-use Rattle.uset_reader.specs.declared.evaluation.FoundSet.{FoundSet}
-use Rattle.uset_reader.specs.declared.evaluation.FoundSet.TheVariants.{Named, Gathered}
+use Rattle.uset_reader.specs.declared.found.FoundSet.{FoundSet}
+use Rattle.uset_reader.specs.declared.found.FoundSet.TheVariants.{Named, Gathered}
 
 abbrev pub some_named_in : Option NamedSet → Member → Bool
 some_named_in None m = false

@@ -9,4 +9,5 @@ pub mod Faults
 pub mod Turns
 pub mod Readings
 pub mod Evaluation
+pub mod Making
 pub mod Laws

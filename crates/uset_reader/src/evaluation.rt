@@ -2,6 +2,7 @@
 ghost use Rattle.std.specs.Prelude.{◌≡◌, All, [], IfOk, OnOk, map};
 ghost use Rattle.cp_invlist.specs.InversionList.{IsInversionList};
 ghost use Rattle.cp_strset_terms.specs.Leaves.{code_points_of};
+ghost use Rattle.cp_terms.specs.Terms.{top};
 ghost use Rattle.prop_data.specs.Database.{tables_of};
 ghost use Rattle.uset_grammar.specs.Language.{Language};
 ghost use Rattle.uset_grammar.specs.Tree.{Member};
@@ -11,14 +12,16 @@ ghost use Rattle.uset_gather.specs.Gathered.{in_set};
 ghost use Rattle.uset_steps.specs.Names.{variable, property, name_seen, in_meant};
 ghost use Rattle.uset_steps.specs.NumberedTerms.{put_in, steps_over};
 ghost use Rattle.uset_steps.specs.Terms.{term_in, closed_in};
-ghost use Rattle.uset_reader.specs.Evaluation.{lists_of_leaf, lists_of_found, found_in, lists_of_named, some_named_in, puts_complement, AreFound, PushesStep, listed_at, found_at};
+ghost use Rattle.uset_reader.specs.Evaluation.{lists_of_leaf, lists_of_found, found_in, some_named_in, puts_complement, AreFound, PushesStep, listed_at, found_at};
 ghost use Rattle.uset_reader.specs.Named.{sets_of};
 ghost use Rattle.uset_reader.specs.Syntaxes.{language_seen};
 
+use crate::found::FoundSet;
+use crate::making::gather_steps;
 use crate::property::{resolve_query, set_of};
 use crate::syntax::Syntax;
+use cp_invlist::NoMemory;
 use cp_invlist::laws::members_are_code_points;
-use cp_invlist::{CodePointInversionList, NoMemory};
 use cp_strset::CodePointInversionListAndStringList;
 use cp_strset_terms::{Leaf, Step, evaluate};
 use std::alloc::Global;
@@ -27,73 +30,8 @@ use uset_read::Query;
 use uset_resolve::Resolver;
 use uset_steps::{Closed, Name, NamedSet, NumberedTerm, Term, TermSet};
 
-/// A set that a term puts down, once its name was looked up.
-enum FoundSet<'v> {
-    /// The set that a name stands for.
-    Named(NamedSet<'v>),
-    /// A set without a name.
-    Gathered(CodePointInversionListAndStringList),
-}
-
-// By hand, so that letting a value go is one call in each proof.
-impl Drop for FoundSet<'_> {
-    fn drop(self) {
-        match self {
-            FoundSet::Named(_) => {}
-            FoundSet::Gathered(_) => {}
-        }
-    }
-}
-
-/// The lists of the set, or of the one whose other code points it has.
-fn leaf_of_named<'f>(set: &'f NamedSet<'_>) -> Leaf<'f>
-    ensures { lists_of_leaf result ≡ lists_of_named set.now }
-{
-    match set {
-        NamedSet::Set(set) => Leaf::WithStrings(set),
-        NamedSet::CodePoints(source) | NamedSet::Complement(source) => Leaf::CodePoints(
-            source.list(),
-        ),
-    }
-}
-
-impl FoundSet<'_> {
-    ghost use Rattle.std.specs.Prelude.{◌≡◌};
-    ghost use Rattle.cp_invlist.specs.InversionList.{IsInversionList};
-    ghost use Rattle.cp_strset_terms.specs.Leaves.{code_points_of};
-    ghost use Rattle.uset_reader.specs.Evaluation.{lists_of_leaf, lists_of_found, is_complement};
-
-    /// The code points of the set, or of the one whose other code points it has.
-    fn code_points(&self) -> &CodePointInversionList
-        ensures list { result.now ≡ (lists_of_found self.now).code_points }
-    {
-        match self {
-            FoundSet::Named(NamedSet::Set(set)) => set.code_points(),
-            FoundSet::Named(NamedSet::CodePoints(source) | NamedSet::Complement(source)) =>
-                source.list(),
-            FoundSet::Gathered(set) => set.code_points(),
-        }
-    }
-
-    /// The lists of the set, or of the one whose other code points it has.
-    fn leaf(&self) -> Leaf<'_>
-        ensures lists { lists_of_leaf result ≡ lists_of_found self.now }
-        ensures canonical { IsInversionList (lists_of_found self.now).code_points }
-    {
-        let _ = self.code_points().get_inversion_list();
-        match self {
-            FoundSet::Named(set) => leaf_of_named(set),
-            FoundSet::Gathered(set) => Leaf::WithStrings(set),
-        }
-    }
-
-    /// Whether the set has the other code points.
-    fn is_complement(&self) -> bool
-        ensures { result ≡ is_complement self.now }
-    {
-        matches!(self, FoundSet::Named(NamedSet::Complement(_)))
-    }
-}
+/// A term of so few steps is gathered step by step, which takes less time than going over all code points.
+const FEW: usize = 32;
 
 /// The set that the variable is bound to, if it is bound to one.
 fn look_up_variable<'v>(syntax: &Syntax<'v>, name: &str) -> Option<NamedSet<'v>>
@@ -232,6 +170,20 @@ fn with_complements(
     Ok(all)
 }
 
+/// The set that the steps make, evaluated at once.
+fn evaluate_at_once(
+    alloc: Global,
+    steps: &[Step],
+    found: &[FoundSet<'_>],
+) -> Result<CodePointInversionListAndStringList, NoMemory>
+    ensures { IfOk result (λ set. (m : Member) → in_set set m ≡ top (steps_over m (found_at found.now m) steps.now [])) }
+{
+    let steps = with_complements(alloc, steps, found)?;
+    let leaves = leaves_of(alloc, found)?;
+    members_are_code_points();
+    evaluate(alloc, &leaves, &steps)
+}
+
 /// The set of the term.
 fn evaluate_term(
     alloc: Global,
@@ -242,10 +194,10 @@ fn evaluate_term(
 {
     let NumberedTerm { sets, steps } = term.into_numbered(alloc)?;
     let found = find_all(alloc, syntax, sets)?;
-    let steps = with_complements(alloc, &steps, &found)?;
-    let leaves = leaves_of(alloc, &found)?;
-    members_are_code_points();
-    evaluate(alloc, &leaves, &steps)
+    if steps.len() <= FEW {
+        return gather_steps(alloc, &steps, &found);
+    }
+    evaluate_at_once(alloc, &steps, &found)
 }
 
 /// The set that was read with this syntax, as lists.

@@ -1,0 +1,94 @@
+//! Sets of terms that were looked up.
+ghost use Rattle.std.specs.Prelude.{◌≡◌};
+ghost use Rattle.uset_reader.specs.Evaluation.{lists_of_leaf, lists_of_named};
+
+use cp_invlist::{CodePointInversionList, NoMemory};
+use cp_strset::CodePointInversionListAndStringList;
+use cp_strset_terms::Leaf;
+use std::alloc::Global;
+use uset_gather::{Gathered, Operand};
+use uset_steps::NamedSet;
+
+/// A set that a term puts down, once its name was looked up.
+pub(crate) enum FoundSet<'v> {
+    /// The set that a name stands for.
+    Named(NamedSet<'v>),
+    /// A set without a name.
+    Gathered(CodePointInversionListAndStringList),
+}
+
+// By hand, so that letting a value go is one call in each proof.
+impl Drop for FoundSet<'_> {
+    fn drop(self) {
+        match self {
+            FoundSet::Named(_) => {}
+            FoundSet::Gathered(_) => {}
+        }
+    }
+}
+
+/// The lists of the set, or of the one whose other code points it has.
+fn leaf_of_named<'f>(set: &'f NamedSet<'_>) -> Leaf<'f>
+    ensures { lists_of_leaf result ≡ lists_of_named set.now }
+{
+    match set {
+        NamedSet::Set(set) => Leaf::WithStrings(set),
+        NamedSet::CodePoints(source) | NamedSet::Complement(source) => Leaf::CodePoints(
+            source.list(),
+        ),
+    }
+}
+
+impl FoundSet<'_> {
+    ghost use Rattle.std.specs.Prelude.{◌≡◌, IfOk};
+    ghost use Rattle.cp_invlist.specs.InversionList.{IsInversionList};
+    ghost use Rattle.uset_grammar.specs.Tree.{Member};
+    ghost use Rattle.uset_gather.specs.Gathered.{gathered_in};
+    ghost use Rattle.cp_strset_terms.specs.Leaves.{code_points_of};
+    ghost use Rattle.uset_reader.specs.Evaluation.{lists_of_leaf, lists_of_found, is_complement, found_in};
+
+    /// The code points of the set, or of the one whose other code points it has.
+    fn code_points(&self) -> &CodePointInversionList
+        ensures list { result.now ≡ (lists_of_found self.now).code_points }
+    {
+        match self {
+            FoundSet::Named(NamedSet::Set(set)) => set.code_points(),
+            FoundSet::Named(NamedSet::CodePoints(source) | NamedSet::Complement(source)) =>
+                source.list(),
+            FoundSet::Gathered(set) => set.code_points(),
+        }
+    }
+
+    /// The lists of the set, or of the one whose other code points it has.
+    pub(crate) fn leaf(&self) -> Leaf<'_>
+        ensures lists { lists_of_leaf result ≡ lists_of_found self.now }
+        ensures canonical { IsInversionList (lists_of_found self.now).code_points }
+    {
+        let _ = self.code_points().get_inversion_list();
+        match self {
+            FoundSet::Named(set) => leaf_of_named(set),
+            FoundSet::Gathered(set) => Leaf::WithStrings(set),
+        }
+    }
+
+    /// Whether the set has the other code points.
+    pub(crate) fn is_complement(&self) -> bool
+        ensures { result ≡ is_complement self.now }
+    {
+        matches!(self, FoundSet::Named(NamedSet::Complement(_)))
+    }
+
+    /// The set, to be gathered with others.
+    pub(crate) fn gathered(&self, alloc: Global) -> Result<Gathered, NoMemory>
+        ensures { IfOk result (λ set. (m : Member) → gathered_in set m ≡ found_in self.now m) }
+    {
+        match self {
+            FoundSet::Named(set) => set.gathered(alloc),
+            FoundSet::Gathered(set) => {
+                let mut gathered = Gathered::new(alloc);
+                gathered.join(alloc, Operand::Set(set))?;
+                Ok(gathered)
+            }
+        }
+    }
+}
