@@ -18,7 +18,7 @@ TIMES = (1_000, 10_000, 100_000, 1_000_000)
 MOST_BYTES = 1 << 23
 
 # In how many brackets it is named.
-BRACKETS = (1, 10, 100)
+BRACKETS = (1, 10, 100, 10_000, 500_000)
 
 # In how many that stand open at once: of properties, and of variables, which are larger.
 OPEN_PROPERTIES, OPEN_VARIABLES = 50_000, 100
@@ -65,7 +65,10 @@ def named_in_brackets(program, before, sets):
     for label, name in sets:
         start, _ = seconds(program, before + f"pat [{name}]\n")
         for count in BRACKETS:
-            taken, _ = seconds(program, before + "pat [" + f"[{name}-[b]]" * count + "]\n")
+            text = before + "pat [" + f"[{name}-[b]]" * count + "]\n"
+            if len(text.encode("utf-8")) > MOST_BYTES:
+                continue
+            taken, _ = seconds(program, text)
             net = max(taken - start, 0.0)
             print(f"| {label} | {count:,} | {net * 1e3:.1f} | {net * 1e6 / count:.0f} |", flush=True)
 

@@ -69,8 +69,6 @@ fn has_two_names(alloc: Global) -> Result<bool, NoMemory> {
 
 #[test]
 fn each_name_of_a_term_has_one_number(rt: HostRuntime) {
-    match has_two_names(rt.alloc()) {
-        Ok(holds) => assert!(holds),
-        Err(_) => assert!(false),
-    }
+    let holds = has_two_names(rt.alloc()).unwrap_or(false);
+    assert!(rt; holds);
 }

@@ -57,6 +57,21 @@ fn a_set_of_many_strings_counts_where_it_stands(rt: HostRuntime) {
     }
 }
 
+/// Whether the pattern denotes its members in front of so many empty brackets that its term is evaluated at once.
+fn denotes_in_front(alloc: Global, pattern: &str, members: &str) -> Result<bool, AllocError> {
+    let empty = "[$w-$w]".repeat(alloc, 16)?;
+    let long = format!(in alloc; "[{pattern}{empty}]")?;
+    denotes(alloc, &long, members)
+}
+
+#[test]
+fn it_counts_alike_in_long_patterns(rt: HostRuntime) {
+    for (pattern, members) in DENOTED {
+        let holds = denotes_in_front(rt.alloc(), pattern, members);
+        assert_holds(&rt, holds, pattern, members);
+    }
+}
+
 /// A pattern in which two texts stand a thousand times each.
 struct Repeated {
     front: &'static str,
@@ -92,6 +107,14 @@ const REPEATED: &[Repeated] = &[
         second: "",
         end: "]",
         members: "0064",
+    },
+    Repeated {
+        front: "[",
+        first: "[$w[:^L:]]",
+        middle: "&[a-e{aa}]",
+        second: "",
+        end: "]",
+        members: "0061-0063 {0061_0061}",
     },
 ];
 
