@@ -1,12 +1,11 @@
 -- What operations on words do to their bits.
-use Rattle.std.proofs.Common.{◌≡◌, ℕ, zero, suc, ◌+◌, ◌*◌, ◌-◌, ◌^◌, ◌%◌, ◌<◌, max, min, true, false, not, ◌&&◌, ◌||◌, ◌==◌, nat_le, List, [], ◌∷◌, ◌++◌, refl, sym, ap, ◌∙◌, arith, bit_and, bit_or, get_or, inl, inr}
+use Rattle.std.proofs.Common.{◌≡◌, ℕ, zero, suc, ◌+◌, ◌*◌, ◌-◌, ◌^◌, ◌%◌, ◌<◌, max, min, true, false, not, ◌&&◌, ◌||◌, ◌==◌, nat_le, refl, sym, ap, ◌∙◌, arith, bit_and, bit_or, inl, inr}
 use Rattle.std.specs.Int.{bit_at, w128}
 use Rattle.std.specs.Int.RustNames.{bit_xor}
 use Rattle.std.proofs.lemmas.Bool.{cases_lt, le-leb, lt-leb}
-use Rattle.std.proofs.lemmas.Grind.{common_steps}
 use Rattle.std.proofs.lemmas.Nat.Bits.{bit_at_and, bit_at_or, bit_at_xor, bit_at_not, bit_at_ones, bit_at-zero, bit_at-lt, bit_at_mask_inside, bit_at_mask_below, ones_shl}
 use Rattle.cp_invlist.specs.InversionList.{differ}
-use Rattle.cp_terms.specs.Words.{has_bit, word_marks, word_holds}
+use Rattle.cp_terms.specs.Words.{has_bit}
 
 or_of : (x y : ℕ) → x < 2 → y < 2 → (max x y == 1) ≡ (x == 1 || y == 1)
 or_of zero zero hx hy = refl
@@ -74,12 +73,3 @@ has_bit-ones j hj = ap (λ n. n == 1) (bit_at_ones 128 j hj)
 
 pub has_bit-zero : (j : ℕ) → has_bit 0 j ≡ false
 has_bit-zero j = ap (λ n. n == 1) (bit_at-zero j)
-
--- a word on top of others
-pub word_marks-push : (j : ℕ) (words : List ℕ) (word : ℕ) → word_marks j (words ++ word ∷ []) ≡ has_bit word j ∷ word_marks j words
-word_marks-push j words word = grind (arith, common_steps)
-
-pub word_holds-get_or : (words : List ℕ) (j index : ℕ) → word_holds words j index ≡ has_bit (get_or words index 0) j
-word_holds-get_or [] j index = sym (has_bit-zero j)
-word_holds-get_or (word ∷ words) j zero = refl
-word_holds-get_or (word ∷ words) j (suc index) = word_holds-get_or words j index

@@ -1,5 +1,6 @@
 pub mod TermsLemmas
 pub mod BitLemmas
+pub mod BlockLemmas
 pub mod WindowLemmas
 pub mod ShortenLemmas
 pub mod RunsLemmas

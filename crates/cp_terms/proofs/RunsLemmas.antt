@@ -8,7 +8,7 @@ use Rattle.cp_invlist.specs.InversionList.{contains}
 use Rattle.cp_invlist.specs.declared.set.CodePointInversionList.{CodePointInversionList}
 use Rattle.cp_terms.specs.declared.runs.Runs.{Runs}
 use Rattle.cp_terms.specs.declared.step.Step.{Step}
-use Rattle.cp_terms.specs.Runs.{AreConstant, AreRuns, IsOpenBefore, is_in_open, members_of}
+use Rattle.cp_terms.specs.Runs.{AreConstant, AreRuns, IsBegunBefore, is_in_begun, members_of}
 
 -- where all bits are the same, so are the members
 pub constant_word : (m : ℕ → Bool) (place word : ℕ) (inside : Bool) → ((j : ℕ) → j < 128 → has_bit word j ≡ inside) → ((j : ℕ) → j < 128 → m (place + j) ≡ has_bit word j) → AreConstant m place (place + 128) inside
@@ -21,8 +21,8 @@ constant_bit m place word j at inside is lt same bits c le below =
     ap m (let e : c ≡ place + j = omega arith in e) ∙ (bits j lt ∙ sym same)
 
 -- what starts before a place starts before a later one
-pub open_later : (runs : Runs) (place later : ℕ) → place ≤ later → IsOpenBefore place runs → IsOpenBefore later runs
-open_later runs place later le h start is = omega (arith, h start is)
+pub begun_later : (runs : Runs) (place later : ℕ) → place ≤ later → IsBegunBefore place runs → IsBegunBefore later runs
+begun_later runs place later le h start is = omega (arith, h start is)
 
 -- a step on
 pub runs_at : (m : ℕ → Bool) (runs : Runs) (place other : ℕ) → place ≡ other → AreRuns m place runs → AreRuns m other runs
@@ -33,8 +33,8 @@ pub members_past : (sets : List (Bor CodePointInversionList)) (ss : List Step) (
 members_past sets ss c le = ap (λ b. b && value_of (holds_at (map (λ s. s.now) sets) c) ss) (lt-leb c 0x10FFFF (omega arith))
 
 -- behind the last code point all is closed
-pub closed_whole : (m : ℕ → Bool) (runs : Runs) → AreRuns m 0x110001 runs → runs.open ≡ None → ((c : ℕ) → 0x110000 ≤ c → m c ≡ false) → (c : ℕ) → contains runs.closed c ≡ m c
+pub closed_whole : (m : ℕ → Bool) (runs : Runs) → AreRuns m 0x110001 runs → runs.begun ≡ None → ((c : ℕ) → 0x110000 ≤ c → m c ≡ false) → (c : ℕ) → contains runs.closed c ≡ m c
 closed_whole m runs are none past c = elim (cases_lt c 0x110001) [
-  | inl below ↦ sym (ap (λ o. contains runs.closed c || is_in_open o c) none ∙ or-false (contains runs.closed c)) ∙ are.below c below
+  | inl below ↦ sym (ap (λ o. contains runs.closed c || is_in_begun o c) none ∙ or-false (contains runs.closed c)) ∙ are.below c below
   | inr behind ↦ are.behind c behind ∙ sym (past c (omega arith))
 ]

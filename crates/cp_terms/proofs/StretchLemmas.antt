@@ -1,5 +1,5 @@
 -- What is known of terms on a stretch.
-use Rattle.std.proofs.Common.{◌≡◌, ℕ, ◌+◌, ◌<◌, ◌≤◌, Bool, List, [], Option, None, Some, map, Contains, ◌⊎◌, ◌&&◌, length, get_or, Bor, refl, sym, ap, ◌∙◌, arith, subst, inl, inr}
+use Rattle.std.proofs.Common.{◌≡◌, ℕ, ◌+◌, ◌*◌, ◌<◌, ◌≤◌, Bool, false, List, [], Option, None, Some, map, Contains, ◌⊎◌, ◌&&◌, length, get_or, Bor, refl, sym, ap, ◌∙◌, arith, subst, inl, inr}
 use Rattle.std.specs.List.{slice_get}
 use Rattle.std.proofs.lemmas.Option.{slice_get_within, slice_get_cases, slice_get-get_or}
 use Rattle.std.proofs.lemmas.Bool.{le-leb}
@@ -8,12 +8,13 @@ use Rattle.cp_terms.specs.declared.windows.Window.{Window}
 use Rattle.cp_terms.specs.declared.step.Step.{Step}
 use Rattle.cp_terms.specs.declared.shorten.Shortened.{Shortened}
 use Rattle.cp_terms.specs.Terms.{steps_done, top, value_of, holds_at}
-use Rattle.cp_terms.specs.Words.{word_holds}
-use Rattle.cp_terms.specs.Windows.{AreWindows, HasWord, HoldsMixed}
+use Rattle.cp_terms.specs.declared.block.Block.{Block}
+use Rattle.cp_terms.specs.Blocks.{block_has, block_holds}
+use Rattle.cp_terms.specs.Windows.{AreWindows, HasBlock, HoldsMixed}
 use Rattle.cp_terms.specs.Shorten.{Agree, AgreesAt, FitsTerm}
 use Rattle.cp_terms.specs.Runs.{AreConstant, AreMade, members_of}
 use Rattle.cp_terms.proofs.WindowLemmas.{window_tells}
-use Rattle.cp_terms.proofs.BitLemmas.{word_holds-get_or}
+use Rattle.cp_terms.proofs.BlockLemmas.{block_holds-get_or}
 use Rattle.cp_terms.proofs.TermsLemmas.{holds_at-reference, holds_at-past}
 
 -- the set with an index
@@ -31,15 +32,15 @@ set_there sets windows i window same at =
     found o is (inl h) = record { set = h.0; at = h.2 }
     found o is (inr h) = absurd (omega (arith, slice_get_within windows i window at, same, h.0))
 
--- the words of the sets that change are right
-pub holds_mixed : (sets : List (Bor CodePointInversionList)) (windows : List Window) (end place j : ℕ) (words mixed : List ℕ) → length words ≡ length sets →
-    ((i : ℕ) (window : Window) → slice_get windows i ≡ Some window → window.next < end → Contains mixed i) → ((i : ℕ) → Contains mixed i → HasWord sets place words i) → j < 128 →
-    HoldsMixed sets windows end (place + j) (word_holds words j)
-holds_mixed sets windows end place j words mixed same listed right lt i set window at of_it below =
-    let short : i < length words = omega (arith, slice_get_within sets i set at, same) in
-    word_holds-get_or words j i ∙ right i (listed i window of_it below) set (get_or words i 0) at (slice_get-get_or words i 0 short) j lt
+-- the blocks of the sets that change are right
+pub holds_mixed : (sets : List (Bor CodePointInversionList)) (windows : List Window) (end place i j : ℕ) (blocks : List Block) (mixed : List ℕ) (empty : Block) → block_has empty i j ≡ false → length blocks ≡ length sets →
+    ((k : ℕ) (window : Window) → slice_get windows k ≡ Some window → window.next < end → Contains mixed k) → ((k : ℕ) → Contains mixed k → HasBlock sets place blocks k) → i < 8 → j < 128 →
+    HoldsMixed sets windows end (place + 128 * i + j) (block_holds blocks i j)
+holds_mixed sets windows end place i j blocks mixed empty none same listed right short lt k set window at of_it below =
+    let within : k < length blocks = omega (arith, slice_get_within sets k set at, same) in
+    block_holds-get_or blocks empty i j k none ∙ right k (listed k window of_it below) set (get_or blocks k empty) at (slice_get-get_or blocks k empty within) i j short lt
 
--- on a stretch the windows and the words of the sets that change tell all members
+-- on a stretch the windows and the blocks of the sets that change tell all members
 pub agree_from : (sets : List (Bor CodePointInversionList)) (windows : List Window) (start end c : ℕ) (w : ℕ → Bool) → length windows ≡ length sets → AreWindows sets start windows → start ≤ c → c < end →
     HoldsMixed sets windows end c w → Agree windows end (holds_at (map (λ s. s.now) sets) c) w
 agree_from sets windows start end c w same are le lt mixed = record { at = λ i. told i (slice_get windows i) refl }

@@ -11,8 +11,9 @@ use Rattle.cp_invlist.specs.Cuts.{CutAfter}
 use Rattle.cp_invlist.specs.declared.set.CodePointInversionList.{CodePointInversionList}
 use Rattle.cp_invlist.proofs.Lists.{ascends_from-parts, ascends_from-cons, ascends_from-drop, ascends_from-raise, contains-append, contains-below, contains-all_at_most, IsInversionList-parts}
 use Rattle.cp_invlist.proofs.Partition.{IsNonDecreasingBy-ascends, odd_length, contains-cut}
+use Rattle.cp_terms.specs.declared.block.Block.{Block}
 use Rattle.cp_terms.specs.declared.windows.Window.{Window}
-use Rattle.cp_terms.specs.Windows.{IsWindow, AreWindows, HasWord, is_inside}
+use Rattle.cp_terms.specs.Windows.{IsWindow, AreWindows, HasBlock, is_inside}
 
 -- no element behind a place is below the one there
 pub next_least : (xs : List ℕ) (i next : ℕ) → ascends_from 0 xs ≡ true → i < length xs → ((d : ℕ) → get_or xs i d ≡ next) → All (λ x. next ≤ x) (drop i xs)
@@ -140,11 +141,11 @@ one_listed : (x i : ℕ) → Contains (x ∷ []) i → x ≡ i
 one_listed x i (zero, lt, is) = is
 one_listed x i (suc k, lt, is) = absurd (omega (arith, lt))
 
--- one word more is right
-pub words_more : (sets : List (Bor CodePointInversionList)) (place : ℕ) (old new mixed : List ℕ) (k : ℕ) → k < length mixed → ((i : ℕ) → Contains (take k mixed) i → HasWord sets place old i) →
-    HasWord sets place new (get_or mixed k 0) → ((i : ℕ) → HasWord sets place old i → HasWord sets place new i) → (i : ℕ) → Contains (take (k + 1) mixed) i → HasWord sets place new i
-words_more sets place old new mixed k lt before here others i listed =
+-- one block more is right
+pub blocks_more : (sets : List (Bor CodePointInversionList)) (place : ℕ) (old new : List Block) (mixed : List ℕ) (k : ℕ) → k < length mixed → ((i : ℕ) → Contains (take k mixed) i → HasBlock sets place old i) →
+    HasBlock sets place new (get_or mixed k 0) → ((i : ℕ) → HasBlock sets place old i → HasBlock sets place new i) → (i : ℕ) → Contains (take (k + 1) mixed) i → HasBlock sets place new i
+blocks_more sets place old new mixed k lt before here others i listed =
     elim (Contains-append_cases (take k mixed) (get_or mixed k 0 ∷ []) i (subst (λ (l : List ℕ). Contains l i) (take_more mixed k 0 lt) listed)) [
       | inl was ↦ others i (before i was)
-      | inr is ↦ subst (HasWord sets place new) (one_listed (get_or mixed k 0) i is) here
+      | inr is ↦ subst (HasBlock sets place new) (one_listed (get_or mixed k 0) i is) here
     ]

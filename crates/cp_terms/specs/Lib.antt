@@ -1,5 +1,6 @@
 pub mod Terms
 pub mod Words
+pub mod Blocks
 pub mod Windows
 pub mod Shorten
 pub mod Runs

@@ -10,18 +10,18 @@ use Rattle.cp_terms.specs.declared.windows.Window.{Window}
 use Rattle.cp_terms.specs.Terms.{value_of, holds_at}
 use Rattle.cp_terms.specs.Windows.{HoldsMixed}
 
--- the number lies in the run that is open, if one is
-abbrev pub is_in_open : Option ℕ → ℕ → Bool
-is_in_open None c = false
-is_in_open (Some start) c = nat_le start c
+-- the number lies in the run that is begun, if one is
+abbrev pub is_in_begun : Option ℕ → ℕ → Bool
+is_in_begun None c = false
+is_in_begun (Some start) c = nat_le start c
 
--- the open run starts before the place
-abbrev pub IsOpenBefore : ℕ → Runs → Type 0
-IsOpenBefore place runs = ForSome runs.open (λ start. start < place)
+-- the run that is begun starts before the place
+abbrev pub IsBegunBefore : ℕ → Runs → Type 0
+IsBegunBefore place runs = ForSome runs.begun (λ start. start < place)
 
 -- up to the place the runs have the members, and from there on nothing is closed
 pub record AreRuns (m : ℕ → Bool) (place : ℕ) (runs : Runs) : Type 0 where
-  pub below : (c : ℕ) → c < place → (contains runs.closed c || is_in_open runs.open c) ≡ m c
+  pub below : (c : ℕ) → c < place → (contains runs.closed c || is_in_begun runs.begun c) ≡ m c
   pub behind : (c : ℕ) → place ≤ c → contains runs.closed c ≡ false
 
 -- the members are constant from the place up to the end

@@ -4,7 +4,8 @@ use Rattle.std.specs.Borrow.{Bor}
 use Rattle.cp_invlist.specs.InversionList.{contains}
 use Rattle.cp_invlist.specs.declared.set.CodePointInversionList.{CodePointInversionList}
 use Rattle.cp_terms.specs.declared.windows.Window.{Window}
-use Rattle.cp_terms.specs.Words.{IsWord}
+use Rattle.cp_terms.specs.declared.block.Block.{Block}
+use Rattle.cp_terms.specs.Blocks.{IsBlock}
 
 -- the elements that are counted are at most the place, and the others at least the next
 pub record IsWindow (xs : List ℕ) (place : ℕ) (window : Window) : Type 0 where
@@ -21,10 +22,10 @@ abbrev pub AreWindows : List (Bor CodePointInversionList) → ℕ → List Windo
 AreWindows sets place windows = (i : ℕ) (set : Bor CodePointInversionList) (window : Window) →
     slice_get sets i ≡ Some set → slice_get windows i ≡ Some window → IsWindow set.now place window
 
--- the set with the index has its word
-abbrev pub HasWord : List (Bor CodePointInversionList) → ℕ → List ℕ → ℕ → Type 0
-HasWord sets place words i = (set : Bor CodePointInversionList) (word : ℕ) →
-    slice_get sets i ≡ Some set → slice_get words i ≡ Some word → IsWord set.now place word
+-- the set with the index has its block
+abbrev pub HasBlock : List (Bor CodePointInversionList) → ℕ → List Block → ℕ → Type 0
+HasBlock sets place blocks i = (set : Bor CodePointInversionList) (block : Block) →
+    slice_get sets i ≡ Some set → slice_get blocks i ≡ Some block → IsBlock set.now place block
 
 -- the sets that change before the end have the code point where the valuation says so
 abbrev pub HoldsMixed : List (Bor CodePointInversionList) → List Window → ℕ → ℕ → (ℕ → Bool) → Type 0

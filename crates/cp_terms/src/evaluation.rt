@@ -3,50 +3,51 @@ ghost use Rattle.std.specs.Prelude.{◌≡◌, ℕ, ◌+◌, ◌<◌, ◌≤◌,
 ghost use Rattle.cp_invlist.specs.InversionList.{contains, is_code_point};
 ghost use Rattle.cp_terms.specs.Terms.{value_of, holds_at};
 ghost use Rattle.cp_terms.specs.Windows.{AreWindows};
-ghost use Rattle.cp_terms.specs.Runs.{IsOpenBefore, AreRuns, AreMade, members_of};
+ghost use Rattle.cp_terms.specs.Runs.{IsBegunBefore, AreRuns, AreMade, members_of};
 
+use crate::block::Block;
+use crate::blocks::evaluate_blocks;
 use crate::runs::Runs;
 use crate::shorten::Shortened;
 use crate::step::Step;
-use crate::windows::{Window, fill_words, mixed_before, move_all};
-use crate::words::evaluate_words;
+use crate::windows::{Window, fill_blocks, mixed_before, move_all};
 use cp_invlist::{CodePointInversionList, LAST_CODE_POINT, NoMemory};
 use std::alloc::Global;
 
-/// How many code points are looked at with one shortened term: 128 words of 128 bits.
+/// How many code points are looked at with one shortened term: 16 blocks of 8 words of 128 bits.
 const STRETCH: u32 = 128 * 128;
 
 /// How many stretches there are.
 const STRETCHES: u32 = 68;
 
-/// Writes a stretch word by word.
-fn write_words(
+/// Writes a stretch block by block.
+fn write_blocks(
     alloc: Global,
     sets: &[&CodePointInversionList],
     steps: &[Step],
     windows: &mut [Window],
-    words: &mut [u128],
+    blocks: &mut [Block],
     start: u32,
     runs: &mut Runs,
 ) -> Result<(), NoMemory>
     requires start { start + 0x4000 ≤ 0x11_0000 }
     requires windows_each { length windows.old ≡ length sets.now }
-    requires words_each { length words.old ≡ length sets.now }
+    requires blocks_each { length blocks.old ≡ length sets.now }
     requires windows { AreWindows sets.now start windows.old }
-    requires open { IsOpenBefore start runs.old }
+    requires begun { IsBegunBefore start runs.old }
     ensures windows_each { length windows.new ≡ length sets.now }
-    ensures words_each { length words.new ≡ length sets.now }
+    ensures blocks_each { length blocks.new ≡ length sets.now }
     ensures windows { OnOk result (AreWindows sets.now (start + 0x4000) windows.new) }
-    ensures open { OnOk result (IsOpenBefore (start + 0x4000) runs.new) }
+    ensures begun { OnOk result (IsBegunBefore (start + 0x4000) runs.new) }
     ensures runs { OnOk result ((m : ℕ → Bool) →
         AreRuns m start runs.old → AreMade sets.now windows.old start steps.now m → AreRuns m (start + 0x4000) runs.new) }
 {
     let mixed = mixed_before(alloc, windows, start + STRETCH)?;
     let mut stack = Vec::new(alloc);
-    for index in 0..128 {
-        let place = start + 128 * index;
-        fill_words(sets, &mixed, windows, words, place);
-        runs.write(evaluate_words(words, steps, &mut stack)?, place)?;
+    for index in 0..16 {
+        let place = start + 1024 * index;
+        fill_blocks(sets, &mixed, windows, blocks, place);
+        runs.write_block(evaluate_blocks(blocks, steps, &mut stack)?, place)?;
     }
     Ok(())
 }
@@ -57,19 +58,19 @@ fn write_stretch(
     sets: &[&CodePointInversionList],
     steps: &[Step],
     windows: &mut [Window],
-    words: &mut [u128],
+    blocks: &mut [Block],
     start: u32,
     runs: &mut Runs,
 ) -> Result<(), NoMemory>
     requires start { start + 0x4000 ≤ 0x11_0000 }
     requires windows_each { length windows.old ≡ length sets.now }
-    requires words_each { length words.old ≡ length sets.now }
+    requires blocks_each { length blocks.old ≡ length sets.now }
     requires windows { AreWindows sets.now start windows.old }
-    requires open { IsOpenBefore start runs.old }
+    requires begun { IsBegunBefore start runs.old }
     ensures windows_each { length windows.new ≡ length sets.now }
-    ensures words_each { length words.new ≡ length sets.now }
+    ensures blocks_each { length blocks.new ≡ length sets.now }
     ensures windows { OnOk result (AreWindows sets.now (start + 0x4000) windows.new) }
-    ensures open { OnOk result (IsOpenBefore (start + 0x4000) runs.new) }
+    ensures begun { OnOk result (IsBegunBefore (start + 0x4000) runs.new) }
     ensures runs { OnOk result (AreRuns (members_of sets.now steps.now) start runs.old →
         AreRuns (members_of sets.now steps.now) (start + 0x4000) runs.new) }
 {
@@ -77,7 +78,7 @@ fn write_stretch(
     let term = Shortened::new(alloc, windows, start + STRETCH, steps)?;
     match term.constant() {
         Some(inside) => runs.turn(inside, start),
-        None => write_words(alloc, sets, &term.steps, windows, words, start, runs),
+        None => write_blocks(alloc, sets, &term.steps, windows, blocks, start, runs),
     }
 }
 
@@ -87,19 +88,19 @@ fn write_all(
     sets: &[&CodePointInversionList],
     steps: &[Step],
     windows: &mut [Window],
-    words: &mut [u128],
+    blocks: &mut [Block],
     runs: &mut Runs,
 ) -> Result<(), NoMemory>
     requires windows_each { length windows.old ≡ length sets.now }
-    requires words_each { length words.old ≡ length sets.now }
+    requires blocks_each { length blocks.old ≡ length sets.now }
     requires windows { AreWindows sets.now 0 windows.old }
-    requires open { IsOpenBefore 0 runs.old }
-    ensures open { OnOk result (IsOpenBefore 0x11_0000 runs.new) }
+    requires begun { IsBegunBefore 0 runs.old }
+    ensures begun { OnOk result (IsBegunBefore 0x11_0000 runs.new) }
     ensures runs { OnOk result (AreRuns (members_of sets.now steps.now) 0 runs.old →
         AreRuns (members_of sets.now steps.now) 0x11_0000 runs.new) }
 {
     for stretch in 0..STRETCHES {
-        write_stretch(alloc, sets, steps, windows, words, stretch * STRETCH, runs)?;
+        write_stretch(alloc, sets, steps, windows, blocks, stretch * STRETCH, runs)?;
     }
     Ok(())
 }
@@ -115,9 +116,9 @@ pub fn evaluate(
         (λ set. (c : ℕ) → contains set c ≡ (is_code_point c && value_of (holds_at (map (λ s. s.now) sets.now) c) steps.now)) }
 {
     let mut windows = vec![in alloc; Window::UNKNOWN; sets.len()]?;
-    let mut words = vec![in alloc; 0u128; sets.len()]?;
+    let mut blocks = vec![in alloc; Block::EMPTY; sets.len()]?;
     let mut runs = Runs::new(alloc);
-    write_all(alloc, sets, steps, &mut windows, &mut words, &mut runs)?;
+    write_all(alloc, sets, steps, &mut windows, &mut blocks, &mut runs)?;
     runs.turn(false, LAST_CODE_POINT + 1)?;
     Ok(runs.into_set())
 }

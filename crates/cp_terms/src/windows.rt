@@ -2,9 +2,10 @@
 ghost use Rattle.std.specs.Prelude.{◌≡◌, ℕ, ◌+◌, ◌<◌, ◌≤◌, true, length, Contains, Some, slice_get, IfOk};
 ghost use Rattle.cp_invlist.specs.InversionList.{contains, differ, ascends_from};
 ghost use Rattle.cp_terms.specs.Words.{has_bit};
-ghost use Rattle.cp_terms.specs.Windows.{AreWindows, HasWord};
+ghost use Rattle.cp_terms.specs.Windows.{AreWindows, HasBlock};
 ghost use Rattle.cp_terms.specs.declared.windows.Window.{Window};
 
+use crate::block::Block;
 use cp_invlist::{CodePointInversionList, LAST_CODE_POINT, NoMemory};
 use std::alloc::Global;
 
@@ -18,8 +19,9 @@ pub(crate) struct Window {
 }
 
 impl Window {
-    ghost use Rattle.std.specs.Prelude.{◌≡◌, ◌<◌};
+    ghost use Rattle.std.specs.Prelude.{◌≡◌, ◌<◌, ◌≤◌, ◌+◌};
     ghost use Rattle.cp_terms.specs.Words.{IsWord};
+    ghost use Rattle.cp_terms.specs.Blocks.{IsBlock};
     ghost use Rattle.cp_terms.specs.Windows.{IsWindow, is_inside};
 
     /// What is known of each set before it is looked at.
@@ -72,6 +74,22 @@ impl Window {
             return start;
         }
         turned(start, &set.get_inversion_list()[self.taken..], place)
+    }
+
+    /// Which of the 1,024 code points from the place on are members.
+    fn block(self, set: &CodePointInversionList, place: u32) -> Block
+        requires place { place + 1024 ≤ 0x11_0000 }
+        requires window { IsWindow set.now place self }
+        ensures { IsBlock set.now place result }
+    {
+        let mut window = self;
+        let mut words = [0u128; 8];
+        for index in 0..8u32 {
+            let start = place + 128 * index;
+            window = window.moved(set, start);
+            words[index as usize] = window.word(set, start);
+        }
+        Block { words }
     }
 }
 
@@ -129,49 +147,49 @@ pub(crate) fn mixed_before(
     Ok(mixed)
 }
 
-/// Moves the window of the set with the index on to the place, and makes its word there.
-fn fill_word(
+/// Moves the window of the set with the index on to the place, and makes its block there.
+fn fill_block(
     sets: &[&CodePointInversionList],
     index: usize,
     windows: &mut [Window],
-    words: &mut [u128],
+    blocks: &mut [Block],
     place: u32,
 )
-    requires place { place < 0x11_0000 }
+    requires place { place + 1024 ≤ 0x11_0000 }
     requires windows_each { length windows.old ≡ length sets.now }
-    requires words_each { length words.old ≡ length sets.now }
+    requires blocks_each { length blocks.old ≡ length sets.now }
     requires windows { AreWindows sets.now place windows.old }
     ensures windows_each { length windows.new ≡ length sets.now }
-    ensures words_each { length words.new ≡ length sets.now }
+    ensures blocks_each { length blocks.new ≡ length sets.now }
     ensures windows { AreWindows sets.now place windows.new }
-    ensures word { HasWord sets.now place words.new index }
-    ensures others { (i : ℕ) → HasWord sets.now place words.old i → HasWord sets.now place words.new i }
+    ensures block { HasBlock sets.now place blocks.new index }
+    ensures others { (i : ℕ) → HasBlock sets.now place blocks.old i → HasBlock sets.now place blocks.new i }
 {
     if let Some(set) = sets.get(index) {
         let window = windows[index].moved(set, place);
         windows[index] = window;
-        words[index] = window.word(set, place);
+        blocks[index] = window.block(set, place);
     }
 }
 
-/// Moves the windows of the sets with these indices on to the place, and makes their words there.
-pub(crate) fn fill_words(
+/// Moves the windows of the sets with these indices on to the place, and makes their blocks there.
+pub(crate) fn fill_blocks(
     sets: &[&CodePointInversionList],
     mixed: &[usize],
     windows: &mut [Window],
-    words: &mut [u128],
+    blocks: &mut [Block],
     place: u32,
 )
-    requires place { place < 0x11_0000 }
+    requires place { place + 1024 ≤ 0x11_0000 }
     requires windows_each { length windows.old ≡ length sets.now }
-    requires words_each { length words.old ≡ length sets.now }
+    requires blocks_each { length blocks.old ≡ length sets.now }
     requires windows { AreWindows sets.now place windows.old }
     ensures windows_each { length windows.new ≡ length sets.now }
-    ensures words_each { length words.new ≡ length sets.now }
+    ensures blocks_each { length blocks.new ≡ length sets.now }
     ensures windows { AreWindows sets.now place windows.new }
-    ensures words { (i : ℕ) → Contains mixed.now i → HasWord sets.now place words.new i }
+    ensures blocks { (i : ℕ) → Contains mixed.now i → HasBlock sets.now place blocks.new i }
 {
     for index in mixed {
-        fill_word(sets, *index, windows, words, place);
+        fill_block(sets, *index, windows, blocks, place);
     }
 }

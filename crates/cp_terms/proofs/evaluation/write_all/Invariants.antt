@@ -1,13 +1,13 @@
 use Rattle.std.proofs.Common.{◌≡◌, ◌*◌, length}
 use Rattle.cp_terms.specs.Windows.{AreWindows}
-use Rattle.cp_terms.specs.Runs.{IsOpenBefore, AreRuns, members_of}
+use Rattle.cp_terms.specs.Runs.{IsBegunBefore, AreRuns, members_of}
 use Rattle.cp_terms.proofs.evaluation.write_all.Given as goal
 
 abbrev pub invariant-loop-stretch : goal.invariant-loop-stretch
 invariant-loop-stretch l = record {
   windows_each : length l.windows ≡ length l.sets;
-  words_each : length l.words ≡ length l.sets;
+  blocks_each : length l.blocks ≡ length l.sets;
   windows : AreWindows l.sets (l.stretch * 0x4000) l.windows;
-  opened : IsOpenBefore (l.stretch * 0x4000) l.runs;
+  begun : IsBegunBefore (l.stretch * 0x4000) l.runs;
   runs : AreRuns (members_of l.sets l.steps) 0 l.fn.runs → AreRuns (members_of l.sets l.steps) (l.stretch * 0x4000) l.runs;
 }

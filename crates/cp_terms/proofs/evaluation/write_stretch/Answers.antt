@@ -18,8 +18,8 @@ returns-in-Some-clause-runs c =
 
 pub returns-clause-runs : goal.returns-clause-runs
 returns-clause-runs c =
-    on_ok_weaker c.write_words.result
+    on_ok_weaker c.write_blocks.result
     (λ h runs. h (members_of c.args.sets.now c.args.steps.now) runs
     (made_by_slice c.args.sets.now c.move_all.new.windows c.args.start c.in_ok-term.term.steps.items c.deref.result.now (members_of c.args.sets.now c.args.steps.now) c.deref.ensures.value
     (stretch_made c.args.sets.now c.move_all.new.windows c.args.start c.args.steps.now c.in_ok-term.term c.requires.start c.move_all.ensures.one_each c.move_all.ensures.windows (record { fits = c.in_ok-term.ensures }) c.in-None.ensures.mixed)))
-    c.write_words.ensures.runs
+    c.write_blocks.ensures.runs

@@ -1,0 +1,14 @@
+use Rattle.std.proofs.Common.{◌∷◌, ◌-◌, refl, ap, sym, ◌∙◌, arith}
+use Rattle.std.specs.Vec.{vec_len}
+use Rattle.cp_terms.specs.Terms.{both_done}
+use Rattle.cp_terms.specs.Blocks.{block_has, block_marks}
+use Rattle.cp_terms.proofs.BlockLemmas.{block_marks-push, top_set}
+use Rattle.cp_terms.proofs.blocks.merge_top.Goals as goal
+
+pub returns : goal.returns
+returns c = λ i j short h.
+    let below = c.pop.new.self.items in
+    let top = top_set i j below (vec_len c.pop.new.self - 1) c.in-Some-last_mut.lower.now c.combine.new.self (omega (arith, c.in-Some-last_mut.ensures.variant.0 refl)) c.in-Some-last_mut.ensures.value in
+    top.is
+    ∙ (ap (λ b. b ∷ top.rest) (c.combine.ensures i j short h)
+    ∙ sym (ap (both_done c.args.way) (ap (block_marks i j) c.in-Some.ensures.items ∙ (block_marks-push i j below c.in-Some.upper ∙ ap (λ l. block_has c.in-Some.upper i j ∷ l) top.was))))

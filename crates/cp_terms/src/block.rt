@@ -1,0 +1,48 @@
+//! Blocks of words: which of 1,024 code points are members.
+ghost use Rattle.std.specs.Prelude.{◌≡◌, ℕ, ◌<◌, not};
+ghost use Rattle.cp_terms.specs.Words.{has_bit};
+
+use crate::step::Way;
+
+/// The bits that the word lacks.
+#[inline]
+fn complement_word(word: u128) -> u128
+    ensures { (j : ℕ) → j < 128 → has_bit result j ≡ not (has_bit word j) }
+{
+    !word
+}
+
+/// Eight words, whose bits say which of 128 code points each are members.
+#[derive(Clone, Copy)]
+pub(crate) struct Block {
+    pub(crate) words: [u128; 8],
+}
+
+impl Block {
+    ghost use Rattle.std.specs.Prelude.{◌≡◌, ℕ, ◌<◌, not};
+    ghost use Rattle.cp_terms.specs.Terms.{combined};
+    ghost use Rattle.cp_terms.specs.Blocks.{block_has};
+
+    /// The block of no members.
+    pub(crate) const EMPTY: Block = Block { words: [0; 8] };
+
+    /// Makes it what is made of it as the lower one and of the upper.
+    #[inline]
+    pub(crate) fn combine(&mut self, way: Way, upper: &Block)
+        ensures { (i j : ℕ) → i < 8 → j < 128 → block_has self.new i j ≡ combined way (block_has self.old i j) (block_has upper.now i j) }
+    {
+        for index in 0..8 {
+            self.words[index] = way.combine_words(self.words[index], upper.words[index]);
+        }
+    }
+
+    /// Exchanges the members and the others.
+    #[inline]
+    pub(crate) fn complement(&mut self)
+        ensures { (i j : ℕ) → i < 8 → j < 128 → block_has self.new i j ≡ not (block_has self.old i j) }
+    {
+        for index in 0..8 {
+            self.words[index] = complement_word(self.words[index]);
+        }
+    }
+}
