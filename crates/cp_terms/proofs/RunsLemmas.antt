@@ -10,15 +10,10 @@ use Rattle.cp_terms.specs.declared.runs.Runs.{Runs}
 use Rattle.cp_terms.specs.declared.step.Step.{Step}
 use Rattle.cp_terms.specs.Runs.{AreConstant, AreRuns, IsBegunBefore, is_in_begun, members_of}
 
--- where all bits are the same, so are the members
-pub constant_word : (m : ℕ → Bool) (place word : ℕ) (inside : Bool) → ((j : ℕ) → j < 128 → has_bit word j ≡ inside) → ((j : ℕ) → j < 128 → m (place + j) ≡ has_bit word j) → AreConstant m place (place + 128) inside
-constant_word m place word inside same bits c le lt =
-    ap m (let e : c ≡ place + (c - place) = omega arith in e) ∙ (bits (c - place) (omega arith) ∙ same (c - place) (omega arith))
-
--- one bit is one member
-pub constant_bit : (m : ℕ → Bool) (place word j at : ℕ) (inside : Bool) → at ≡ place + j → j < 128 → inside ≡ has_bit word j → ((i : ℕ) → i < 128 → m (place + i) ≡ has_bit word i) → AreConstant m at (at + 1) inside
-constant_bit m place word j at inside is lt same bits c le below =
-    ap m (let e : c ≡ place + j = omega arith in e) ∙ (bits j lt ∙ sym same)
+-- where bits are the same, so are the members
+pub constant_bits : (m : ℕ → Bool) (place word first end : ℕ) (inside : Bool) → end ≤ 128 → ((j : ℕ) → first ≤ j → j < end → has_bit word j ≡ inside) → ((j : ℕ) → j < 128 → m (place + j) ≡ has_bit word j) → AreConstant m (place + first) (place + end) inside
+constant_bits m place word first end inside within same bits c le lt =
+    ap m (let e : c ≡ place + (c - place) = omega arith in e) ∙ (bits (c - place) (omega arith) ∙ same (c - place) (omega arith) (omega arith))
 
 -- what starts before a place starts before a later one
 pub begun_later : (runs : Runs) (place later : ℕ) → place ≤ later → IsBegunBefore place runs → IsBegunBefore later runs

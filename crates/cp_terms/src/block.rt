@@ -1,16 +1,6 @@
 //! Blocks of words: which of 1,024 code points are members.
-ghost use Rattle.std.specs.Prelude.{◌≡◌, ℕ, ◌<◌, not};
-ghost use Rattle.cp_terms.specs.Words.{has_bit};
-
 use crate::step::Way;
-
-/// The bits that the word lacks.
-#[inline]
-fn complement_word(word: u128) -> u128
-    ensures { (j : ℕ) → j < 128 → has_bit result j ≡ not (has_bit word j) }
-{
-    !word
-}
+use crate::word::complement;
 
 /// Eight words, whose bits say which of 128 code points each are members.
 #[derive(Clone, Copy)]
@@ -42,7 +32,7 @@ impl Block {
         ensures { (i j : ℕ) → i < 8 → j < 128 → block_has self.new i j ≡ not (block_has self.old i j) }
     {
         for index in 0..8 {
-            self.words[index] = complement_word(self.words[index]);
+            self.words[index] = complement(self.words[index]);
         }
     }
 }

@@ -8,6 +8,7 @@ mod runs;
 mod shorten;
 mod step;
 mod windows;
+mod word;
 
 pub use evaluation::evaluate;
 pub use step::{Step, Way};

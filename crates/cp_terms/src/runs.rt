@@ -1,31 +1,8 @@
 //! The runs of members of a set that is written in the order of code points.
-ghost use Rattle.std.specs.Prelude.{◌≡◌, ℕ, ◌<◌, IfSome};
-ghost use Rattle.cp_terms.specs.Words.{has_bit};
-
 use crate::block::Block;
+use crate::word::{has, next_change};
 use cp_invlist::{CodePointInversionList, CodePointInversionListBuilder, CodePointRange, NoMemory};
 use std::alloc::Global;
-
-/// Whether the word has the bit.
-fn has(word: u128, offset: u32) -> bool
-    requires { offset < 128 }
-    ensures { result ≡ has_bit word offset }
-{
-    (word >> offset) & 1 == 1
-}
-
-/// Whether the word has all bits or none, where either is the case.
-fn constant(word: u128) -> Option<bool>
-    ensures { IfSome result (λ inside. (j : ℕ) → j < 128 → has_bit word j ≡ inside) }
-{
-    if word == 0 {
-        return Some(false);
-    }
-    if word == u128::MAX {
-        return Some(true);
-    }
-    None
-}
 
 /// The runs up to a place.
 pub(crate) struct Runs {
@@ -98,11 +75,10 @@ impl Runs {
             ((j : ℕ) → j < 128 → m (place + j) ≡ has_bit word j) → AreRuns m (place + 128) self.new) }
         ensures begun { OnOk result (IsBegunBefore (place + 128) self.new) }
     {
-        if let Some(inside) = constant(word) {
-            return self.turn(inside, place);
-        }
-        for offset in 0..128 {
+        let mut offset = 0;
+        while offset < 128 {
             self.turn(has(word, offset), place + offset)?;
+            offset = next_change(word, offset);
         }
         Ok(())
     }

@@ -153,6 +153,73 @@ const TERMS: &[(&[Step], &[u32])] = &[
     ),
 ];
 
+/// Sets at the borders of words of 128 code points and of blocks of 1024.
+const BORDER_SETS: &[&[u32]] = &[
+    // 0: the last code point of a block
+    &[0x3FF, 0x400],
+    // 1: the first of the next
+    &[0x400, 0x401],
+    // 2: across the border
+    &[0x3C0, 0x440],
+    // 3: some of a word, and across its border
+    &[0x300, 0x301, 0x302, 0x303, 0x37F, 0x381],
+];
+
+/// Terms over them, and the lists of the sets that they make.
+const BORDER_TERMS: &[(&[Step], &[u32])] = &[
+    (&[Step::Push(0)], &[0x3FF, 0x400]),
+    (&[Step::Push(1)], &[0x400, 0x401]),
+    (
+        &[Step::Push(3)],
+        &[0x300, 0x301, 0x302, 0x303, 0x37F, 0x381],
+    ),
+    (
+        &[Step::Push(0), Step::Push(1), Step::Both(Way::Join)],
+        &[0x3FF, 0x401],
+    ),
+    (
+        &[Step::Push(0), Step::Push(1), Step::Both(Way::Retain)],
+        EMPTY,
+    ),
+    (
+        &[Step::Push(2), Step::Push(0), Step::Both(Way::Remove)],
+        &[0x3C0, 0x3FF, 0x400, 0x440],
+    ),
+    (
+        &[Step::Push(1), Step::Push(2), Step::Both(Way::RemoveFrom)],
+        &[0x3C0, 0x400, 0x401, 0x440],
+    ),
+    (
+        &[
+            Step::Push(0),
+            Step::Complement,
+            Step::Push(2),
+            Step::Both(Way::Retain),
+        ],
+        &[0x3C0, 0x3FF, 0x400, 0x440],
+    ),
+    (
+        &[Step::Push(3), Step::Complement],
+        &[0, 0x300, 0x301, 0x302, 0x303, 0x37F, 0x381, 0x11_0000],
+    ),
+    (
+        &[
+            Step::Push(2),
+            Step::Push(3),
+            Step::Clear,
+            Step::Both(Way::Join),
+        ],
+        &[0x3C0, 0x440],
+    ),
+    // there are fewer sets than the step takes
+    (&[Step::Push(2), Step::Both(Way::Join)], &[0x3C0, 0x440]),
+    // there is no set with this index
+    (
+        &[Step::Push(4), Step::Push(0), Step::Both(Way::Join)],
+        &[0x3FF, 0x400],
+    ),
+];
+
 /// Puts the sets of the lists behind those that are there.
 fn add_sets(alloc: Global, lists: &[&[u32]], sets: &mut Vec<CodePointInversionList>) -> Option<()> {
     for list in lists {
@@ -177,13 +244,13 @@ fn makes(
     Some(set.get_inversion_list() == list)
 }
 
-/// The index of the first term that makes another set.
-fn first_wrong(alloc: Global) -> Option<usize> {
+/// The index of the first term that makes another set, of the sets with these lists.
+fn first_wrong(alloc: Global, lists: &[&[u32]], terms: &[(&[Step], &[u32])]) -> Option<usize> {
     let mut sets = Vec::new(alloc);
-    if add_sets(alloc, SETS, &mut sets).is_none() {
-        return Some(TERMS.len());
+    if add_sets(alloc, lists, &mut sets).is_none() {
+        return Some(terms.len());
     }
-    for (index, (steps, list)) in TERMS.iter().enumerate() {
+    for (index, (steps, list)) in terms.iter().enumerate() {
         if makes(alloc, &sets, steps, list) != Some(true) {
             return Some(index);
         }
@@ -193,5 +260,14 @@ fn first_wrong(alloc: Global) -> Option<usize> {
 
 #[test]
 fn terms_make_sets(rt: HostRuntime) {
-    assert_equal(&rt, first_wrong(rt.alloc()), None);
+    assert_equal(&rt, first_wrong(rt.alloc(), SETS, TERMS), None);
+}
+
+#[test]
+fn terms_make_sets_at_borders(rt: HostRuntime) {
+    assert_equal(
+        &rt,
+        first_wrong(rt.alloc(), BORDER_SETS, BORDER_TERMS),
+        None,
+    );
 }

@@ -1,10 +1,14 @@
-use Rattle.std.proofs.Common.{◌≡◌, ℕ, ◌+◌, ◌<◌, Bool}
+use Rattle.std.proofs.Common.{◌≡◌, ℕ, ◌+◌, ◌-◌, ◌<◌, ◌≤◌, Bool}
 use Rattle.cp_terms.specs.Words.{has_bit}
 use Rattle.cp_terms.specs.Runs.{IsBegunBefore, AreRuns}
 use Rattle.cp_terms.proofs.runs.Runs.write.Given as goal
 
+abbrev pub decreases-loop-offset : goal.decreases-loop-offset
+decreases-loop-offset l = 128 - l.offset
+
 abbrev pub invariant-loop-offset : goal.invariant-loop-offset
 invariant-loop-offset l = record {
+  within : l.offset ≤ 128;
   runs : (m : ℕ → Bool) → AreRuns m l.place l.fn.self → ((j : ℕ) → j < 128 → m (l.place + j) ≡ has_bit l.word j) → AreRuns m (l.place + l.offset) l.self;
   begun : IsBegunBefore (l.place + l.offset) l.self;
 }
