@@ -3,5 +3,5 @@ pub mod BitLemmas
 pub mod BlockLemmas
 pub mod WindowLemmas
 pub mod ShortenLemmas
-pub mod RunsLemmas
+pub mod ChangesLemmas
 pub mod StretchLemmas

@@ -12,7 +12,7 @@ use Rattle.cp_terms.specs.declared.block.Block.{Block}
 use Rattle.cp_terms.specs.Blocks.{block_has, block_holds}
 use Rattle.cp_terms.specs.Windows.{AreWindows, HasBlock, HoldsMixed}
 use Rattle.cp_terms.specs.Shorten.{Agree, AgreesAt, FitsTerm}
-use Rattle.cp_terms.specs.Runs.{AreConstant, AreMade, members_of}
+use Rattle.cp_terms.specs.Changes.{IsConstant, AreMade, members_of}
 use Rattle.cp_terms.proofs.WindowLemmas.{window_tells}
 use Rattle.cp_terms.proofs.BlockLemmas.{block_holds-get_or}
 use Rattle.cp_terms.proofs.TermsLemmas.{holds_at-reference, holds_at-past}
@@ -71,7 +71,7 @@ pub record Shortens (windows : List Window) (end : ℕ) (ss : List Step) (term :
   pub fits : (v w : ℕ → Bool) → Agree windows end v w → FitsTerm w term (steps_done v ss [])
 
 pub stretch_constant : (sets : List (Bor CodePointInversionList)) (windows : List Window) (start : ℕ) (ss : List Step) (term : Shortened) (inside : Bool) → start + 0x4000 ≤ 0x110000 → length windows ≡ length sets →
-    AreWindows sets start windows → Shortens windows (start + 0x4000) ss term → ((w : ℕ → Bool) (stack : List Bool) → FitsTerm w term stack → top stack ≡ inside) → AreConstant (members_of sets ss) start (start + 0x4000) inside
+    AreWindows sets start windows → Shortens windows (start + 0x4000) ss term → ((w : ℕ → Bool) (stack : List Bool) → FitsTerm w term stack → top stack ≡ inside) → IsConstant (members_of sets ss) start (start + 0x4000) inside
 stretch_constant sets windows start ss term inside within same are shortens told c le lt =
     let v = holds_at (map (λ s. s.now) sets) c in
     members_told sets ss c inside (omega arith)

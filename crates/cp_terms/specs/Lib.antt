@@ -3,5 +3,5 @@ pub mod Words
 pub mod Blocks
 pub mod Windows
 pub mod Shorten
-pub mod Runs
+pub mod Changes
 pub mod ShortenParts

@@ -3,11 +3,11 @@ ghost use Rattle.std.specs.Prelude.{◌≡◌, ℕ, ◌+◌, ◌<◌, ◌≤◌,
 ghost use Rattle.cp_invlist.specs.InversionList.{contains, is_code_point};
 ghost use Rattle.cp_terms.specs.Terms.{value_of, holds_at};
 ghost use Rattle.cp_terms.specs.Windows.{AreWindows};
-ghost use Rattle.cp_terms.specs.Runs.{IsBegunBefore, AreRuns, AreMade, members_of};
+ghost use Rattle.cp_terms.specs.Changes.{AreBefore, TellBelow, AreMade, members_of};
 
 use crate::block::Block;
 use crate::blocks::evaluate_blocks;
-use crate::runs::Runs;
+use crate::changes::Changes;
 use crate::shorten::Shortened;
 use crate::step::Step;
 use crate::windows::{Window, fill_blocks, mixed_before, move_all};
@@ -28,26 +28,26 @@ fn write_blocks(
     windows: &mut [Window],
     blocks: &mut [Block],
     start: u32,
-    runs: &mut Runs,
+    changes: &mut Changes,
 ) -> Result<(), NoMemory>
     requires start { start + 0x4000 ≤ 0x11_0000 }
     requires windows_each { length windows.old ≡ length sets.now }
     requires blocks_each { length blocks.old ≡ length sets.now }
     requires windows { AreWindows sets.now start windows.old }
-    requires begun { IsBegunBefore start runs.old }
+    requires before { AreBefore start changes.old }
     ensures windows_each { length windows.new ≡ length sets.now }
     ensures blocks_each { length blocks.new ≡ length sets.now }
     ensures windows { OnOk result (AreWindows sets.now (start + 0x4000) windows.new) }
-    ensures begun { OnOk result (IsBegunBefore (start + 0x4000) runs.new) }
-    ensures runs { OnOk result ((m : ℕ → Bool) →
-        AreRuns m start runs.old → AreMade sets.now windows.old start steps.now m → AreRuns m (start + 0x4000) runs.new) }
+    ensures before { OnOk result (AreBefore (start + 0x4000) changes.new) }
+    ensures members { OnOk result ((m : ℕ → Bool) → TellBelow m start changes.old →
+        AreMade sets.now windows.old start steps.now m → TellBelow m (start + 0x4000) changes.new) }
 {
     let mixed = mixed_before(alloc, windows, start + STRETCH)?;
     let mut stack = Vec::new(alloc);
     for index in 0..16 {
         let place = start + 1024 * index;
         fill_blocks(sets, &mixed, windows, blocks, place);
-        runs.write_block(evaluate_blocks(blocks, steps, &mut stack)?, place)?;
+        changes.write_block(evaluate_blocks(blocks, steps, &mut stack)?, place)?;
     }
     Ok(())
 }
@@ -60,25 +60,25 @@ fn write_stretch(
     windows: &mut [Window],
     blocks: &mut [Block],
     start: u32,
-    runs: &mut Runs,
+    changes: &mut Changes,
 ) -> Result<(), NoMemory>
     requires start { start + 0x4000 ≤ 0x11_0000 }
     requires windows_each { length windows.old ≡ length sets.now }
     requires blocks_each { length blocks.old ≡ length sets.now }
     requires windows { AreWindows sets.now start windows.old }
-    requires begun { IsBegunBefore start runs.old }
+    requires before { AreBefore start changes.old }
     ensures windows_each { length windows.new ≡ length sets.now }
     ensures blocks_each { length blocks.new ≡ length sets.now }
     ensures windows { OnOk result (AreWindows sets.now (start + 0x4000) windows.new) }
-    ensures begun { OnOk result (IsBegunBefore (start + 0x4000) runs.new) }
-    ensures runs { OnOk result (AreRuns (members_of sets.now steps.now) start runs.old →
-        AreRuns (members_of sets.now steps.now) (start + 0x4000) runs.new) }
+    ensures before { OnOk result (AreBefore (start + 0x4000) changes.new) }
+    ensures members { OnOk result (TellBelow (members_of sets.now steps.now) start changes.old →
+        TellBelow (members_of sets.now steps.now) (start + 0x4000) changes.new) }
 {
     move_all(sets, windows, start);
     let term = Shortened::new(alloc, windows, start + STRETCH, steps)?;
     match term.constant() {
-        Some(inside) => runs.turn(inside, start),
-        None => write_blocks(alloc, sets, &term.steps, windows, blocks, start, runs),
+        Some(inside) => changes.turn(inside, start),
+        None => write_blocks(alloc, sets, &term.steps, windows, blocks, start, changes),
     }
 }
 
@@ -89,18 +89,26 @@ fn write_all(
     steps: &[Step],
     windows: &mut [Window],
     blocks: &mut [Block],
-    runs: &mut Runs,
+    changes: &mut Changes,
 ) -> Result<(), NoMemory>
     requires windows_each { length windows.old ≡ length sets.now }
     requires blocks_each { length blocks.old ≡ length sets.now }
     requires windows { AreWindows sets.now 0 windows.old }
-    requires begun { IsBegunBefore 0 runs.old }
-    ensures begun { OnOk result (IsBegunBefore 0x11_0000 runs.new) }
-    ensures runs { OnOk result (AreRuns (members_of sets.now steps.now) 0 runs.old →
-        AreRuns (members_of sets.now steps.now) 0x11_0000 runs.new) }
+    requires before { AreBefore 0 changes.old }
+    ensures before { OnOk result (AreBefore 0x11_0000 changes.new) }
+    ensures members { OnOk result (TellBelow (members_of sets.now steps.now) 0 changes.old →
+        TellBelow (members_of sets.now steps.now) 0x11_0000 changes.new) }
 {
     for stretch in 0..STRETCHES {
-        write_stretch(alloc, sets, steps, windows, blocks, stretch * STRETCH, runs)?;
+        write_stretch(
+            alloc,
+            sets,
+            steps,
+            windows,
+            blocks,
+            stretch * STRETCH,
+            changes,
+        )?;
     }
     Ok(())
 }
@@ -117,8 +125,8 @@ pub fn evaluate(
 {
     let mut windows = vec![in alloc; Window::UNKNOWN; sets.len()]?;
     let mut blocks = vec![in alloc; Block::EMPTY; sets.len()]?;
-    let mut runs = Runs::new(alloc);
-    write_all(alloc, sets, steps, &mut windows, &mut blocks, &mut runs)?;
-    runs.turn(false, LAST_CODE_POINT + 1)?;
-    Ok(runs.into_set())
+    let mut changes = Changes::new(alloc);
+    write_all(alloc, sets, steps, &mut windows, &mut blocks, &mut changes)?;
+    changes.turn(false, LAST_CODE_POINT + 1)?;
+    changes.to_set(alloc)
 }

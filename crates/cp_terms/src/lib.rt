@@ -3,8 +3,8 @@
 
 mod block;
 mod blocks;
+mod changes;
 mod evaluation;
-mod runs;
 mod shorten;
 mod step;
 mod windows;

@@ -1,7 +1,7 @@
 use Rattle.std.proofs.Common.{◌+◌, ◌*◌, arith}
-use Rattle.cp_terms.specs.Runs.{members_of}
+use Rattle.cp_terms.specs.Changes.{members_of}
 use Rattle.cp_terms.proofs.WindowLemmas.{windows_later}
-use Rattle.cp_terms.proofs.RunsLemmas.{begun_later, runs_at}
+use Rattle.cp_terms.proofs.ChangesLemmas.{before_later, tell_at}
 use Rattle.cp_terms.proofs.evaluation.write_all.Goals as goal
 
 pub loop-stretch-preserved : goal.loop-stretch-preserved
@@ -12,6 +12,6 @@ loop-stretch-preserved c =
       windows_each = c.in_ok-write_stretch.ensures.windows_each;
       blocks_each = c.in_ok-write_stretch.ensures.blocks_each;
       windows = windows_later c.args.sets.now (place + 0x4000) next c.write_stretch.new.windows (omega arith) c.in_ok-write_stretch.ensures.windows;
-      begun = begun_later c.write_stretch.new.runs (place + 0x4000) next (omega arith) c.in_ok-write_stretch.ensures.begun;
-      runs = λ runs. runs_at (members_of c.args.sets.now c.args.steps.now) c.write_stretch.new.runs (place + 0x4000) next (omega arith) (c.in_ok-write_stretch.ensures.runs (c.loop-stretch.invariant.runs runs));
+      before = before_later (place + 0x4000) next c.write_stretch.new.changes (omega arith) c.in_ok-write_stretch.ensures.before;
+      members = λ tell. tell_at (members_of c.args.sets.now c.args.steps.now) c.write_stretch.new.changes (place + 0x4000) next (omega arith) (c.in_ok-write_stretch.ensures.members (c.loop-stretch.invariant.members tell));
     }

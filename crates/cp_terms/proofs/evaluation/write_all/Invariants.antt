@@ -1,6 +1,6 @@
 use Rattle.std.proofs.Common.{◌≡◌, ◌*◌, length}
 use Rattle.cp_terms.specs.Windows.{AreWindows}
-use Rattle.cp_terms.specs.Runs.{IsBegunBefore, AreRuns, members_of}
+use Rattle.cp_terms.specs.Changes.{AreBefore, TellBelow, members_of}
 use Rattle.cp_terms.proofs.evaluation.write_all.Given as goal
 
 abbrev pub invariant-loop-stretch : goal.invariant-loop-stretch
@@ -8,6 +8,6 @@ invariant-loop-stretch l = record {
   windows_each : length l.windows ≡ length l.sets;
   blocks_each : length l.blocks ≡ length l.sets;
   windows : AreWindows l.sets (l.stretch * 0x4000) l.windows;
-  begun : IsBegunBefore (l.stretch * 0x4000) l.runs;
-  runs : AreRuns (members_of l.sets l.steps) 0 l.fn.runs → AreRuns (members_of l.sets l.steps) (l.stretch * 0x4000) l.runs;
+  before : AreBefore (l.stretch * 0x4000) l.changes;
+  members : TellBelow (members_of l.sets l.steps) 0 l.fn.changes → TellBelow (members_of l.sets l.steps) (l.stretch * 0x4000) l.changes;
 }

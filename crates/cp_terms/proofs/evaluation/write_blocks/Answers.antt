@@ -3,7 +3,7 @@ use Rattle.cp_terms.specs.Blocks.{block_holds}
 use Rattle.cp_terms.proofs.WindowLemmas.{windows_later}
 use Rattle.cp_terms.proofs.StretchLemmas.{holds_mixed, listed_by_slice}
 use Rattle.cp_terms.proofs.BlockLemmas.{empty, empty_has}
-use Rattle.cp_terms.proofs.RunsLemmas.{begun_later, runs_at}
+use Rattle.cp_terms.proofs.ChangesLemmas.{before_later, tell_at}
 use Rattle.cp_terms.proofs.evaluation.write_blocks.Goals as goal
 
 pub loop-index-preserved : goal.loop-index-preserved
@@ -14,10 +14,10 @@ loop-index-preserved c =
       windows_each = c.fill_blocks.ensures.windows_each;
       blocks_each = c.fill_blocks.ensures.blocks_each;
       windows = windows_later c.args.sets.now place next c.fill_blocks.new.windows (omega arith) c.fill_blocks.ensures.windows;
-      begun = begun_later c.write_block.new.self (place + 1024) next (omega arith) c.in_ok-write_block.ensures.begun;
-      runs = λ m runs made.
-          runs_at m c.write_block.new.self (place + 1024) next (omega arith)
-          (c.in_ok-write_block.ensures.runs m (c.loop-index.invariant.runs m runs made)
+      before = before_later (place + 1024) next c.write_block.new.self (omega arith) c.in_ok-write_block.ensures.before;
+      members = λ m tell made.
+          tell_at m c.write_block.new.self (place + 1024) next (omega arith)
+          (c.in_ok-write_block.ensures.members m (c.loop-index.invariant.members m tell made)
           (λ i j short h.
           made (place + 128 * i + j) (block_holds c.fill_blocks.new.blocks i j) (omega arith) (omega arith)
           (holds_mixed c.args.sets.now c.args.windows.now (c.args.start + 0x4000) place i j c.fill_blocks.new.blocks c.deref.result.now empty (empty_has i j short) c.fill_blocks.ensures.blocks_each

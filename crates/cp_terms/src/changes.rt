@@ -1,0 +1,108 @@
+//! The changes of a set that is written in the order of code points.
+use crate::block::Block;
+use crate::word::{has, next_change};
+use cp_invlist::laws::faultless;
+use cp_invlist::{CodePointInversionList, InversionListError, NoMemory};
+use std::alloc::Global;
+use std::marker::Model;
+
+/// Where a set changes, up to a place: the code points from which on it has members or has none, in turn. A contract sees it
+/// as the list of these code points.
+#[derive(Drop)]
+pub(crate) struct Changes {
+    elements: Vec<u32>,
+}
+
+impl Model for Changes {
+    ghost use Rattle.std.specs.Prelude.{◌≡◌, ℕ, true, List};
+    ghost use Rattle.cp_invlist.specs.InversionList.{ascends_from};
+
+    ghost Value = { List ℕ };
+
+    ghost view = { λ c. c.elements.items };
+
+    ghost invariant = { λ c. ascends_from 0 c.elements.items ≡ true };
+}
+
+impl Changes {
+    ghost use Rattle.std.specs.Prelude.{◌≡◌, ℕ, ◌+◌, ◌*◌, ◌<◌, ◌≤◌, Bool, true, not, [], IfOk, OnOk};
+    ghost use Rattle.cp_invlist.specs.InversionList.{has_even_length};
+    ghost use Rattle.cp_terms.specs.Words.{has_bit};
+    ghost use Rattle.cp_terms.specs.Blocks.{block_has};
+    ghost use Rattle.cp_terms.specs.Changes.{AreBefore, TellBelow, IsConstant};
+
+    /// No changes.
+    pub(crate) fn new(alloc: Global) -> Changes
+        ensures { result ≡ [] }
+    {
+        Changes {
+            elements: Vec::new(alloc),
+        }
+    }
+
+    /// Whether the code points behind the changes are members.
+    fn is_inside(&self) -> bool
+        ensures { result ≡ not (has_even_length self.now) }
+    {
+        self.elements.len() % 2 == 1
+    }
+
+    /// From the place on the code points are members, or not.
+    pub(crate) fn turn(&mut self, inside: bool, place: u32) -> Result<(), NoMemory>
+        requires place { place ≤ 0x11_0000 }
+        requires before { AreBefore place self.old }
+        ensures before { OnOk result (AreBefore (place + 1) self.new) }
+        ensures inside { OnOk result (not (has_even_length self.new) ≡ inside) }
+        ensures members { OnOk result ((m : ℕ → Bool) (end : ℕ) →
+            TellBelow m place self.old → IsConstant m place end inside → TellBelow m end self.new) }
+    {
+        if self.is_inside() != inside {
+            self.elements.push(place)?;
+        }
+        Ok(())
+    }
+
+    /// Writes the 128 code points from the place on.
+    pub(crate) fn write(&mut self, word: u128, place: u32) -> Result<(), NoMemory>
+        requires place { place + 128 ≤ 0x11_0000 }
+        requires before { AreBefore place self.old }
+        ensures before { OnOk result (AreBefore (place + 128) self.new) }
+        ensures members { OnOk result ((m : ℕ → Bool) → TellBelow m place self.old →
+            ((j : ℕ) → j < 128 → m (place + j) ≡ has_bit word j) → TellBelow m (place + 128) self.new) }
+    {
+        let mut offset = 0;
+        while offset < 128 {
+            self.turn(has(word, offset), place + offset)?;
+            offset = next_change(word, offset);
+        }
+        Ok(())
+    }
+
+    /// Writes the 1,024 code points from the place on.
+    pub(crate) fn write_block(&mut self, block: Block, place: u32) -> Result<(), NoMemory>
+        requires place { place + 1024 ≤ 0x11_0000 }
+        requires before { AreBefore place self.old }
+        ensures before { OnOk result (AreBefore (place + 1024) self.new) }
+        ensures members { OnOk result ((m : ℕ → Bool) → TellBelow m place self.old →
+            ((i j : ℕ) → i < 8 → j < 128 → m (place + 128 * i + j) ≡ block_has block i j) →
+            TellBelow m (place + 1024) self.new) }
+    {
+        for index in 0..8u32 {
+            self.write(block.words[index as usize], place + 128 * index)?;
+        }
+        Ok(())
+    }
+
+    /// The set that has no members behind the changes.
+    pub(crate) fn to_set(&self, alloc: Global) -> Result<CodePointInversionList, NoMemory>
+        requires { has_even_length self.now ≡ true }
+        ensures { IfOk result (λ set. set ≡ self.now) }
+    {
+        faultless();
+        match CodePointInversionList::try_from_inversion_list(alloc, &self.elements) {
+            Ok(set) => Ok(set),
+            Err(InversionListError::NoMemory) => Err(NoMemory),
+            Err(InversionListError::Invalid { .. }) => unreachable!(),
+        }
+    }
+}
