@@ -1,19 +1,20 @@
 -- What windows say of sets.
-use Rattle.std.proofs.Common.{◌≡◌, ℕ, zero, suc, ◌+◌, ◌-◌, ◌%◌, ◌<◌, ◌≤◌, Bool, true, false, ◌==◌, nat_le, List, [], ◌∷◌, Some, Contains, length, take, drop, get_or, All, Bor, refl, sym, ap, ap₂, ◌∙◌, arith, subst, inl, inr}
+use Rattle.std.proofs.Common.{◌≡◌, ℕ, zero, suc, ◌+◌, ◌-◌, ◌%◌, ◌<◌, ◌≤◌, ◌≢◌, Bool, true, false, ◌==◌, nat_le, List, [], ◌∷◌, ◌++◌, Some, AllPairs, Contains, length, take, drop, get_or, All, Bor, refl, sym, ap, ap₂, ◌∙◌, arith, subst, inl, inr}
 use Rattle.std.specs.List.{slice_get}
 use Rattle.std.proofs.lemmas.Option.{slice_get_within, get_or_from_slice_get}
 use Rattle.std.proofs.Math.Seq.{drop-cons}
-use Rattle.std.proofs.lemmas.Bool.{le-leb, lt-leb, cases_lt}
-use Rattle.std.proofs.lemmas.List.{get_or-drop, length-drop, take-append-drop, length-take-le, take_more, take_all}
-use Rattle.std.proofs.lemmas.List.Elements.{Contains-append_cases}
+use Rattle.std.proofs.lemmas.Bool.{le-leb, lt-leb, cases_lt, cases_eq}
+use Rattle.std.proofs.lemmas.List.{get_or-drop, length-drop, take-append-drop, length-take-le, take_more}
+use Rattle.std.proofs.lemmas.List.Elements.{Contains-append_cases, All-append, All-cons, All-nil}
 use Rattle.cp_invlist.specs.InversionList.{contains, differ, ascends_from, IsInversionList}
 use Rattle.cp_invlist.specs.Cuts.{CutAfter}
 use Rattle.cp_invlist.specs.declared.set.CodePointInversionList.{CodePointInversionList}
-use Rattle.cp_invlist.proofs.Lists.{ascends_from-parts, ascends_from-cons, ascends_from-drop, ascends_from-raise, contains-append, contains-below, contains-all_at_most, IsInversionList-parts}
+use Rattle.cp_invlist.proofs.Lists.{ascends_from-parts, ascends_from-cons, ascends_from-drop, contains-append, contains-below, contains-all_at_most, IsInversionList-parts}
 use Rattle.cp_invlist.proofs.Partition.{IsNonDecreasingBy-ascends, odd_length, contains-cut}
 use Rattle.cp_terms.specs.declared.block.Block.{Block}
 use Rattle.cp_terms.specs.declared.windows.Window.{Window}
-use Rattle.cp_terms.specs.Windows.{IsWindow, AreWindows, HasBlock, is_inside}
+use Rattle.cp_terms.specs.Words.{has_bit, IsWord}
+use Rattle.cp_terms.specs.Windows.{IsWindow, HasWindow, AreWindows, HasBlock, is_inside}
 
 -- no element behind a place is below the one there
 pub next_least : (xs : List ℕ) (i next : ℕ) → ascends_from 0 xs ≡ true → i < length xs → ((d : ℕ) → get_or xs i d ≡ next) → All (λ x. next ≤ x) (drop i xs)
@@ -69,18 +70,6 @@ window_tells xs place c window is le lt = contains-cut c xs window.taken is.with
   behind = λ k d below. omega (arith, is.behind k d below);
 })
 
--- the elements that are left ascend from above the place
-pub rest_ascends : (xs : List ℕ) (place : ℕ) (window : Window) → IsInversionList xs → IsWindow xs place window → place < window.next → ascends_from (place + 1) (drop window.taken xs) ≡ true
-rest_ascends xs place window list is ahead =
-    ascends_from-raise 0 (place + 1) (drop window.taken xs) (λ k d lt. omega (arith, is.behind k d lt)) (ascends_from-drop 0 window.taken xs (IsInversionList-parts xs list).0)
-
--- the members are told by the elements that are left
-pub contains-rest : (xs : List ℕ) (place c : ℕ) (window : Window) → IsWindow xs place window → place ≤ c → contains xs c ≡ differ (is_inside window) (contains (drop window.taken xs) c)
-contains-rest xs place c window is le =
-    ap (λ l. contains l c) (sym (take-append-drop window.taken xs))
-    ∙ (contains-append (take window.taken xs) (drop window.taken xs) c
-    ∙ ap (λ b. differ b (contains (drop window.taken xs) c)) (contains-all_at_most c (take window.taken xs) (λ k d lt. omega (arith, is.before k d lt)) ∙ (odd_length (take window.taken xs) ∙ ap (λ n. n % 2 == 1) (length-take-le window.taken xs is.within))))
-
 -- an element of an ascending list, and those from there on
 pub record Ascends (n : ℕ) (xs : List ℕ) (i : ℕ) : Type 0 where
   pub least : n ≤ get_or xs i 0
@@ -107,35 +96,91 @@ contains-front n c xs i h lt below =
     differ-no true = refl
     differ-no false = refl
 
-differ-turned : (le start front : Bool) → differ le (differ start front) ≡ differ start (differ front (differ le false))
-differ-turned true true true = refl
-differ-turned true true false = refl
-differ-turned true false true = refl
-differ-turned true false false = refl
-differ-turned false true true = refl
-differ-turned false true false = refl
-differ-turned false false true = refl
-differ-turned false false false = refl
-
 offset_reaches : (x place j : ℕ) → place ≤ x → nat_le (x - place) j ≡ nat_le x (place + j)
 offset_reaches x place j le = elim (cases_lt (place + j) x) [
   | inl below ↦ lt-leb (x - place) j (omega arith) ∙ sym (lt-leb x (place + j) below)
   | inr above ↦ le-leb (x - place) j (omega arith) ∙ sym (le-leb x (place + j) above)
 ]
 
--- one element more
-pub turned_more : (start bit : Bool) (xs : List ℕ) (i place j : ℕ) → i < length xs → place ≤ get_or xs i 0 → bit ≡ differ start (contains (take i xs) (place + j)) →
-    differ (nat_le (get_or xs i 0 - place) j) bit ≡ differ start (contains (take (i + 1) xs) (place + j))
-turned_more start bit xs i place j lt le is =
-    let x = get_or xs i 0 in
-    let front = contains (take i xs) (place + j) in
-    ap₂ differ (offset_reaches x place j le) is
-    ∙ (differ-turned (nat_le x (place + j)) start front
-    ∙ ap (differ start) (sym (contains-append (take i xs) (x ∷ []) (place + j)) ∙ ap (λ l. contains l (place + j)) (sym (take_more xs i 0 lt))))
+differ_swap : (a b : Bool) → differ a b ≡ differ b (differ a false)
+differ_swap true true = refl
+differ_swap true false = refl
+differ_swap false true = refl
+differ_swap false false = refl
 
--- a slice up to the end
-pub rest_of : (xs list : List ℕ) (taken : ℕ) → list ≡ xs → take (length list - taken) (drop taken list) ≡ drop taken xs
-rest_of xs list taken same = take_all (length list - taken) (drop taken list) (omega (arith, length-drop taken list)) ∙ ap (drop taken) same
+-- The elements in front have turned the word, and the others are behind the place.
+pub record IsTurned (xs : List ℕ) (place taken word : ℕ) : Type 0 where
+  pub within : taken ≤ length xs
+  pub before : All (λ x. x < place + 128) (take taken xs)
+  pub behind : All (λ x. place ≤ x) (drop taken xs)
+  pub bits : (j : ℕ) → j < 128 → has_bit word j ≡ contains (take taken xs) (place + j)
+
+pub turned_none : (xs : List ℕ) (place word : ℕ) (window : Window) → IsWindow xs place window → place ≤ window.next → ((j : ℕ) → j < 128 → has_bit word j ≡ is_inside window) → IsTurned xs place window.taken word
+turned_none xs place word window is ahead same = record {
+  within = is.within;
+  before = λ k d lt. omega (arith, is.before k d lt);
+  behind = λ k d lt. omega (arith, is.behind k d lt);
+  bits = λ j h.
+      same j h
+      ∙ sym (contains-all_at_most (place + j) (take window.taken xs) (λ k d lt. omega (arith, is.before k d lt)) ∙ (odd_length (take window.taken xs) ∙ ap (λ n. n % 2 == 1) (length-take-le window.taken xs is.within)));
+}
+
+-- the next element is behind the place
+pub turned_least : (xs : List ℕ) (place taken word x : ℕ) → IsTurned xs place taken word → slice_get xs taken ≡ Some x → place ≤ x
+turned_least xs place taken word x is at =
+    let lt = slice_get_within xs taken x at in
+    let first : get_or (drop taken xs) 0 0 ≡ get_or xs taken 0 = get_or-drop taken xs 0 0 ∙ ap (λ k. get_or xs k 0) (omega arith) in
+    omega (arith, is.behind 0 0 (omega (arith, length-drop taken xs)), first, get_or_from_slice_get xs taken x 0 at)
+
+-- one element more
+pub turned_more : (xs : List ℕ) (place taken word new x : ℕ) → IsTurned xs place taken word → slice_get xs taken ≡ Some x → x < place + 128 →
+    ((j : ℕ) → j < 128 → has_bit new j ≡ differ (nat_le (x - place) j) (has_bit word j)) → IsTurned xs place (taken + 1) new
+turned_more xs place taken word new x is at short turned =
+    let lt = slice_get_within xs taken x at in
+    let found = get_or_from_slice_get xs taken x 0 at in
+    let least = turned_least xs place taken word x is at in
+    let more : take (taken + 1) xs ≡ take taken xs ++ x ∷ [] = take_more xs taken 0 lt ∙ ap (λ y. take taken xs ++ y ∷ []) found in
+    record {
+      within = omega arith;
+      before = subst (λ (l : List ℕ). All (λ x. x < place + 128) l) (sym more) (All-append (λ x. x < place + 128) (take taken xs) (x ∷ []) is.before (All-cons (λ x. x < place + 128) x [] short (All-nil (λ x. x < place + 128))));
+      behind = λ k d rest.
+          let same : taken + 1 + k ≡ taken + (k + 1) = omega arith in
+          omega (arith, is.behind (k + 1) d (omega (arith, rest, length-drop taken xs, length-drop (taken + 1) xs)), get_or-drop taken xs (k + 1) d, get_or-drop (taken + 1) xs k d, ap (λ n. get_or xs n d) same);
+      bits = λ j h.
+          turned j h
+          ∙ (ap₂ differ (offset_reaches x place j least) (is.bits j h)
+          ∙ (differ_swap (nat_le x (place + j)) (contains (take taken xs) (place + j))
+          ∙ sym (ap (λ l. contains l (place + j)) more ∙ contains-append (take taken xs) (x ∷ []) (place + j))));
+    }
+
+-- The word is read, and no element behind it turns it.
+pub record IsRead (xs : List ℕ) (place taken next word : ℕ) : Type 0 where
+  pub is_word : IsWord xs place word
+  pub window : IsWindow xs (place + 128) (record { taken = taken; next = next })
+
+pub turned_before : (xs : List ℕ) (place taken next word : ℕ) → IsInversionList xs → IsTurned xs place taken word → slice_get xs taken ≡ Some next → place + 128 ≤ next → IsRead xs place taken next word
+turned_before xs place taken next word list is at far =
+    let lt = slice_get_within xs taken next at in
+    let found = λ (d : ℕ). get_or_from_slice_get xs taken next d at in
+    let ascends = (IsInversionList-parts xs list).0 in
+    record {
+      is_word = λ j h. is.bits j h ∙ sym (contains-front 0 (place + j) xs taken ascends lt (omega (arith, found 0)));
+      window = record { within = is.within; before = λ k d lt. omega (arith, is.before k d lt); behind = next_least xs taken next ascends lt found };
+    }
+
+-- one window more is moved on
+pub windows_more : (sets : List (Bor CodePointInversionList)) (place : ℕ) (old new : List Window) (index : ℕ) → AreWindows sets place old → HasWindow sets place new index → ((i : ℕ) → i ≢ index → slice_get new i ≡ slice_get old i) → AreWindows sets place new
+windows_more sets place old new index are here others i set window at of_it = elim (cases_eq i index) [
+  | inl same ↦ subst (HasWindow sets place new) (sym same) here set window at of_it
+  | inr other ↦ are i set window at (sym (others i other) ∙ of_it)
+]
+
+-- and those of later indices are as they were
+pub windows_left : (sets : List (Bor CodePointInversionList)) (place : ℕ) (old new : List Window) (mixed : List ℕ) (k : ℕ) → AllPairs (λ i j. i < j) mixed →
+    ((n : ℕ) → k ≤ n → n < length mixed → HasWindow sets place old (get_or mixed n 0)) → ((i : ℕ) → i ≢ get_or mixed k 0 → slice_get new i ≡ slice_get old i) → (n : ℕ) → k + 1 ≤ n → n < length mixed → HasWindow sets place new (get_or mixed n 0)
+windows_left sets place old new mixed k ascending left others n le lt set window at of_it =
+    let apart = ascending k n 0 (omega arith) lt in
+    left n (omega arith) lt set window at (sym (others (get_or mixed n 0) (omega (arith, apart))) ∙ of_it)
 
 one_listed : (x i : ℕ) → Contains (x ∷ []) i → x ≡ i
 one_listed x i (zero, lt, is) = is

@@ -17,10 +17,14 @@ pub record IsWindow (xs : List ℕ) (place : ℕ) (window : Window) : Type 0 whe
 abbrev pub is_inside : Window → Bool
 is_inside window = window.taken % 2 == 1
 
+-- the set with the index has its window
+abbrev pub HasWindow : List (Bor CodePointInversionList) → ℕ → List Window → ℕ → Type 0
+HasWindow sets place windows i = (set : Bor CodePointInversionList) (window : Window) →
+    slice_get sets i ≡ Some set → slice_get windows i ≡ Some window → IsWindow set.now place window
+
 -- each set has its window
 abbrev pub AreWindows : List (Bor CodePointInversionList) → ℕ → List Window → Type 0
-AreWindows sets place windows = (i : ℕ) (set : Bor CodePointInversionList) (window : Window) →
-    slice_get sets i ≡ Some set → slice_get windows i ≡ Some window → IsWindow set.now place window
+AreWindows sets place windows = (i : ℕ) → HasWindow sets place windows i
 
 -- the set with the index has its block
 abbrev pub HasBlock : List (Bor CodePointInversionList) → ℕ → List Block → ℕ → Type 0

@@ -1,8 +1,7 @@
 //! What is known of sets from a place on, in the order of code points.
-ghost use Rattle.std.specs.Prelude.{◌≡◌, ℕ, ◌+◌, ◌<◌, ◌≤◌, true, length, Contains, Some, slice_get, IfOk};
-ghost use Rattle.cp_invlist.specs.InversionList.{contains, differ, ascends_from};
+ghost use Rattle.std.specs.Prelude.{◌≡◌, ◌≢◌, ℕ, ◌+◌, ◌<◌, ◌≤◌, length, AllPairs, Contains, Some, slice_get, IfOk};
 ghost use Rattle.cp_terms.specs.Words.{has_bit};
-ghost use Rattle.cp_terms.specs.Windows.{AreWindows, HasBlock};
+ghost use Rattle.cp_terms.specs.Windows.{HasWindow, AreWindows, HasBlock};
 ghost use Rattle.cp_terms.specs.declared.windows.Window.{Window};
 
 use crate::block::Block;
@@ -63,31 +62,44 @@ impl Window {
         }
     }
 
-    /// Which of the 128 code points from the place on are members.
-    fn word(self, set: &CodePointInversionList, place: u32) -> u128
-        requires window { IsWindow set.now place self }
-        requires ahead { place < self.next }
-        ensures { IsWord set.now place result }
+    /// Which of the 128 code points from the place on are members. The window moves on behind them.
+    fn word(&mut self, set: &CodePointInversionList, place: u32) -> u128
+        requires place { place + 128 ≤ 0x11_0000 }
+        requires window { IsWindow set.now place self.old }
+        requires ahead { place ≤ self.old.next }
+        ensures word { IsWord set.now place result }
+        ensures window { IsWindow set.now (place + 128) self.new }
+        ensures ahead { place + 128 ≤ self.new.next }
     {
-        let start = filled(self.is_inside());
-        if self.next - place >= 128 {
-            return start;
+        let elements = set.get_inversion_list();
+        let mut taken = self.taken;
+        let mut word = filled(self.is_inside());
+        while let Some(element) = elements.get(taken) {
+            let offset = *element - place;
+            if offset >= 128 {
+                let next = *element;
+                *self = Window { taken, next };
+                return word;
+            }
+            word ^= u128::MAX << offset;
+            taken += 1;
         }
-        turned(start, &set.get_inversion_list()[self.taken..], place)
+        let next = LAST_CODE_POINT + 1;
+        *self = Window { taken, next };
+        word
     }
 
-    /// Which of the 1,024 code points from the place on are members.
-    fn block(self, set: &CodePointInversionList, place: u32) -> Block
+    /// Which of the 1,024 code points from the place on are members. The window moves on behind them.
+    fn block(&mut self, set: &CodePointInversionList, place: u32) -> Block
         requires place { place + 1024 ≤ 0x11_0000 }
-        requires window { IsWindow set.now place self }
-        ensures { IsBlock set.now place result }
+        requires window { IsWindow set.now place self.old }
+        requires ahead { place ≤ self.old.next }
+        ensures block { IsBlock set.now place result }
+        ensures window { IsWindow set.now (place + 1024) self.new }
     {
-        let mut window = self;
         let mut words = [0u128; 8];
         for index in 0..8u32 {
-            let start = place + 128 * index;
-            window = window.moved(set, start);
-            words[index as usize] = window.word(set, start);
+            words[index as usize] = self.word(set, place + 128 * index);
         }
         Block { words }
     }
@@ -98,22 +110,6 @@ fn filled(inside: bool) -> u128
     ensures { (j : ℕ) → j < 128 → has_bit result j ≡ inside }
 {
     if inside { u128::MAX } else { 0 }
-}
-
-/// The word that turns at each of the elements.
-fn turned(start: u128, elements: &[u32], place: u32) -> u128
-    requires { ascends_from (place + 1) elements.now ≡ true }
-    ensures { (j : ℕ) → j < 128 → has_bit result j ≡ differ (has_bit start j) (contains elements.now (place + j)) }
-{
-    let mut word = start;
-    for element in elements {
-        let offset = *element - place;
-        if offset >= 128 {
-            return word;
-        }
-        word ^= u128::MAX << offset;
-    }
-    word
 }
 
 /// Moves all windows on to the place.
@@ -129,14 +125,15 @@ pub(crate) fn move_all(sets: &[&CodePointInversionList], windows: &mut [Window],
     }
 }
 
-/// The indices of the sets that change before the end.
+/// The indices of the sets that change before the end, in order.
 pub(crate) fn mixed_before(
     alloc: Global,
     windows: &[Window],
     end: u32,
 ) -> Result<Vec<usize>, NoMemory>
-    ensures { IfOk result
+    ensures mixed { IfOk result
         (λ mixed. (i : ℕ) (window : Window) → slice_get windows.now i ≡ Some window → window.next < end → Contains mixed.items i) }
+    ensures ascending { IfOk result (λ mixed. AllPairs (λ i j. i < j) mixed.items) }
 {
     let mut mixed = Vec::new(alloc);
     for (index, window) in windows.iter().enumerate() {
@@ -147,7 +144,7 @@ pub(crate) fn mixed_before(
     Ok(mixed)
 }
 
-/// Moves the window of the set with the index on to the place, and makes its block there.
+/// Makes the block of the set with the index at the place, and moves its window on behind it.
 fn fill_block(
     sets: &[&CodePointInversionList],
     index: usize,
@@ -158,21 +155,22 @@ fn fill_block(
     requires place { place + 1024 ≤ 0x11_0000 }
     requires windows_each { length windows.old ≡ length sets.now }
     requires blocks_each { length blocks.old ≡ length sets.now }
-    requires windows { AreWindows sets.now place windows.old }
+    requires window { HasWindow sets.now place windows.old index }
     ensures windows_each { length windows.new ≡ length sets.now }
     ensures blocks_each { length blocks.new ≡ length sets.now }
-    ensures windows { AreWindows sets.now place windows.new }
+    ensures window { HasWindow sets.now (place + 1024) windows.new index }
+    ensures other_windows { (i : ℕ) → i ≢ index → slice_get windows.new i ≡ slice_get windows.old i }
     ensures block { HasBlock sets.now place blocks.new index }
-    ensures others { (i : ℕ) → HasBlock sets.now place blocks.old i → HasBlock sets.now place blocks.new i }
+    ensures other_blocks { (i : ℕ) → HasBlock sets.now place blocks.old i → HasBlock sets.now place blocks.new i }
 {
     if let Some(set) = sets.get(index) {
-        let window = windows[index].moved(set, place);
-        windows[index] = window;
+        let mut window = windows[index].moved(set, place);
         blocks[index] = window.block(set, place);
+        windows[index] = window;
     }
 }
 
-/// Moves the windows of the sets with these indices on to the place, and makes their blocks there.
+/// Makes the blocks of the sets with these indices at the place, and moves their windows on behind them.
 pub(crate) fn fill_blocks(
     sets: &[&CodePointInversionList],
     mixed: &[usize],
@@ -181,12 +179,13 @@ pub(crate) fn fill_blocks(
     place: u32,
 )
     requires place { place + 1024 ≤ 0x11_0000 }
+    requires ascending { AllPairs (λ i j. i < j) mixed.now }
     requires windows_each { length windows.old ≡ length sets.now }
     requires blocks_each { length blocks.old ≡ length sets.now }
     requires windows { AreWindows sets.now place windows.old }
     ensures windows_each { length windows.new ≡ length sets.now }
     ensures blocks_each { length blocks.new ≡ length sets.now }
-    ensures windows { AreWindows sets.now place windows.new }
+    ensures windows { AreWindows sets.now (place + 1024) windows.new }
     ensures blocks { (i : ℕ) → Contains mixed.now i → HasBlock sets.now place blocks.new i }
 {
     for index in mixed {

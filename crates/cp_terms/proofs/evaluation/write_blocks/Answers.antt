@@ -13,7 +13,7 @@ loop-index-preserved c =
     record {
       windows_each = c.fill_blocks.ensures.windows_each;
       blocks_each = c.fill_blocks.ensures.blocks_each;
-      windows = windows_later c.args.sets.now place next c.fill_blocks.new.windows (omega arith) c.fill_blocks.ensures.windows;
+      windows = windows_later c.args.sets.now (place + 1024) next c.fill_blocks.new.windows (omega arith) c.fill_blocks.ensures.windows;
       before = before_later (place + 1024) next c.write_block.new.self (omega arith) c.in_ok-write_block.ensures.before;
       members = λ m tell made.
           tell_at m c.write_block.new.self (place + 1024) next (omega arith)
@@ -21,7 +21,7 @@ loop-index-preserved c =
           (λ i j short h.
           made (place + 128 * i + j) (block_holds c.fill_blocks.new.blocks i j) (omega arith) (omega arith)
           (holds_mixed c.args.sets.now c.args.windows.now (c.args.start + 0x4000) place i j c.fill_blocks.new.blocks c.deref.result.now empty (empty_has i j short) c.fill_blocks.ensures.blocks_each
-          (λ k window at below. listed_by_slice c.in_ok-mixed.mixed.items c.deref.result.now k c.deref.ensures.value (c.in_ok-mixed.ensures k window at below)) c.fill_blocks.ensures.blocks short h)
+          (λ k window at below. listed_by_slice c.in_ok-mixed.mixed.items c.deref.result.now k c.deref.ensures.value (c.in_ok-mixed.ensures.mixed k window at below)) c.fill_blocks.ensures.blocks short h)
           ∙ sym (c.in_ok-evaluate_blocks.ensures i j short h)));
     }
 

@@ -1,4 +1,4 @@
-use Rattle.std.proofs.Common.{◌≡◌, ℕ, ◌+◌, ◌*◌, ◌<◌, length}
+use Rattle.std.proofs.Common.{◌≡◌, ℕ, ◌+◌, ◌*◌, ◌<◌, ◌≤◌, length}
 use Rattle.std.specs.List.{slice_index}
 use Rattle.cp_terms.specs.Words.{IsWord}
 use Rattle.cp_terms.specs.Windows.{IsWindow}
@@ -6,7 +6,8 @@ use Rattle.cp_terms.proofs.windows.Window.block.Given as goal
 
 abbrev pub invariant-loop-index : goal.invariant-loop-index
 invariant-loop-index l = record {
-  window : IsWindow l.set (l.place + 128 * l.index) l.window;
+  window : IsWindow l.set (l.place + 128 * l.index) l.self;
+  ahead : l.place + 128 * l.index ≤ l.self.next;
   sized : length l.words ≡ 8;
   words : (i : ℕ) → i < l.index → IsWord l.set (l.place + 128 * i) (slice_index l.words i);
 }

@@ -1,19 +1,42 @@
-use Rattle.std.proofs.Common.{◌≡◌, ◌+◌, true, List, ℕ, sym, ap₂, ◌∙◌, arith, subst}
-use Rattle.cp_invlist.specs.InversionList.{contains, differ, ascends_from}
-use Rattle.cp_terms.proofs.WindowLemmas.{window_tells, rest_ascends, contains-rest, rest_of}
+use Rattle.std.proofs.Common.{◌≡◌, ◌-◌, ◌<◌, length, get_or, Some, refl, ◌∙◌, arith, subst, List, ℕ}
+use Rattle.std.specs.List.{slice_get}
+use Rattle.std.proofs.lemmas.Option.{slice_get_read}
+use Rattle.cp_terms.proofs.BitLemmas.{has_bit-turned}
+use Rattle.cp_terms.proofs.WindowLemmas.{IsRead, turned_none, turned_least, turned_more, turned_before}
 use Rattle.cp_terms.proofs.windows.Window.word.Goals as goal
+use Rattle.cp_terms.proofs.windows.Window.word.Goals.{Then-offset-ge128}
 
-pub returns-then-self-place-ge128 : goal.returns-then-self-place-ge128
-returns-then-self-place-ge128 c = λ j h.
-    c.filled-start.ensures j h ∙ (c.is_inside.ensures ∙ sym (window_tells c.args.set.now c.args.place (c.args.place + j) c.args.self c.requires.window (omega arith) (omega arith)))
+pub loop-element-init : goal.loop-element-init
+loop-element-init c = turned_none c.args.set.now c.args.place c.filled-word.result c.args.self.now c.requires.window c.requires.ahead (λ j h. c.filled-word.ensures j h ∙ c.is_inside.ensures)
 
-pub turned-requires : goal.turned-requires
-turned-requires c =
-    subst (λ (l : List ℕ). ascends_from (c.args.place + 1) l ≡ true) (sym (rest_of c.args.set.now c.get_inversion_list.result.now c.args.self.taken c.get_inversion_list.ensures.elements))
-    (rest_ascends c.args.set.now c.args.place c.args.self c.get_inversion_list.ensures.canonical c.requires.window c.requires.ahead)
+-- the element that is next
+found : (xs elements : List ℕ) (taken x : ℕ) → elements ≡ xs → taken < length elements → x ≡ get_or elements taken x → slice_get xs taken ≡ Some x
+found xs elements taken x same lt is = subst (λ (l : List ℕ). slice_get l taken ≡ Some x) same (slice_get_read elements (length elements) taken x refl lt is)
 
-pub returns : goal.returns
-returns c = λ j h.
-    c.turned.ensures j h
-    ∙ (ap₂ (λ b l. differ b (contains l (c.args.place + j))) (c.filled-start.ensures j h ∙ c.is_inside.ensures) (rest_of c.args.set.now c.get_inversion_list.result.now c.args.self.taken c.get_inversion_list.ensures.elements)
-    ∙ sym (contains-rest c.args.set.now c.args.place (c.args.place + j) c.args.self c.requires.window (omega arith)))
+pub overflow_sub-offset : goal.overflow_sub-offset
+overflow_sub-offset c =
+    let lookup = c.in-Some.ensures.lookup in
+    let xs = c.get_inversion_list-elements in
+    turned_least c.args.set.now c.args.place c.loop-element.taken c.loop-element.word c.in-Some.element.now c.loop-element.invariant
+    (found c.args.set.now xs.result.now c.loop-element.taken c.in-Some.element.now xs.ensures.elements lookup.3.0 lookup.1)
+
+read : (c : Then-offset-ge128) → IsRead c.args.set.now c.args.place c.loop-element.taken c.in-Some.element.now c.loop-element.word
+read c =
+    let lookup = c.in-Some.ensures.lookup in
+    let xs = c.get_inversion_list-elements in
+    turned_before c.args.set.now c.args.place c.loop-element.taken c.in-Some.element.now c.loop-element.word xs.ensures.canonical c.loop-element.invariant
+    (found c.args.set.now xs.result.now c.loop-element.taken c.in-Some.element.now xs.ensures.elements lookup.3.0 lookup.1) (omega arith)
+
+pub returns-then-offset-ge128-clause-word : goal.returns-then-offset-ge128-clause-word
+returns-then-offset-ge128-clause-word c = (read c).is_word
+
+pub returns-then-offset-ge128-clause-window : goal.returns-then-offset-ge128-clause-window
+returns-then-offset-ge128-clause-window c = (read c).window
+
+pub loop-element-preserved : goal.loop-element-preserved
+loop-element-preserved c =
+    let lookup = c.in-Some.ensures.lookup in
+    let xs = c.get_inversion_list-elements in
+    let x = c.in-Some.element.now in
+    turned_more c.args.set.now c.args.place c.loop-element.taken c.loop-element.word _ x c.loop-element.invariant (found c.args.set.now xs.result.now c.loop-element.taken x xs.ensures.elements lookup.3.0 lookup.1) (omega arith)
+    (λ j h. has_bit-turned c.loop-element.word (x - c.args.place) j c.if-offset-ge128.false h)
