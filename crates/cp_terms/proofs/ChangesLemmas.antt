@@ -87,3 +87,7 @@ tell_push m place end inside xs before is tell constant = record {
 -- below 0 no code point is told
 pub tell_none : (m : ℕ → Bool) (xs : List ℕ) → TellBelow m 0 xs
 tell_none m xs = record { told = λ c lt. absurd (omega (arith, lt)) }
+
+-- from a place up to itself all is constant
+pub constant_none : (m : ℕ → Bool) (place : ℕ) (inside : Bool) → IsConstant m place place inside
+constant_none m place inside c le lt = absurd (omega arith)

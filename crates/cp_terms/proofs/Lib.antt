@@ -4,4 +4,5 @@ pub mod BlockLemmas
 pub mod WindowLemmas
 pub mod ShortenLemmas
 pub mod ChangesLemmas
+pub mod CopyLemmas
 pub mod StretchLemmas

@@ -3,6 +3,7 @@ use Rattle.std.proofs.Common.{◌≡◌, ℕ, ◌+◌, ◌*◌, ◌<◌, ◌≤�
 use Rattle.std.specs.List.{slice_get}
 use Rattle.std.proofs.lemmas.Option.{slice_get_within, slice_get_cases, slice_get-get_or}
 use Rattle.std.proofs.lemmas.Bool.{le-leb}
+use Rattle.cp_invlist.specs.InversionList.{differ}
 use Rattle.cp_invlist.specs.declared.set.CodePointInversionList.{CodePointInversionList}
 use Rattle.cp_terms.specs.declared.windows.Window.{Window}
 use Rattle.cp_terms.specs.declared.step.Step.{Step}
@@ -12,7 +13,7 @@ use Rattle.cp_terms.specs.declared.block.Block.{Block}
 use Rattle.cp_terms.specs.Blocks.{block_has, block_holds}
 use Rattle.cp_terms.specs.Windows.{AreWindows, HasBlock, HoldsMixed}
 use Rattle.cp_terms.specs.Shorten.{Agree, AgreesAt, FitsTerm}
-use Rattle.cp_terms.specs.Changes.{IsConstant, AreMade, members_of}
+use Rattle.cp_terms.specs.Changes.{IsConstant, AreMade, AreOfSet, members_of}
 use Rattle.cp_terms.proofs.WindowLemmas.{window_tells}
 use Rattle.cp_terms.proofs.BlockLemmas.{block_holds-get_or}
 use Rattle.cp_terms.proofs.TermsLemmas.{holds_at-reference, holds_at-past}
@@ -75,6 +76,13 @@ pub stretch_constant : (sets : List (Bor CodePointInversionList)) (windows : Lis
 stretch_constant sets windows start ss term inside within same are shortens told c le lt =
     let v = holds_at (map (λ s. s.now) sets) c in
     members_told sets ss c inside (omega arith)
+    (told v (steps_done v ss []) (shortens.fits v v (agree_from sets windows start (start + 0x4000) c v same are le lt (holds_itself sets windows (start + 0x4000) c))))
+
+pub stretch_of_set : (sets : List (Bor CodePointInversionList)) (windows : List Window) (start : ℕ) (ss : List Step) (term : Shortened) (index : ℕ) (complemented : Bool) → start + 0x4000 ≤ 0x110000 → length windows ≡ length sets →
+    AreWindows sets start windows → Shortens windows (start + 0x4000) ss term → ((w : ℕ → Bool) (stack : List Bool) → FitsTerm w term stack → top stack ≡ differ complemented (w index)) → AreOfSet sets start index complemented (members_of sets ss)
+stretch_of_set sets windows start ss term index complemented within same are shortens told c le lt =
+    let v = holds_at (map (λ s. s.now) sets) c in
+    members_told sets ss c (differ complemented (v index)) (omega arith)
     (told v (steps_done v ss []) (shortens.fits v v (agree_from sets windows start (start + 0x4000) c v same are le lt (holds_itself sets windows (start + 0x4000) c))))
 
 pub stretch_made : (sets : List (Bor CodePointInversionList)) (windows : List Window) (start : ℕ) (ss : List Step) (term : Shortened) → start + 0x4000 ≤ 0x110000 → length windows ≡ length sets →

@@ -1,10 +1,10 @@
 -- What windows say of sets.
 use Rattle.std.proofs.Common.{◌≡◌, ℕ, zero, suc, ◌+◌, ◌-◌, ◌%◌, ◌<◌, ◌≤◌, ◌≢◌, Bool, true, false, ◌==◌, nat_le, List, [], ◌∷◌, ◌++◌, Some, AllPairs, Contains, length, take, drop, get_or, All, Bor, refl, sym, ap, ap₂, ◌∙◌, arith, subst, inl, inr}
 use Rattle.std.specs.List.{slice_get}
-use Rattle.std.proofs.lemmas.Option.{slice_get_within, get_or_from_slice_get}
+use Rattle.std.proofs.lemmas.Option.{slice_get_within, get_or_from_slice_get, slice_get-get_or}
 use Rattle.std.proofs.Math.Seq.{drop-cons}
 use Rattle.std.proofs.lemmas.Bool.{le-leb, lt-leb, cases_lt, cases_eq}
-use Rattle.std.proofs.lemmas.List.{get_or-drop, length-drop, take-append-drop, length-take-le, take_more}
+use Rattle.std.proofs.lemmas.List.{get_or-drop, length-drop, take-append-drop, length-take-le, take_more, take_all}
 use Rattle.std.proofs.lemmas.List.Elements.{Contains-append_cases, All-append, All-cons, All-nil}
 use Rattle.cp_invlist.specs.InversionList.{contains, differ, ascends_from, IsInversionList}
 use Rattle.cp_invlist.specs.Cuts.{CutAfter}
@@ -182,6 +182,10 @@ windows_left sets place old new mixed k ascending left others n le lt set window
     let apart = ascending k n 0 (omega arith) lt in
     left n (omega arith) lt set window at (sym (others (get_or mixed n 0) (omega (arith, apart))) ∙ of_it)
 
+-- a slice up to the end
+pub rest_of : (xs list : List ℕ) (taken : ℕ) → list ≡ xs → take (length list - taken) (drop taken list) ≡ drop taken xs
+rest_of xs list taken same = take_all (length list - taken) (drop taken list) (omega (arith, length-drop taken list)) ∙ ap (drop taken) same
+
 one_listed : (x i : ℕ) → Contains (x ∷ []) i → x ≡ i
 one_listed x i (zero, lt, is) = is
 one_listed x i (suc k, lt, is) = absurd (omega (arith, lt))
@@ -194,3 +198,17 @@ blocks_more sets place old new mixed k lt before here others i listed =
       | inl was ↦ others i (before i was)
       | inr is ↦ subst (HasBlock sets place new) (one_listed (get_or mixed k 0) i is) here
     ]
+
+-- a window that has its next element ahead
+pub record IsAhead (xs : List ℕ) (place : ℕ) (window : Window) : Type 0 where
+  pub window_there : IsWindow xs place window
+  pub ahead : place < window.next
+
+pub window_of : (sets : List (Bor CodePointInversionList)) (windows : List Window) (place index : ℕ) (set : Bor CodePointInversionList) (none : Window) → length windows ≡ length sets → AreWindows sets place windows → All (λ window. place < window.next) windows →
+    slice_get sets index ≡ Some set → IsAhead set.now place (get_or windows index none)
+window_of sets windows place index set none same are ahead at =
+    let within : index < length windows = omega (arith, slice_get_within sets index set at, same) in
+    record {
+      window_there = are index set (get_or windows index none) at (slice_get-get_or windows index none within);
+      ahead = ahead index none within;
+    }

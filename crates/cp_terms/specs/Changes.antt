@@ -1,7 +1,7 @@
 -- The changes of a set that is written in the order of code points.
 use Rattle.std.specs.Prelude.{◌≡◌, ℕ, ◌+◌, ◌<◌, ◌≤◌, Bool, ◌&&◌, All, map, List}
 use Rattle.std.specs.Borrow.{Bor}
-use Rattle.cp_invlist.specs.InversionList.{contains, is_code_point}
+use Rattle.cp_invlist.specs.InversionList.{contains, differ, is_code_point}
 use Rattle.cp_invlist.specs.declared.set.CodePointInversionList.{CodePointInversionList}
 use Rattle.cp_terms.specs.declared.step.Step.{Step}
 use Rattle.cp_terms.specs.declared.windows.Window.{Window}
@@ -28,3 +28,8 @@ members_of sets ss c = is_code_point c && value_of (holds_at (map (λ s. s.now) 
 abbrev pub AreMade : List (Bor CodePointInversionList) → List Window → ℕ → List Step → (ℕ → Bool) → Type 0
 AreMade sets windows start ss m = (c : ℕ) (w : ℕ → Bool) → start ≤ c → c < start + 0x4000 →
     HoldsMixed sets windows (start + 0x4000) c w → m c ≡ value_of w ss
+
+-- On a stretch the members are those of the set with the index, or where it is complemented the others.
+abbrev pub AreOfSet : List (Bor CodePointInversionList) → ℕ → ℕ → Bool → (ℕ → Bool) → Type 0
+AreOfSet sets start index complemented m = (c : ℕ) → start ≤ c → c < start + 0x4000 →
+    m c ≡ differ complemented (holds_at (map (λ s. s.now) sets) c index)

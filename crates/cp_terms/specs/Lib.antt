@@ -5,3 +5,4 @@ pub mod Windows
 pub mod Shorten
 pub mod Changes
 pub mod ShortenParts
+pub mod Outcome

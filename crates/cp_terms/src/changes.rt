@@ -25,8 +25,8 @@ impl Model for Changes {
 }
 
 impl Changes {
-    ghost use Rattle.std.specs.Prelude.{◌≡◌, ℕ, ◌+◌, ◌*◌, ◌<◌, ◌≤◌, Bool, true, not, [], IfOk, OnOk};
-    ghost use Rattle.cp_invlist.specs.InversionList.{has_even_length};
+    ghost use Rattle.std.specs.Prelude.{◌≡◌, ℕ, ◌+◌, ◌*◌, ◌<◌, ◌≤◌, Bool, true, not, [], ◌++◌, IfOk, OnOk};
+    ghost use Rattle.cp_invlist.specs.InversionList.{ascends_from, has_even_length};
     ghost use Rattle.cp_terms.specs.Words.{has_bit};
     ghost use Rattle.cp_terms.specs.Blocks.{block_has};
     ghost use Rattle.cp_terms.specs.Changes.{AreBefore, TellBelow, IsConstant};
@@ -59,6 +59,15 @@ impl Changes {
         if self.is_inside() != inside {
             self.elements.push(place)?;
         }
+        Ok(())
+    }
+
+    /// Puts further changes behind these.
+    pub(crate) fn extend(&mut self, changes: &[u32]) -> Result<(), NoMemory>
+        requires { ascends_from 0 self.old ≡ true → ascends_from 0 (self.old ++ changes.now) ≡ true }
+        ensures { OnOk result (self.new ≡ self.old ++ changes.now) }
+    {
+        self.elements.extend_from_slice(changes)?;
         Ok(())
     }
 

@@ -1,14 +1,14 @@
 //! The set that a term stands for.
-ghost use Rattle.std.specs.Prelude.{◌≡◌, ℕ, ◌+◌, ◌<◌, ◌≤◌, ◌&&◌, Bool, map, length, IfOk, OnOk};
+ghost use Rattle.std.specs.Prelude.{◌≡◌, ℕ, ◌+◌, ◌<◌, ◌≤◌, ◌&&◌, Bool, map, length, All, IfOk, OnOk};
 ghost use Rattle.cp_invlist.specs.InversionList.{contains, is_code_point};
 ghost use Rattle.cp_terms.specs.Terms.{value_of, holds_at};
 ghost use Rattle.cp_terms.specs.Windows.{AreWindows};
-ghost use Rattle.cp_terms.specs.Changes.{AreBefore, TellBelow, AreMade, members_of};
+ghost use Rattle.cp_terms.specs.Changes.{AreBefore, TellBelow, AreMade, AreOfSet, members_of};
 
 use crate::block::Block;
 use crate::blocks::evaluate_blocks;
 use crate::changes::Changes;
-use crate::shorten::Shortened;
+use crate::shorten::{Outcome, Shortened};
 use crate::step::Step;
 use crate::windows::{Window, fill_blocks, mixed_before, move_all};
 use cp_invlist::{CodePointInversionList, LAST_CODE_POINT, NoMemory};
@@ -52,6 +52,33 @@ fn write_blocks(
     Ok(())
 }
 
+/// Writes the members of the set with the index on a stretch, or where it is complemented the others.
+fn write_set(
+    sets: &[&CodePointInversionList],
+    windows: &[Window],
+    index: usize,
+    complemented: bool,
+    start: u32,
+    changes: &mut Changes,
+) -> Result<(), NoMemory>
+    requires start { start + 0x4000 ≤ 0x11_0000 }
+    requires windows_each { length windows.now ≡ length sets.now }
+    requires windows { AreWindows sets.now start windows.now }
+    requires ahead { All (λ window. start < window.next) windows.now }
+    requires before { AreBefore start changes.old }
+    ensures before { OnOk result (AreBefore (start + 0x4000) changes.new) }
+    ensures members { OnOk result ((m : ℕ → Bool) → TellBelow m start changes.old →
+        AreOfSet sets.now start index complemented m → TellBelow m (start + 0x4000) changes.new) }
+{
+    let Some(set) = sets.get(index) else {
+        // The set that there is not is empty.
+        return changes.turn(complemented, start);
+    };
+    let window = windows[index];
+    changes.turn(window.is_inside() != complemented, start)?;
+    changes.extend(window.elements_before(set, start + STRETCH))
+}
+
 /// Writes the members on a stretch.
 fn write_stretch(
     alloc: Global,
@@ -76,9 +103,13 @@ fn write_stretch(
 {
     move_all(sets, windows, start);
     let term = Shortened::new(alloc, windows, start + STRETCH, steps)?;
-    match term.constant() {
-        Some(inside) => changes.turn(inside, start),
-        None => write_blocks(alloc, sets, &term.steps, windows, blocks, start, changes),
+    match term.outcome() {
+        Outcome::Constant(inside) => changes.turn(inside, start),
+        Outcome::Set {
+            index,
+            complemented,
+        } => write_set(sets, windows, index, complemented, start, changes),
+        Outcome::Mixed => write_blocks(alloc, sets, &term.steps, windows, blocks, start, changes),
     }
 }
 

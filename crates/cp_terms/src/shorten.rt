@@ -37,6 +37,45 @@ impl Part {
     }
 }
 
+/// What a term comes down to on a stretch of code points.
+#[derive(Clone, Copy)]
+pub(crate) enum Outcome {
+    /// All of them are members, or none is.
+    Constant(bool),
+    /// The members are those of one set, or where it is complemented the others.
+    Set {
+        /// The index of the set.
+        index: usize,
+        /// Whether the members are the others.
+        complemented: bool,
+    },
+    /// The members are those that the steps make.
+    Mixed,
+}
+
+impl Outcome {
+    ghost use Rattle.std.specs.Prelude.{◌≡◌, ℕ, Bool};
+    ghost use Rattle.cp_terms.specs.Terms.{value_of};
+    ghost use Rattle.cp_terms.specs.Outcome.{outcome_value};
+
+    /// What steps come down to by themselves.
+    fn of_steps(steps: &[Step]) -> Outcome
+        ensures { (w : ℕ → Bool) → value_of w steps.now ≡ outcome_value w result steps.now }
+    {
+        match steps {
+            [Step::Push(index)] => Outcome::Set {
+                index: *index,
+                complemented: false,
+            },
+            [Step::Push(index), Step::Complement] => Outcome::Set {
+                index: *index,
+                complemented: true,
+            },
+            _ => Outcome::Mixed,
+        }
+    }
+}
+
 /// A term that is shortened, and the sets on its stack.
 pub(crate) struct Shortened {
     pub(crate) steps: Vec<Step>,
@@ -54,6 +93,7 @@ impl Shortened {
     ghost use Rattle.std.specs.Prelude.{◌≡◌, ℕ, ◌∷◌, Bool, List, [], IfOk, OnOk, IfSome, IfNone};
     ghost use Rattle.cp_terms.specs.Terms.{combined, both_done, step_done, steps_done, top, value_of};
     ghost use Rattle.cp_terms.specs.declared.shorten.Part.{Part};
+    ghost use Rattle.cp_terms.specs.Outcome.{outcome_value};
     ghost use Rattle.cp_terms.specs.Shorten.{Agree, FitsTerm, FitsUnder, FitsUnderBoth, changed, changed_top};
 
     /// Puts down a set that has all or none.
@@ -193,7 +233,7 @@ impl Shortened {
     }
 
     /// Whether the set on top has all or none, where either is known.
-    pub(crate) fn constant(&self) -> Option<bool>
+    fn constant(&self) -> Option<bool>
         ensures constant { IfSome result
             (λ inside. (w : ℕ → Bool) (stack : List Bool) → FitsTerm w self.now stack → top stack ≡ inside) }
         ensures mixed { IfNone result
@@ -202,6 +242,17 @@ impl Shortened {
         match self.stack.last() {
             Some(part) => part.constant(),
             None => Some(false),
+        }
+    }
+
+    /// What the set on top comes down to.
+    pub(crate) fn outcome(&self) -> Outcome
+        ensures { (w : ℕ → Bool) (stack : List Bool) →
+            FitsTerm w self.now stack → top stack ≡ outcome_value w result self.now.steps.items }
+    {
+        match self.constant() {
+            Some(inside) => Outcome::Constant(inside),
+            None => Outcome::of_steps(&self.steps),
         }
     }
 }

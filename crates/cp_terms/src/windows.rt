@@ -1,5 +1,5 @@
 //! What is known of sets from a place on, in the order of code points.
-ghost use Rattle.std.specs.Prelude.{◌≡◌, ◌≢◌, ℕ, ◌+◌, ◌<◌, ◌≤◌, length, AllPairs, Contains, Some, slice_get, IfOk};
+ghost use Rattle.std.specs.Prelude.{◌≡◌, ◌≢◌, ℕ, ◌+◌, ◌<◌, ◌≤◌, length, All, AllPairs, Contains, Some, slice_get, IfOk};
 ghost use Rattle.cp_terms.specs.Words.{has_bit};
 ghost use Rattle.cp_terms.specs.Windows.{HasWindow, AreWindows, HasBlock};
 ghost use Rattle.cp_terms.specs.declared.windows.Window.{Window};
@@ -21,7 +21,7 @@ impl Window {
     ghost use Rattle.std.specs.Prelude.{◌≡◌, ◌<◌, ◌≤◌, ◌+◌};
     ghost use Rattle.cp_terms.specs.Words.{IsWord};
     ghost use Rattle.cp_terms.specs.Blocks.{IsBlock};
-    ghost use Rattle.cp_terms.specs.Windows.{IsWindow, is_inside};
+    ghost use Rattle.cp_terms.specs.Windows.{IsWindow, AreLeftBefore, is_inside};
 
     /// What is known of each set before it is looked at.
     pub(crate) const UNKNOWN: Window = Window { taken: 0, next: 0 };
@@ -60,6 +60,15 @@ impl Window {
         } else {
             Window::at(set, place)
         }
+    }
+
+    /// The elements of the set from the next one on that lie before the end.
+    pub(crate) fn elements_before(self, set: &CodePointInversionList, end: u32) -> &[u32]
+        requires { self.taken ≤ length set.now }
+        ensures { AreLeftBefore set.now self.taken end result.now }
+    {
+        let left = &set.get_inversion_list()[self.taken..];
+        &left[..left.partition_point(|element| *element < end)]
     }
 
     /// Which of the 128 code points from the place on are members. The window moves on behind them.
@@ -119,6 +128,7 @@ pub(crate) fn move_all(sets: &[&CodePointInversionList], windows: &mut [Window],
     requires windows { AreWindows sets.now place windows.old }
     ensures one_each { length windows.new ≡ length sets.now }
     ensures windows { AreWindows sets.now place windows.new }
+    ensures ahead { All (λ window. place < window.next) windows.new }
 {
     for (index, set) in sets.iter().enumerate() {
         windows[index] = windows[index].moved(set, place);

@@ -220,6 +220,108 @@ const BORDER_TERMS: &[(&[Step], &[u32])] = &[
     ),
 ];
 
+/// Sets at the borders of stretches of 16384 code points.
+const STRETCH_SETS: &[&[u32]] = &[
+    // 0: the first code point of a stretch, and the last
+    &[0x4000, 0x4001, 0x7FFF, 0x8000],
+    // 1: across both borders
+    &[0x3FFF, 0x4001, 0x7FFE, 0x8001],
+    // 2: over several stretches
+    &[0x50, 0x1_4001],
+    // 3: from the border of a word, of a block and of a stretch on
+    &[0x80, 0x81, 0x400, 0x401, 0x4000, 0x4400, 0x8000, 0x8080],
+    // 4: one code point
+    &[0x62, 0x63],
+    // 5: the first and the last code point of the last stretch
+    &[0x10_C000, 0x10_C001, 0x10_FFFF, 0x11_0000],
+];
+
+/// Terms over them, of which one set alone is left on some stretches, and the lists of the sets that they make.
+const STRETCH_TERMS: &[(&[Step], &[u32])] = &[
+    // one set
+    (&[Step::Push(0)], &[0x4000, 0x4001, 0x7FFF, 0x8000]),
+    (&[Step::Push(1)], &[0x3FFF, 0x4001, 0x7FFE, 0x8001]),
+    (&[Step::Push(2)], &[0x50, 0x1_4001]),
+    (
+        &[Step::Push(3)],
+        &[0x80, 0x81, 0x400, 0x401, 0x4000, 0x4400, 0x8000, 0x8080],
+    ),
+    (
+        &[Step::Push(5)],
+        &[0x10_C000, 0x10_C001, 0x10_FFFF, 0x11_0000],
+    ),
+    // one set, complemented
+    (
+        &[Step::Push(0), Step::Complement],
+        &[0, 0x4000, 0x4001, 0x7FFF, 0x8000, 0x11_0000],
+    ),
+    (
+        &[Step::Push(1), Step::Complement],
+        &[0, 0x3FFF, 0x4001, 0x7FFE, 0x8001, 0x11_0000],
+    ),
+    (
+        &[Step::Push(2), Step::Complement],
+        &[0, 0x50, 0x1_4001, 0x11_0000],
+    ),
+    (
+        &[Step::Push(3), Step::Complement],
+        &[
+            0, 0x80, 0x81, 0x400, 0x401, 0x4000, 0x4400, 0x8000, 0x8080, 0x11_0000,
+        ],
+    ),
+    (
+        &[Step::Push(5), Step::Complement],
+        &[0, 0x10_C000, 0x10_C001, 0x10_FFFF],
+    ),
+    // complemented twice
+    (
+        &[Step::Push(0), Step::Complement, Step::Complement],
+        &[0x4000, 0x4001, 0x7FFF, 0x8000],
+    ),
+    // one set is left where the other is constant
+    (
+        &[Step::Push(2), Step::Push(4), Step::Both(Way::Remove)],
+        &[0x50, 0x62, 0x63, 0x1_4001],
+    ),
+    (
+        &[Step::Push(5), Step::Push(4), Step::Both(Way::Join)],
+        &[0x62, 0x63, 0x10_C000, 0x10_C001, 0x10_FFFF, 0x11_0000],
+    ),
+    (
+        &[
+            Step::Push(3),
+            Step::Push(0),
+            Step::Clear,
+            Step::Both(Way::Join),
+        ],
+        &[0x80, 0x81, 0x400, 0x401, 0x4000, 0x4400, 0x8000, 0x8080],
+    ),
+    (
+        &[Step::Push(2), Step::Push(3), Step::Both(Way::Remove)],
+        &[
+            0x50, 0x80, 0x81, 0x400, 0x401, 0x4000, 0x4400, 0x8000, 0x8080, 0x1_4001,
+        ],
+    ),
+    // one set before the stretch and behind it, and both in it
+    (
+        &[Step::Push(0), Step::Push(1), Step::Both(Way::Join)],
+        &[0x3FFF, 0x4001, 0x7FFE, 0x8001],
+    ),
+    (
+        &[Step::Push(0), Step::Push(1), Step::Both(Way::RemoveFrom)],
+        &[0x3FFF, 0x4000, 0x7FFE, 0x7FFF, 0x8000, 0x8001],
+    ),
+    (
+        &[
+            Step::Push(0),
+            Step::Push(1),
+            Step::Both(Way::Retain),
+            Step::Complement,
+        ],
+        &[0, 0x4000, 0x4001, 0x7FFF, 0x8000, 0x11_0000],
+    ),
+];
+
 /// Puts the sets of the lists behind those that are there.
 fn add_sets(alloc: Global, lists: &[&[u32]], sets: &mut Vec<CodePointInversionList>) -> Option<()> {
     for list in lists {
@@ -268,6 +370,15 @@ fn terms_make_sets_at_borders(rt: HostRuntime) {
     assert_equal(
         &rt,
         first_wrong(rt.alloc(), BORDER_SETS, BORDER_TERMS),
+        None,
+    );
+}
+
+#[test]
+fn terms_make_sets_at_stretches(rt: HostRuntime) {
+    assert_equal(
+        &rt,
+        first_wrong(rt.alloc(), STRETCH_SETS, STRETCH_TERMS),
         None,
     );
 }

@@ -1,4 +1,6 @@
-use Rattle.std.proofs.Common.{◌≡◌, length}
+use Rattle.std.proofs.Common.{◌≡◌, ◌<◌, length}
+use Rattle.std.specs.List.{AllWithin}
+use Rattle.cp_terms.specs.declared.windows.Window.{Window}
 use Rattle.cp_terms.specs.Windows.{AreWindows}
 use Rattle.cp_terms.proofs.windows.move_all.Given as goal
 
@@ -6,4 +8,5 @@ abbrev pub invariant-loop-index : goal.invariant-loop-index
 invariant-loop-index l = record {
   one_each : length l.windows ≡ length l.sets;
   windows : AreWindows l.sets l.place l.windows;
+  ahead : AllWithin (λ (window : Window). l.place < window.next) l.windows 0 l.index;
 }
