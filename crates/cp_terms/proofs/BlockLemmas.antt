@@ -1,8 +1,8 @@
 -- What operations on blocks do to their bits.
-use Rattle.std.proofs.Common.{◌≡◌, ℕ, zero, suc, ◌+◌, ◌<◌, Bool, false, List, take, [], ◌∷◌, ◌++◌, length, refl, sym, ap, ◌∙◌, arith, subst, get_or, set, inl, inr}
+use Rattle.std.proofs.Common.{◌≡◌, ℕ, zero, suc, ◌+◌, ◌<◌, Bool, false, List, take, [], ◌∷◌, ◌++◌, length, replicate, refl, sym, ap, ◌∙◌, arith, subst, get_or, set, inl, inr}
 use Rattle.std.specs.List.{slice_index}
 use Rattle.std.proofs.lemmas.Bool.{cases_lt}
-use Rattle.std.proofs.lemmas.List.{get_or-set_same, get_or-set_other, length-set, take_all, take_more, take_more_set}
+use Rattle.std.proofs.lemmas.List.{get_or-replicate, get_or-set_same, get_or-set_other, length-set, take_all, take_more, take_more_set}
 use Rattle.std.proofs.lemmas.Grind.{common_steps}
 use Rattle.cp_terms.proofs.BitLemmas.{has_bit-zero}
 use Rattle.cp_terms.specs.declared.block.Block.{Block}
@@ -21,21 +21,10 @@ block_holds-get_or (block ∷ blocks) empty i j (suc index) none = block_holds-g
 
 -- the block of no members
 abbrev pub empty : Block
-empty = record { words = 0 ∷ 0 ∷ 0 ∷ 0 ∷ 0 ∷ 0 ∷ 0 ∷ 0 ∷ [] }
+empty = record { words = replicate 16 0 }
 
-pub empty_has : (i j : ℕ) → i < 8 → block_has empty i j ≡ false
-empty_has i j short = ap (λ n. has_bit n j) (none i short) ∙ has_bit-zero j
-  where
-    none : (i : ℕ) → i < 8 → slice_index empty.words i ≡ 0
-    none zero h = refl
-    none (suc zero) h = refl
-    none (suc (suc zero)) h = refl
-    none (suc (suc (suc zero))) h = refl
-    none (suc (suc (suc (suc zero)))) h = refl
-    none (suc (suc (suc (suc (suc zero))))) h = refl
-    none (suc (suc (suc (suc (suc (suc zero)))))) h = refl
-    none (suc (suc (suc (suc (suc (suc (suc zero))))))) h = refl
-    none (suc (suc (suc (suc (suc (suc (suc (suc i)))))))) h = absurd (omega (arith, h))
+pub empty_has : (i j : ℕ) → i < 16 → block_has empty i j ≡ false
+empty_has i j short = ap (λ n. has_bit n j) (get_or-replicate 16 i 0 0 short) ∙ has_bit-zero j
 
 -- The block on top is exchanged for another.
 pub record TopSet (i j : ℕ) (blocks : List Block) (k : ℕ) (last new : Block) : Type 0 where

@@ -1,7 +1,7 @@
 -- What changes tell of members.
-use Rattle.std.proofs.Common.{◌≡◌, ℕ, ◌+◌, ◌-◌, ◌<◌, ◌≤◌, Bool, true, false, not, ◌&&◌, List, [], ◌∷◌, ◌++◌, map, Bor, refl, sym, ap, ◌∙◌, arith, subst, inl, inr}
+use Rattle.std.proofs.Common.{◌≡◌, ℕ, ◌+◌, ◌-◌, ◌<◌, ◌≤◌, Bool, true, false, not, ◌&&◌, nat_le, List, [], ◌∷◌, ◌++◌, map, Bor, refl, sym, ap, ap₂, ◌∙◌, arith, subst, inl, inr}
 use Rattle.std.proofs.Math.Bool.{beq}
-use Rattle.std.proofs.lemmas.Bool.{cases_lt, lt-leb}
+use Rattle.std.proofs.lemmas.Bool.{cases_lt, le-leb, lt-leb}
 use Rattle.std.proofs.lemmas.List.Elements.{All-append, All-cons, All-nil}
 use Rattle.cp_invlist.specs.InversionList.{contains, differ, ascends_from, has_even_length}
 use Rattle.cp_invlist.specs.declared.set.CodePointInversionList.{CodePointInversionList}
@@ -10,12 +10,8 @@ use Rattle.cp_invlist.proofs.Partition.{differ-false}
 use Rattle.cp_terms.specs.declared.step.Step.{Step}
 use Rattle.cp_terms.specs.Terms.{value_of, holds_at}
 use Rattle.cp_terms.specs.Words.{has_bit}
+use Rattle.cp_terms.proofs.BitLemmas.{has_bit-zero}
 use Rattle.cp_terms.specs.Changes.{AreBefore, TellBelow, IsConstant, members_of}
-
--- where bits are the same, so are the members
-pub constant_bits : (m : ℕ → Bool) (place word first end : ℕ) (inside : Bool) → end ≤ 128 → ((j : ℕ) → first ≤ j → j < end → has_bit word j ≡ inside) → ((j : ℕ) → j < 128 → m (place + j) ≡ has_bit word j) → IsConstant m (place + first) (place + end) inside
-constant_bits m place word first end inside within same bits c le lt =
-    ap m (let e : c ≡ place + (c - place) = omega arith in e) ∙ (bits (c - place) (omega arith) ∙ same (c - place) (omega arith) (omega arith))
 
 -- the list goes on ascending
 pub ascends_push : (place : ℕ) (xs : List ℕ) → place ≤ 0x110000 → AreBefore place xs → ascends_from 0 xs ≡ true → ascends_from 0 (xs ++ place ∷ []) ≡ true
@@ -91,3 +87,85 @@ tell_none m xs = record { told = λ c lt. absurd (omega (arith, lt)) }
 -- from a place up to itself all is constant
 pub constant_none : (m : ℕ → Bool) (place : ℕ) (inside : Bool) → IsConstant m place place inside
 constant_none m place inside c le lt = absurd (omega arith)
+
+-- The changes that were there tell what they told below the place. From there on the bits that are left say where the changes
+-- tell other than the word, and each of these lies behind all changes.
+pub record IsLeft (old changes : List ℕ) (place word left : ℕ) : Type 0 where
+  pub kept : (c : ℕ) → c < place → contains changes c ≡ contains old c
+  pub bits : (j : ℕ) → j < 64 → has_bit left j ≡ differ (contains changes (place + j)) (has_bit word j)
+  pub behind : (j : ℕ) → j < 64 → has_bit left j ≡ true → AreBefore (place + j) changes
+  pub before : AreBefore (place + 64) changes
+
+pub left_none : (old : List ℕ) (place word left : ℕ) (inside : Bool) → AreBefore place old → inside ≡ not (has_even_length old) → ((j : ℕ) → j < 64 → has_bit left j ≡ differ inside (has_bit word j)) → IsLeft old old place word left
+left_none old place word left inside before is same = record {
+  kept = λ c lt. refl;
+  bits = λ j h. same j h ∙ ap (λ b. differ b (has_bit word j)) (is ∙ sym (contains-behind place (place + j) old before (omega arith)));
+  behind = λ j h there. before_later place (place + j) old (omega arith) before;
+  before = before_later place (place + 64) old (omega arith) before;
+}
+
+differ_pushed : (a b w : Bool) → differ a (differ b w) ≡ differ (differ b (differ a false)) w
+differ_pushed true true true = refl
+differ_pushed true true false = refl
+differ_pushed true false w = refl
+differ_pushed false true w = refl
+differ_pushed false false w = refl
+
+offset_in_front : (offset place j : ℕ) → nat_le offset j ≡ nat_le (place + offset) (place + j)
+offset_in_front offset place j = elim (cases_lt j offset) [
+  | inl below ↦ lt-leb offset j below ∙ sym (lt-leb (place + offset) (place + j) (omega arith))
+  | inr above ↦ le-leb offset j above ∙ sym (le-leb (place + offset) (place + j) (omega arith))
+]
+
+-- the bits up to the first one are gone
+pub bits_gone : (left new offset j : ℕ) → offset < 64 → has_bit left offset ≡ true → ((i : ℕ) → i < offset → has_bit left i ≡ false) → ((i : ℕ) → i < 64 → has_bit new i ≡ differ (nat_le offset i) (has_bit left i)) → j ≤ offset →
+    has_bit new j ≡ false
+bits_gone left new offset j short there none turned le = elim (cases_lt j offset) [
+  | inl below ↦ turned j (omega arith) ∙ (ap (λ b. differ b (has_bit left j)) (lt-leb offset j below) ∙ none j below)
+  | inr above ↦
+      let same : j ≡ offset = omega arith in
+      turned j (omega arith) ∙ (ap (λ b. differ b (has_bit left j)) (le-leb offset j above) ∙ ap not (ap (has_bit left) same ∙ there))
+]
+
+before_pushed : (place offset later : ℕ) (xs : List ℕ) → offset < later → AreBefore (place + offset) xs → AreBefore (place + later) (xs ++ (place + offset) ∷ [])
+before_pushed place offset later xs lt before = All-append (λ x. x < place + later) xs ((place + offset) ∷ []) (before_later (place + offset) (place + later) xs (omega arith) before) (All-cons (λ x. x < place + later) (place + offset) [] (omega arith) (All-nil (λ x. x < place + later)))
+
+-- with a change at the first bit that is left
+pub left_more : (old changes : List ℕ) (place word left new offset : ℕ) → IsLeft old changes place word left → offset < 64 → has_bit left offset ≡ true → ((i : ℕ) → i < offset → has_bit left i ≡ false) →
+    ((i : ℕ) → i < 64 → has_bit new i ≡ differ (nat_le offset i) (has_bit left i)) → IsLeft old (changes ++ (place + offset) ∷ []) place word new
+left_more old changes place word left new offset is short there none turned = record {
+  kept = λ c lt.
+      contains-append changes ((place + offset) ∷ []) c
+      ∙ (ap (differ (contains changes c)) (ap (λ b. differ b false) (lt-leb (place + offset) c (omega arith))) ∙ (differ-false (contains changes c) ∙ is.kept c lt));
+  bits = λ j h.
+      turned j h
+      ∙ (ap₂ differ (offset_in_front offset place j) (is.bits j h)
+      ∙ (differ_pushed (nat_le (place + offset) (place + j)) (contains changes (place + j)) (has_bit word j)
+      ∙ ap (λ b. differ b (has_bit word j)) (sym (contains-append changes ((place + offset) ∷ []) (place + j)))));
+  behind = λ j h set. elim (cases_lt offset j) [
+    | inl later ↦ before_pushed place offset j changes later (is.behind offset short there)
+    | inr gone ↦ absurd (let e = bits_gone left new offset j short there none turned gone in cc)
+  ];
+  before = before_pushed place offset 64 changes short (is.behind offset short there);
+}
+
+same_of_differ : (a b : Bool) → differ a b ≡ false → a ≡ b
+same_of_differ true true h = refl
+same_of_differ false false h = refl
+same_of_differ true false h = absurd (let e = h in cc)
+same_of_differ false true h = absurd (let e = h in cc)
+
+-- no bit is left
+pub tell_written : (m : ℕ → Bool) (old changes : List ℕ) (place word left : ℕ) → IsLeft old changes place word left → left ≡ 0 → TellBelow m place old → ((j : ℕ) → j < 64 → m (place + j) ≡ has_bit word j) → TellBelow m (place + 64) changes
+tell_written m old changes place word left is zero_is tell bits = record {
+  told = λ c lt. elim (cases_lt c place) [
+    | inl below ↦ is.kept c below ∙ tell.told c below
+    | inr behind ↦
+        let j = c - place in
+        let short : j < 64 = omega arith in
+        let at : c ≡ place + j = omega arith in
+        let nowhere : has_bit left j ≡ false = ap (λ n. has_bit n j) zero_is ∙ has_bit-zero j in
+        ap (contains changes) at
+        ∙ (same_of_differ (contains changes (place + j)) (has_bit word j) (sym (is.bits j short) ∙ nowhere) ∙ sym (ap m at ∙ bits j short))
+  ];
+}

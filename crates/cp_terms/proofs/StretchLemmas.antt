@@ -35,8 +35,8 @@ set_there sets windows i window same at =
 
 -- the blocks of the sets that change are right
 pub holds_mixed : (sets : List (Bor CodePointInversionList)) (windows : List Window) (end place i j : ℕ) (blocks : List Block) (mixed : List ℕ) (empty : Block) → block_has empty i j ≡ false → length blocks ≡ length sets →
-    ((k : ℕ) (window : Window) → slice_get windows k ≡ Some window → window.next < end → Contains mixed k) → ((k : ℕ) → Contains mixed k → HasBlock sets place blocks k) → i < 8 → j < 128 →
-    HoldsMixed sets windows end (place + 128 * i + j) (block_holds blocks i j)
+    ((k : ℕ) (window : Window) → slice_get windows k ≡ Some window → window.next < end → Contains mixed k) → ((k : ℕ) → Contains mixed k → HasBlock sets place blocks k) → i < 16 → j < 64 →
+    HoldsMixed sets windows end (place + 64 * i + j) (block_holds blocks i j)
 holds_mixed sets windows end place i j blocks mixed empty none same listed right short lt k set window at of_it below =
     let within : k < length blocks = omega (arith, slice_get_within sets k set at, same) in
     block_holds-get_or blocks empty i j k none ∙ right k (listed k window of_it below) set (get_or blocks k empty) at (slice_get-get_or blocks k empty within) i j short lt

@@ -111,11 +111,11 @@ differ_swap false false = refl
 -- The elements in front have turned the word, and the others are behind the place.
 pub record IsTurned (xs : List ℕ) (place taken word : ℕ) : Type 0 where
   pub within : taken ≤ length xs
-  pub before : All (λ x. x < place + 128) (take taken xs)
+  pub before : All (λ x. x < place + 64) (take taken xs)
   pub behind : All (λ x. place ≤ x) (drop taken xs)
-  pub bits : (j : ℕ) → j < 128 → has_bit word j ≡ contains (take taken xs) (place + j)
+  pub bits : (j : ℕ) → j < 64 → has_bit word j ≡ contains (take taken xs) (place + j)
 
-pub turned_none : (xs : List ℕ) (place word : ℕ) (window : Window) → IsWindow xs place window → place ≤ window.next → ((j : ℕ) → j < 128 → has_bit word j ≡ is_inside window) → IsTurned xs place window.taken word
+pub turned_none : (xs : List ℕ) (place word : ℕ) (window : Window) → IsWindow xs place window → place ≤ window.next → ((j : ℕ) → j < 64 → has_bit word j ≡ is_inside window) → IsTurned xs place window.taken word
 turned_none xs place word window is ahead same = record {
   within = is.within;
   before = λ k d lt. omega (arith, is.before k d lt);
@@ -133,8 +133,8 @@ turned_least xs place taken word x is at =
     omega (arith, is.behind 0 0 (omega (arith, length-drop taken xs)), first, get_or_from_slice_get xs taken x 0 at)
 
 -- one element more
-pub turned_more : (xs : List ℕ) (place taken word new x : ℕ) → IsTurned xs place taken word → slice_get xs taken ≡ Some x → x < place + 128 →
-    ((j : ℕ) → j < 128 → has_bit new j ≡ differ (nat_le (x - place) j) (has_bit word j)) → IsTurned xs place (taken + 1) new
+pub turned_more : (xs : List ℕ) (place taken word new x : ℕ) → IsTurned xs place taken word → slice_get xs taken ≡ Some x → x < place + 64 →
+    ((j : ℕ) → j < 64 → has_bit new j ≡ differ (nat_le (x - place) j) (has_bit word j)) → IsTurned xs place (taken + 1) new
 turned_more xs place taken word new x is at short turned =
     let lt = slice_get_within xs taken x at in
     let found = get_or_from_slice_get xs taken x 0 at in
@@ -142,7 +142,7 @@ turned_more xs place taken word new x is at short turned =
     let more : take (taken + 1) xs ≡ take taken xs ++ x ∷ [] = take_more xs taken 0 lt ∙ ap (λ y. take taken xs ++ y ∷ []) found in
     record {
       within = omega arith;
-      before = subst (λ (l : List ℕ). All (λ x. x < place + 128) l) (sym more) (All-append (λ x. x < place + 128) (take taken xs) (x ∷ []) is.before (All-cons (λ x. x < place + 128) x [] short (All-nil (λ x. x < place + 128))));
+      before = subst (λ (l : List ℕ). All (λ x. x < place + 64) l) (sym more) (All-append (λ x. x < place + 64) (take taken xs) (x ∷ []) is.before (All-cons (λ x. x < place + 64) x [] short (All-nil (λ x. x < place + 64))));
       behind = λ k d rest.
           let same : taken + 1 + k ≡ taken + (k + 1) = omega arith in
           omega (arith, is.behind (k + 1) d (omega (arith, rest, length-drop taken xs, length-drop (taken + 1) xs)), get_or-drop taken xs (k + 1) d, get_or-drop (taken + 1) xs k d, ap (λ n. get_or xs n d) same);
@@ -156,9 +156,9 @@ turned_more xs place taken word new x is at short turned =
 -- The word is read, and no element behind it turns it.
 pub record IsRead (xs : List ℕ) (place taken next word : ℕ) : Type 0 where
   pub is_word : IsWord xs place word
-  pub window : IsWindow xs (place + 128) (record { taken = taken; next = next })
+  pub window : IsWindow xs (place + 64) (record { taken = taken; next = next })
 
-pub turned_before : (xs : List ℕ) (place taken next word : ℕ) → IsInversionList xs → IsTurned xs place taken word → slice_get xs taken ≡ Some next → place + 128 ≤ next → IsRead xs place taken next word
+pub turned_before : (xs : List ℕ) (place taken next word : ℕ) → IsInversionList xs → IsTurned xs place taken word → slice_get xs taken ≡ Some next → place + 64 ≤ next → IsRead xs place taken next word
 turned_before xs place taken next word list is at far =
     let lt = slice_get_within xs taken next at in
     let found = λ (d : ℕ). get_or_from_slice_get xs taken next d at in

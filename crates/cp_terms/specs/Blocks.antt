@@ -1,4 +1,4 @@
--- Blocks of eight words of 128 bits, whose bits say which of 1,024 numbers are members.
+-- Blocks of sixteen words of 64 bits, whose bits say which of 1,024 numbers are members.
 use Rattle.std.specs.Prelude.{◌≡◌, ℕ, ◌+◌, ◌*◌, ◌<◌, Bool, false, List, [], ◌∷◌, map, reverse, zero, suc, slice_index}
 use Rattle.cp_invlist.specs.InversionList.{contains}
 use Rattle.cp_terms.specs.declared.block.Block.{Block}
@@ -20,4 +20,4 @@ block_holds (block ∷ blocks) i j (suc index) = block_holds blocks i j index
 
 -- the block says which of the 1,024 numbers from the place on are members of the set
 abbrev pub IsBlock : List ℕ → ℕ → Block → Type 0
-IsBlock xs place block = (i j : ℕ) → i < 8 → j < 128 → block_has block i j ≡ contains xs (place + 128 * i + j)
+IsBlock xs place block = (i j : ℕ) → i < 16 → j < 64 → block_has block i j ≡ contains xs (place + 64 * i + j)

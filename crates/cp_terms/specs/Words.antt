@@ -1,4 +1,4 @@
--- Words of 128 bits, whose bits say which of 128 numbers are members.
+-- Words of 64 bits, whose bits say which of 64 numbers are members.
 use Rattle.std.specs.Prelude.{◌≡◌, ℕ, ◌+◌, ◌<◌, Bool, ◌==◌, List}
 use Rattle.std.specs.Int.{bit_at}
 use Rattle.cp_invlist.specs.InversionList.{contains}
@@ -7,6 +7,6 @@ use Rattle.cp_invlist.specs.InversionList.{contains}
 abbrev pub has_bit : ℕ → ℕ → Bool
 has_bit word j = bit_at word j == 1
 
--- the word says which of the 128 numbers from the place on are members of the set
+-- the word says which of the 64 numbers from the place on are members of the set
 abbrev pub IsWord : List ℕ → ℕ → ℕ → Type 0
-IsWord xs place word = (j : ℕ) → j < 128 → has_bit word j ≡ contains xs (place + j)
+IsWord xs place word = (j : ℕ) → j < 64 → has_bit word j ≡ contains xs (place + j)

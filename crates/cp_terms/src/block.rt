@@ -2,10 +2,10 @@
 use crate::step::Way;
 use crate::word::complement;
 
-/// Eight words, whose bits say which of 128 code points each are members.
+/// Sixteen words, whose bits say which of 64 code points each are members.
 #[derive(Clone, Copy)]
 pub(crate) struct Block {
-    pub(crate) words: [u128; 8],
+    pub(crate) words: [u64; 16],
 }
 
 impl Block {
@@ -14,14 +14,14 @@ impl Block {
     ghost use Rattle.cp_terms.specs.Blocks.{block_has};
 
     /// The block of no members.
-    pub(crate) const EMPTY: Block = Block { words: [0; 8] };
+    pub(crate) const EMPTY: Block = Block { words: [0; 16] };
 
     /// Makes it what is made of it as the lower one and of the upper.
     #[inline]
     pub(crate) fn combine(&mut self, way: Way, upper: &Block)
-        ensures { (i j : ℕ) → i < 8 → j < 128 → block_has self.new i j ≡ combined way (block_has self.old i j) (block_has upper.now i j) }
+        ensures { (i j : ℕ) → i < 16 → j < 64 → block_has self.new i j ≡ combined way (block_has self.old i j) (block_has upper.now i j) }
     {
-        for index in 0..8 {
+        for index in 0..16 {
             self.words[index] = way.combine_words(self.words[index], upper.words[index]);
         }
     }
@@ -29,9 +29,9 @@ impl Block {
     /// Exchanges the members and the others.
     #[inline]
     pub(crate) fn complement(&mut self)
-        ensures { (i j : ℕ) → i < 8 → j < 128 → block_has self.new i j ≡ not (block_has self.old i j) }
+        ensures { (i j : ℕ) → i < 16 → j < 64 → block_has self.new i j ≡ not (block_has self.old i j) }
     {
-        for index in 0..8 {
+        for index in 0..16 {
             self.words[index] = complement(self.words[index]);
         }
     }

@@ -9,7 +9,7 @@ use cp_invlist::NoMemory;
 
 /// Makes one block of the two on top.
 fn merge_top(way: Way, stack: &mut Vec<Block>) -> Result<(), NoMemory>
-    ensures { OnOk result ((i j : ℕ) → i < 8 → j < 128 → block_marks i j stack.new.items ≡ both_done way (block_marks i j stack.old.items)) }
+    ensures { OnOk result ((i j : ℕ) → i < 16 → j < 64 → block_marks i j stack.new.items ≡ both_done way (block_marks i j stack.old.items)) }
 {
     let Some(upper) = stack.pop() else {
         return Ok(());
@@ -24,7 +24,7 @@ fn merge_top(way: Way, stack: &mut Vec<Block>) -> Result<(), NoMemory>
 
 /// Complements the block on top.
 fn complement_top(stack: &mut Vec<Block>)
-    ensures { (i j : ℕ) → i < 8 → j < 128 →
+    ensures { (i j : ℕ) → i < 16 → j < 64 →
         block_marks i j stack.new.items ≡ complement_done (block_marks i j stack.old.items) }
 {
     if let Some(block) = stack.last_mut() {
@@ -34,7 +34,7 @@ fn complement_top(stack: &mut Vec<Block>)
 
 /// Empties the block on top.
 fn clear_top(stack: &mut Vec<Block>)
-    ensures { (i j : ℕ) → i < 8 → j < 128 → block_marks i j stack.new.items ≡ clear_done (block_marks i j stack.old.items) }
+    ensures { (i j : ℕ) → i < 16 → j < 64 → block_marks i j stack.new.items ≡ clear_done (block_marks i j stack.old.items) }
 {
     if let Some(block) = stack.last_mut() {
         *block = Block::EMPTY;
@@ -43,7 +43,7 @@ fn clear_top(stack: &mut Vec<Block>)
 
 /// Puts down the block with the index, the empty one where there is none.
 fn push_block(blocks: &[Block], index: usize, stack: &mut Vec<Block>) -> Result<(), NoMemory>
-    ensures { OnOk result ((i j : ℕ) → i < 8 → j < 128 →
+    ensures { OnOk result ((i j : ℕ) → i < 16 → j < 64 →
         block_marks i j stack.new.items ≡ block_holds blocks.now i j index ∷ block_marks i j stack.old.items) }
 {
     match blocks.get(index) {
@@ -55,7 +55,7 @@ fn push_block(blocks: &[Block], index: usize, stack: &mut Vec<Block>) -> Result<
 
 /// Does the step.
 fn take(blocks: &[Block], step: Step, stack: &mut Vec<Block>) -> Result<(), NoMemory>
-    ensures { OnOk result ((i j : ℕ) → i < 8 → j < 128 →
+    ensures { OnOk result ((i j : ℕ) → i < 16 → j < 64 →
         block_marks i j stack.new.items ≡ step_done (block_holds blocks.now i j) step (block_marks i j stack.old.items)) }
 {
     match step {
@@ -78,7 +78,7 @@ pub(crate) fn evaluate_blocks(
     steps: &[Step],
     stack: &mut Vec<Block>,
 ) -> Result<Block, NoMemory>
-    ensures { IfOk result (λ block. (i j : ℕ) → i < 8 → j < 128 → block_has block i j ≡ value_of (block_holds blocks.now i j) steps.now) }
+    ensures { IfOk result (λ block. (i j : ℕ) → i < 16 → j < 64 → block_has block i j ≡ value_of (block_holds blocks.now i j) steps.now) }
 {
     stack.clear();
     for step in steps {

@@ -1,6 +1,6 @@
 //! The changes of a set that is written in the order of code points.
 use crate::block::Block;
-use crate::word::{has, next_change};
+use crate::word::{difference, first_bit, turned};
 use cp_invlist::laws::faultless;
 use cp_invlist::{CodePointInversionList, InversionListError, NoMemory};
 use std::alloc::Global;
@@ -25,7 +25,7 @@ impl Model for Changes {
 }
 
 impl Changes {
-    ghost use Rattle.std.specs.Prelude.{◌≡◌, ℕ, ◌+◌, ◌*◌, ◌<◌, ◌≤◌, Bool, true, not, [], ◌++◌, IfOk, OnOk};
+    ghost use Rattle.std.specs.Prelude.{◌≡◌, ℕ, ◌+◌, ◌*◌, ◌<◌, ◌≤◌, Bool, true, not, [], ◌∷◌, ◌++◌, IfOk, OnOk};
     ghost use Rattle.cp_invlist.specs.InversionList.{ascends_from, has_even_length};
     ghost use Rattle.cp_terms.specs.Words.{has_bit};
     ghost use Rattle.cp_terms.specs.Blocks.{block_has};
@@ -47,6 +47,16 @@ impl Changes {
         self.elements.len() % 2 == 1
     }
 
+    /// Puts one change more behind these.
+    fn push(&mut self, place: u32) -> Result<(), NoMemory>
+        requires place { place ≤ 0x11_0000 }
+        requires before { AreBefore place self.old }
+        ensures { OnOk result (self.new ≡ self.old ++ place ∷ []) }
+    {
+        self.elements.push(place)?;
+        Ok(())
+    }
+
     /// From the place on the code points are members, or not.
     pub(crate) fn turn(&mut self, inside: bool, place: u32) -> Result<(), NoMemory>
         requires place { place ≤ 0x11_0000 }
@@ -57,7 +67,7 @@ impl Changes {
             TellBelow m place self.old → IsConstant m place end inside → TellBelow m end self.new) }
     {
         if self.is_inside() != inside {
-            self.elements.push(place)?;
+            self.push(place)?;
         }
         Ok(())
     }
@@ -71,18 +81,20 @@ impl Changes {
         Ok(())
     }
 
-    /// Writes the 128 code points from the place on.
-    pub(crate) fn write(&mut self, word: u128, place: u32) -> Result<(), NoMemory>
-        requires place { place + 128 ≤ 0x11_0000 }
+    /// Writes the 64 code points from the place on.
+    pub(crate) fn write(&mut self, word: u64, place: u32) -> Result<(), NoMemory>
+        requires place { place + 64 ≤ 0x11_0000 }
         requires before { AreBefore place self.old }
-        ensures before { OnOk result (AreBefore (place + 128) self.new) }
+        ensures before { OnOk result (AreBefore (place + 64) self.new) }
         ensures members { OnOk result ((m : ℕ → Bool) → TellBelow m place self.old →
-            ((j : ℕ) → j < 128 → m (place + j) ≡ has_bit word j) → TellBelow m (place + 128) self.new) }
+            ((j : ℕ) → j < 64 → m (place + j) ≡ has_bit word j) → TellBelow m (place + 64) self.new) }
     {
-        let mut offset = 0;
-        while offset < 128 {
-            self.turn(has(word, offset), place + offset)?;
-            offset = next_change(word, offset);
+        // Where the changes so far tell other than the word. From each change on they tell the opposite.
+        let mut left = difference(word, self.is_inside());
+        while left != 0 {
+            let offset = first_bit(left);
+            self.push(place + offset)?;
+            left = turned(left, offset);
         }
         Ok(())
     }
@@ -93,11 +105,11 @@ impl Changes {
         requires before { AreBefore place self.old }
         ensures before { OnOk result (AreBefore (place + 1024) self.new) }
         ensures members { OnOk result ((m : ℕ → Bool) → TellBelow m place self.old →
-            ((i j : ℕ) → i < 8 → j < 128 → m (place + 128 * i + j) ≡ block_has block i j) →
+            ((i j : ℕ) → i < 16 → j < 64 → m (place + 64 * i + j) ≡ block_has block i j) →
             TellBelow m (place + 1024) self.new) }
     {
-        for index in 0..8u32 {
-            self.write(block.words[index as usize], place + 128 * index)?;
+        for index in 0..16u32 {
+            self.write(block.words[index as usize], place + 64 * index)?;
         }
         Ok(())
     }

@@ -14,8 +14,8 @@ use crate::windows::{Window, fill_blocks, mixed_before, move_all};
 use cp_invlist::{CodePointInversionList, LAST_CODE_POINT, NoMemory};
 use std::alloc::Global;
 
-/// How many code points are looked at with one shortened term: 16 blocks of 8 words of 128 bits.
-const STRETCH: u32 = 128 * 128;
+/// How many code points are looked at with one shortened term: 16 blocks of 16 words of 64 bits.
+const STRETCH: u32 = 16 * 1024;
 
 /// How many stretches there are.
 const STRETCHES: u32 = 68;

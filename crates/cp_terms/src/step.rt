@@ -30,9 +30,9 @@ impl Way {
         }
     }
 
-    /// The same for the 128 numbers that words stand for.
-    pub(crate) fn combine_words(self, lower: u128, upper: u128) -> u128
-        ensures { (j : ℕ) → j < 128 → has_bit result j ≡ combined self (has_bit lower j) (has_bit upper j) }
+    /// The same for the 64 numbers that words stand for.
+    pub(crate) fn combine_words(self, lower: u64, upper: u64) -> u64
+        ensures { (j : ℕ) → j < 64 → has_bit result j ≡ combined self (has_bit lower j) (has_bit upper j) }
     {
         match self {
             Way::Join => lower | upper,

@@ -5,6 +5,7 @@ ghost use Rattle.cp_terms.specs.Windows.{HasWindow, AreWindows, HasBlock};
 ghost use Rattle.cp_terms.specs.declared.windows.Window.{Window};
 
 use crate::block::Block;
+use crate::word::turned;
 use cp_invlist::{CodePointInversionList, LAST_CODE_POINT, NoMemory};
 use std::alloc::Global;
 
@@ -71,26 +72,26 @@ impl Window {
         &left[..left.partition_point(|element| *element < end)]
     }
 
-    /// Which of the 128 code points from the place on are members. The window moves on behind them.
-    fn word(&mut self, set: &CodePointInversionList, place: u32) -> u128
-        requires place { place + 128 ≤ 0x11_0000 }
+    /// Which of the 64 code points from the place on are members. The window moves on behind them.
+    fn word(&mut self, set: &CodePointInversionList, place: u32) -> u64
+        requires place { place + 64 ≤ 0x11_0000 }
         requires window { IsWindow set.now place self.old }
         requires ahead { place ≤ self.old.next }
         ensures word { IsWord set.now place result }
-        ensures window { IsWindow set.now (place + 128) self.new }
-        ensures ahead { place + 128 ≤ self.new.next }
+        ensures window { IsWindow set.now (place + 64) self.new }
+        ensures ahead { place + 64 ≤ self.new.next }
     {
         let elements = set.get_inversion_list();
         let mut taken = self.taken;
         let mut word = filled(self.is_inside());
         while let Some(element) = elements.get(taken) {
             let offset = *element - place;
-            if offset >= 128 {
+            if offset >= 64 {
                 let next = *element;
                 *self = Window { taken, next };
                 return word;
             }
-            word ^= u128::MAX << offset;
+            word = turned(word, offset);
             taken += 1;
         }
         let next = LAST_CODE_POINT + 1;
@@ -106,19 +107,19 @@ impl Window {
         ensures block { IsBlock set.now place result }
         ensures window { IsWindow set.now (place + 1024) self.new }
     {
-        let mut words = [0u128; 8];
-        for index in 0..8u32 {
-            words[index as usize] = self.word(set, place + 128 * index);
+        let mut words = [0u64; 16];
+        for index in 0..16u32 {
+            words[index as usize] = self.word(set, place + 64 * index);
         }
         Block { words }
     }
 }
 
 /// The word of a set that has all or none.
-fn filled(inside: bool) -> u128
-    ensures { (j : ℕ) → j < 128 → has_bit result j ≡ inside }
+fn filled(inside: bool) -> u64
+    ensures { (j : ℕ) → j < 64 → has_bit result j ≡ inside }
 {
-    if inside { u128::MAX } else { 0 }
+    if inside { u64::MAX } else { 0 }
 }
 
 /// Moves all windows on to the place.

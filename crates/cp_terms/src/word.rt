@@ -1,44 +1,39 @@
-//! Words, whose bits say which of 128 code points are members.
-ghost use Rattle.std.specs.Prelude.{◌≡◌, ℕ, ◌<◌, ◌≤◌, true, false, not};
+//! Words, whose bits say which of 64 code points are members.
+ghost use Rattle.std.specs.Prelude.{◌≡◌, ℕ, ◌<◌, true, false, not, nat_le};
+ghost use Rattle.std.specs.Int.{trailing_zeros, w64};
+ghost use Rattle.cp_invlist.specs.InversionList.{differ};
 ghost use Rattle.cp_terms.specs.Words.{has_bit};
-
-/// Whether the word has the bit.
-pub(crate) fn has(word: u128, offset: u32) -> bool
-    requires { offset < 128 }
-    ensures { result ≡ has_bit word offset }
-{
-    (word >> offset) & 1 == 1
-}
 
 /// The bits that the word lacks.
 #[inline]
-pub(crate) fn complement(word: u128) -> u128
-    ensures { (j : ℕ) → j < 128 → has_bit result j ≡ not (has_bit word j) }
+pub(crate) fn complement(word: u64) -> u64
+    ensures { (j : ℕ) → j < 64 → has_bit result j ≡ not (has_bit word j) }
 {
     !word
 }
 
-/// The first bit that the word has from the offset on, 128 where it has none.
-fn next_bit(word: u128, offset: u32) -> u32
-    requires { offset < 128 }
-    ensures within { result ≤ 128 }
-    ensures not_before { offset ≤ result }
-    ensures between { (j : ℕ) → offset ≤ j → j < result → has_bit word j ≡ false }
-    ensures there { result < 128 → has_bit word result ≡ true }
+/// The bits that are other than the constant.
+pub(crate) fn difference(word: u64, inside: bool) -> u64
+    ensures { (j : ℕ) → j < 64 → has_bit result j ≡ differ inside (has_bit word j) }
 {
-    (offset + (word >> offset).trailing_zeros()).min(128)
+    if inside { complement(word) } else { word }
 }
 
-/// Where the word changes next behind the offset, 128 where it doesn't.
-pub(crate) fn next_change(word: u128, offset: u32) -> u32
-    requires { offset < 128 }
-    ensures within { result ≤ 128 }
-    ensures ahead { offset < result }
-    ensures same { (j : ℕ) → offset ≤ j → j < result → has_bit word j ≡ has_bit word offset }
+/// The word with the bits from the offset on exchanged for their opposites.
+pub(crate) fn turned(word: u64, offset: u32) -> u64
+    requires { offset < 64 }
+    ensures { (j : ℕ) → j < 64 → has_bit result j ≡ differ (nat_le offset j) (has_bit word j) }
 {
-    if has(word, offset) {
-        next_bit(complement(word), offset)
-    } else {
-        next_bit(word, offset)
-    }
+    word ^ u64::MAX << offset
+}
+
+/// The first bit that the word has.
+pub(crate) fn first_bit(word: u64) -> u32
+    requires { 0 < word }
+    ensures zeros { result ≡ trailing_zeros w64 word }
+    ensures within { result < 64 }
+    ensures before { (j : ℕ) → j < result → has_bit word j ≡ false }
+    ensures there { has_bit word result ≡ true }
+{
+    word.trailing_zeros()
 }

@@ -19,7 +19,7 @@ loop-index-preserved c =
           tell_at m c.write_block.new.self (place + 1024) next (omega arith)
           (c.in_ok-write_block.ensures.members m (c.loop-index.invariant.members m tell made)
           (λ i j short h.
-          made (place + 128 * i + j) (block_holds c.fill_blocks.new.blocks i j) (omega arith) (omega arith)
+          made (place + 64 * i + j) (block_holds c.fill_blocks.new.blocks i j) (omega arith) (omega arith)
           (holds_mixed c.args.sets.now c.args.windows.now (c.args.start + 0x4000) place i j c.fill_blocks.new.blocks c.deref.result.now empty (empty_has i j short) c.fill_blocks.ensures.blocks_each
           (λ k window at below. listed_by_slice c.in_ok-mixed.mixed.items c.deref.result.now k c.deref.ensures.value (c.in_ok-mixed.ensures.mixed k window at below)) c.fill_blocks.ensures.blocks short h)
           ∙ sym (c.in_ok-evaluate_blocks.ensures i j short h)));

@@ -1,27 +1,20 @@
-use Rattle.std.proofs.Common.{◌≡◌, ◌∷◌, [], ◌++◌, true, not, List, ℕ, sym, ap, ◌∙◌, subst}
+use Rattle.std.proofs.Common.{◌≡◌, not, sym, ap, ◌∙◌, subst}
 use Rattle.std.proofs.Math.Bool.{beq}
-use Rattle.cp_invlist.specs.InversionList.{ascends_from, has_even_length}
-use Rattle.cp_terms.specs.Changes.{AreBefore, TellBelow}
-use Rattle.cp_terms.proofs.ChangesLemmas.{ascends_push, is_inside-push, tell_push, tell_kept, turns, stays}
+use Rattle.cp_invlist.specs.InversionList.{has_even_length}
+use Rattle.cp_terms.specs.Changes.{TellBelow}
+use Rattle.cp_terms.proofs.ChangesLemmas.{is_inside-push, tell_push, tell_kept, turns, stays}
 use Rattle.cp_terms.proofs.changes.Changes.turn.Goals as goal
-
--- the list as it was, with the place behind it
-pushed : (c : goal.In_ok-push) → c.push.new.self.items ≡ c.args.self.now ++ c.args.place ∷ []
-pushed c = c.in_ok-push.ensures.items ∙ ap (λ xs. xs ++ c.args.place ∷ []) c.self.view_is
 
 -- it was inside where it is to be outside, or the other way round
 turned : (c : goal.In_ok-push) → has_even_length c.args.self.now ≡ c.args.inside
 turned c = turns (has_even_length c.args.self.now) c.args.inside (ap (λ b. not (beq b c.args.inside)) (sym c.is_inside.ensures) ∙ c.if-is_inside-inside.true)
 
-pub invariant_of-self : goal.invariant_of-self
-invariant_of-self c = subst (λ (xs : List ℕ). ascends_from 0 xs ≡ true) (sym c.in_ok-push.ensures.items) (ascends_push c.args.place c.self.inside.elements.items c.requires.place (subst (AreBefore c.args.place) (sym c.self.view_is) c.requires.before) c.self.invariant)
-
 pub returns-in_ok-push-clause-inside : goal.returns-in_ok-push-clause-inside
-returns-in_ok-push-clause-inside c = ap (λ xs. not (has_even_length xs)) (pushed c) ∙ is_inside-push c.args.self.now c.args.place c.args.inside (turned c)
+returns-in_ok-push-clause-inside c = ap (λ xs. not (has_even_length xs)) c.in_ok-push.ensures ∙ is_inside-push c.args.self.now c.args.place c.args.inside (turned c)
 
 pub returns-in_ok-push-clause-members : goal.returns-in_ok-push-clause-members
 returns-in_ok-push-clause-members c = λ m end tell constant.
-    subst (TellBelow m end) (sym (pushed c)) (tell_push m c.args.place end c.args.inside c.args.self.now c.requires.before (turned c) tell constant)
+    subst (TellBelow m end) (sym c.in_ok-push.ensures) (tell_push m c.args.place end c.args.inside c.args.self.now c.requires.before (turned c) tell constant)
 
 -- it is as it is to be
 kept : (c : goal.Else-is_inside-inside) → not (has_even_length c.args.self.now) ≡ c.args.inside

@@ -1,14 +1,10 @@
-use Rattle.std.proofs.Common.{◌≡◌, ℕ, ◌+◌, ◌-◌, ◌<◌, ◌≤◌, Bool}
-use Rattle.cp_terms.specs.Words.{has_bit}
-use Rattle.cp_terms.specs.Changes.{AreBefore, TellBelow}
+use Rattle.std.proofs.Common.{◌-◌}
+use Rattle.std.specs.Int.{trailing_zeros, w64}
+use Rattle.cp_terms.proofs.ChangesLemmas.{IsLeft}
 use Rattle.cp_terms.proofs.changes.Changes.write.Given as goal
 
-abbrev pub decreases-loop-offset : goal.decreases-loop-offset
-decreases-loop-offset l = 128 - l.offset
+abbrev pub decreases-loop-left : goal.decreases-loop-left
+decreases-loop-left l = 64 - trailing_zeros w64 l.left
 
-abbrev pub invariant-loop-offset : goal.invariant-loop-offset
-invariant-loop-offset l = record {
-  within : l.offset ≤ 128;
-  before : AreBefore (l.place + l.offset) l.self;
-  members : (m : ℕ → Bool) → TellBelow m l.place l.fn.self → ((j : ℕ) → j < 128 → m (l.place + j) ≡ has_bit l.word j) → TellBelow m (l.place + l.offset) l.self;
-}
+abbrev pub invariant-loop-left : goal.invariant-loop-left
+invariant-loop-left l = IsLeft l.fn.self l.self l.place l.word l.left

@@ -6,8 +6,8 @@ use Rattle.cp_terms.proofs.windows.Window.block.Given as goal
 
 abbrev pub invariant-loop-index : goal.invariant-loop-index
 invariant-loop-index l = record {
-  window : IsWindow l.set (l.place + 128 * l.index) l.self;
-  ahead : l.place + 128 * l.index ≤ l.self.next;
-  sized : length l.words ≡ 8;
-  words : (i : ℕ) → i < l.index → IsWord l.set (l.place + 128 * i) (slice_index l.words i);
+  window : IsWindow l.set (l.place + 64 * l.index) l.self;
+  ahead : l.place + 64 * l.index ≤ l.self.next;
+  sized : length l.words ≡ 16;
+  words : (i : ℕ) → i < l.index → IsWord l.set (l.place + 64 * i) (slice_index l.words i);
 }
