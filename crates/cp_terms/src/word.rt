@@ -24,7 +24,7 @@ pub(crate) fn turned(word: u64, offset: u32) -> u64
     requires { offset < 64 }
     ensures { (j : ℕ) → j < 64 → has_bit result j ≡ differ (nat_le offset j) (has_bit word j) }
 {
-    word ^ u64::MAX << offset
+    word ^ (u64::MAX << offset)
 }
 
 /// The first bit that the word has.
