@@ -92,10 +92,6 @@ stretch_made sets windows start ss term within same are shortens told c w le lt 
     members_told sets ss c (value_of w term.steps.items) (omega arith)
     (told w (steps_done v ss []) (shortens.fits v w (agree_from sets windows start (start + 0x4000) c w same are le lt mixed)))
 
--- the steps are read as a slice
-pub made_by_slice : (sets : List (Bor CodePointInversionList)) (windows : List Window) (start : ℕ) (ss slice : List Step) (m : ℕ → Bool) → slice ≡ ss → AreMade sets windows start ss m → AreMade sets windows start slice m
-made_by_slice sets windows start ss slice m same made = subst (λ l. AreMade sets windows start l m) (sym same) made
-
 -- the indices are read as a slice
 pub listed_by_slice : (mixed slice : List ℕ) (i : ℕ) → slice ≡ mixed → Contains mixed i → Contains slice i
 listed_by_slice mixed slice i same h = subst (λ (l : List ℕ). Contains l i) (sym same) h

@@ -10,7 +10,7 @@ use crate::blocks::evaluate_blocks;
 use crate::changes::Changes;
 use crate::shorten::{Outcome, Shortened};
 use crate::step::Step;
-use crate::windows::{Window, fill_blocks, mixed_before, move_all};
+use crate::windows::{Window, fill_blocks, list_mixed, move_all};
 use cp_invlist::{CodePointInversionList, LAST_CODE_POINT, NoMemory};
 use std::alloc::Global;
 
@@ -20,13 +20,33 @@ const STRETCH: u32 = 16 * 1024;
 /// How many stretches there are.
 const STRETCHES: u32 = 68;
 
-/// Writes a stretch block by block.
+/// What is made anew on each stretch, in memory that is used again.
+struct Room {
+    /// The term, shortened.
+    term: Shortened,
+    /// The indices of the sets that change there.
+    mixed: Vec<usize>,
+    /// The stack of blocks.
+    stack: Vec<Block>,
+}
+
+// By hand, so that letting a value go is one call in each proof.
+impl Drop for Room {
+    fn drop(self) {
+        let Self {
+            term: _,
+            mixed: _,
+            stack: _,
+        } = self;
+    }
+}
+
+/// Writes a stretch block by block, by the term in the room.
 fn write_blocks(
-    alloc: Global,
     sets: &[&CodePointInversionList],
-    steps: &[Step],
     windows: &mut [Window],
     blocks: &mut [Block],
+    room: &mut Room,
     start: u32,
     changes: &mut Changes,
 ) -> Result<(), NoMemory>
@@ -40,14 +60,14 @@ fn write_blocks(
     ensures windows { OnOk result (AreWindows sets.now (start + 0x4000) windows.new) }
     ensures before { OnOk result (AreBefore (start + 0x4000) changes.new) }
     ensures members { OnOk result ((m : ℕ → Bool) → TellBelow m start changes.old →
-        AreMade sets.now windows.old start steps.now m → TellBelow m (start + 0x4000) changes.new) }
+        AreMade sets.now windows.old start room.old.term.steps.items m → TellBelow m (start + 0x4000) changes.new) }
 {
-    let mixed = mixed_before(alloc, windows, start + STRETCH)?;
-    let mut stack = Vec::new(alloc);
+    list_mixed(windows, start + STRETCH, &mut room.mixed)?;
     for index in 0..16 {
         let place = start + 1024 * index;
-        fill_blocks(sets, &mixed, windows, blocks, place);
-        changes.write_block(evaluate_blocks(blocks, steps, &mut stack)?, place)?;
+        fill_blocks(sets, &room.mixed, windows, blocks, place);
+        let block = evaluate_blocks(blocks, &room.term.steps, &mut room.stack)?;
+        changes.write_block(block, place)?;
     }
     Ok(())
 }
@@ -81,11 +101,11 @@ fn write_set(
 
 /// Writes the members on a stretch.
 fn write_stretch(
-    alloc: Global,
     sets: &[&CodePointInversionList],
     steps: &[Step],
     windows: &mut [Window],
     blocks: &mut [Block],
+    room: &mut Room,
     start: u32,
     changes: &mut Changes,
 ) -> Result<(), NoMemory>
@@ -102,24 +122,24 @@ fn write_stretch(
         TellBelow (members_of sets.now steps.now) (start + 0x4000) changes.new) }
 {
     move_all(sets, windows, start);
-    let term = Shortened::new(alloc, windows, start + STRETCH, steps)?;
-    match term.outcome() {
+    room.term.shorten(windows, start + STRETCH, steps)?;
+    match room.term.outcome() {
         Outcome::Constant(inside) => changes.turn(inside, start),
         Outcome::Set {
             index,
             complemented,
         } => write_set(sets, windows, index, complemented, start, changes),
-        Outcome::Mixed => write_blocks(alloc, sets, &term.steps, windows, blocks, start, changes),
+        Outcome::Mixed => write_blocks(sets, windows, blocks, room, start, changes),
     }
 }
 
 /// Writes all stretches.
 fn write_all(
-    alloc: Global,
     sets: &[&CodePointInversionList],
     steps: &[Step],
     windows: &mut [Window],
     blocks: &mut [Block],
+    room: &mut Room,
     changes: &mut Changes,
 ) -> Result<(), NoMemory>
     requires windows_each { length windows.old ≡ length sets.now }
@@ -132,11 +152,11 @@ fn write_all(
 {
     for stretch in 0..STRETCHES {
         write_stretch(
-            alloc,
             sets,
             steps,
             windows,
             blocks,
+            room,
             stretch * STRETCH,
             changes,
         )?;
@@ -156,8 +176,20 @@ pub fn evaluate(
 {
     let mut windows = vec![in alloc; Window::UNKNOWN; sets.len()]?;
     let mut blocks = vec![in alloc; Block::EMPTY; sets.len()]?;
+    let mut room = Room {
+        term: Shortened::new(alloc),
+        mixed: Vec::new(alloc),
+        stack: Vec::new(alloc),
+    };
     let mut changes = Changes::new(alloc);
-    write_all(alloc, sets, steps, &mut windows, &mut blocks, &mut changes)?;
+    write_all(
+        sets,
+        steps,
+        &mut windows,
+        &mut blocks,
+        &mut room,
+        &mut changes,
+    )?;
     changes.turn(false, LAST_CODE_POINT + 1)?;
     changes.to_set(alloc)
 }

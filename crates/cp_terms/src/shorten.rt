@@ -90,11 +90,21 @@ impl Drop for Shortened {
 }
 
 impl Shortened {
-    ghost use Rattle.std.specs.Prelude.{◌≡◌, ℕ, ◌∷◌, Bool, List, [], IfOk, OnOk, IfSome, IfNone};
+    ghost use Rattle.std.specs.Prelude.{◌≡◌, ℕ, ◌∷◌, Bool, List, [], OnOk, IfSome, IfNone};
     ghost use Rattle.cp_terms.specs.Terms.{combined, both_done, step_done, steps_done, top, value_of};
     ghost use Rattle.cp_terms.specs.declared.shorten.Part.{Part};
     ghost use Rattle.cp_terms.specs.Outcome.{outcome_value};
     ghost use Rattle.cp_terms.specs.Shorten.{Agree, FitsTerm, FitsUnder, FitsUnderBoth, changed, changed_top};
+
+    /// No steps.
+    pub(crate) fn new(alloc: Global) -> Shortened
+        ensures { (w : ℕ → Bool) → FitsTerm w result [] }
+    {
+        Shortened {
+            steps: Vec::new(alloc),
+            stack: Vec::new(alloc),
+        }
+    }
 
     /// Puts down a set that has all or none.
     fn put_constant(&mut self, inside: bool) -> Result<(), NoMemory>
@@ -212,24 +222,22 @@ impl Shortened {
         }
     }
 
-    /// The steps, shortened for the code points up to the end.
-    pub(crate) fn new(
-        alloc: Global,
+    /// Shortens the steps for the code points up to the end. What was there before goes.
+    pub(crate) fn shorten(
+        &mut self,
         windows: &[Window],
         end: u32,
         steps: &[Step],
-    ) -> Result<Shortened, NoMemory>
-        ensures { IfOk result
-            (λ term. (v w : ℕ → Bool) → Agree windows.now end v w → FitsTerm w term (steps_done v steps.now [])) }
+    ) -> Result<(), NoMemory>
+        ensures { OnOk result ((v w : ℕ → Bool) →
+            Agree windows.now end v w → FitsTerm w self.new (steps_done v steps.now [])) }
     {
-        let mut shortened = Shortened {
-            steps: Vec::new(alloc),
-            stack: Vec::new(alloc),
-        };
+        self.steps.clear();
+        self.stack.clear();
         for step in steps {
-            shortened.take(windows, end, *step)?;
+            self.take(windows, end, *step)?;
         }
-        Ok(shortened)
+        Ok(())
     }
 
     /// Whether the set on top has all or none, where either is known.

@@ -1,5 +1,5 @@
 //! What is known of sets from a place on, in the order of code points.
-ghost use Rattle.std.specs.Prelude.{◌≡◌, ◌≢◌, ℕ, ◌+◌, ◌<◌, ◌≤◌, length, All, AllPairs, Contains, Some, slice_get, IfOk};
+ghost use Rattle.std.specs.Prelude.{◌≡◌, ◌≢◌, ℕ, ◌+◌, ◌<◌, ◌≤◌, length, All, AllPairs, Contains, Some, slice_get, OnOk};
 ghost use Rattle.cp_terms.specs.Words.{has_bit};
 ghost use Rattle.cp_terms.specs.Windows.{HasWindow, AreWindows, HasBlock};
 ghost use Rattle.cp_terms.specs.declared.windows.Window.{Window};
@@ -7,7 +7,6 @@ ghost use Rattle.cp_terms.specs.declared.windows.Window.{Window};
 use crate::block::Block;
 use crate::word::turned;
 use cp_invlist::{CodePointInversionList, LAST_CODE_POINT, NoMemory};
-use std::alloc::Global;
 
 /// What is known of a set from a place on.
 #[derive(Clone, Copy)]
@@ -136,23 +135,23 @@ pub(crate) fn move_all(sets: &[&CodePointInversionList], windows: &mut [Window],
     }
 }
 
-/// The indices of the sets that change before the end, in order.
-pub(crate) fn mixed_before(
-    alloc: Global,
+/// Lists the indices of the sets that change before the end, in order. What was there before goes.
+pub(crate) fn list_mixed(
     windows: &[Window],
     end: u32,
-) -> Result<Vec<usize>, NoMemory>
-    ensures mixed { IfOk result
-        (λ mixed. (i : ℕ) (window : Window) → slice_get windows.now i ≡ Some window → window.next < end → Contains mixed.items i) }
-    ensures ascending { IfOk result (λ mixed. AllPairs (λ i j. i < j) mixed.items) }
+    mixed: &mut Vec<usize>,
+) -> Result<(), NoMemory>
+    ensures mixed { OnOk result ((i : ℕ) (window : Window) →
+        slice_get windows.now i ≡ Some window → window.next < end → Contains mixed.new.items i) }
+    ensures ascending { OnOk result (AllPairs (λ i j. i < j) mixed.new.items) }
 {
-    let mut mixed = Vec::new(alloc);
+    mixed.clear();
     for (index, window) in windows.iter().enumerate() {
         if window.next < end {
             mixed.push(index)?;
         }
     }
-    Ok(mixed)
+    Ok(())
 }
 
 /// Makes the block of the set with the index at the place, and moves its window on behind it.

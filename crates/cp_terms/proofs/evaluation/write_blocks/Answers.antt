@@ -1,4 +1,5 @@
-use Rattle.std.proofs.Common.{◌+◌, ◌*◌, sym, ◌∙◌, arith}
+use Rattle.std.proofs.Common.{◌+◌, ◌*◌, sym, ap, ◌∙◌, arith}
+use Rattle.cp_terms.specs.Terms.{value_of}
 use Rattle.cp_terms.specs.Blocks.{block_holds}
 use Rattle.cp_terms.proofs.WindowLemmas.{windows_later}
 use Rattle.cp_terms.proofs.StretchLemmas.{holds_mixed, listed_by_slice}
@@ -14,6 +15,9 @@ loop-index-preserved c =
       windows_each = c.fill_blocks.ensures.windows_each;
       blocks_each = c.fill_blocks.ensures.blocks_each;
       windows = windows_later c.args.sets.now (place + 1024) next c.fill_blocks.new.windows (omega arith) c.fill_blocks.ensures.windows;
+      term = c.loop-index.invariant.term;
+      mixed = c.loop-index.invariant.mixed;
+      ascending = c.loop-index.invariant.ascending;
       before = before_later (place + 1024) next c.write_block.new.self (omega arith) c.in_ok-write_block.ensures.before;
       members = λ m tell made.
           tell_at m c.write_block.new.self (place + 1024) next (omega arith)
@@ -21,8 +25,8 @@ loop-index-preserved c =
           (λ i j short h.
           made (place + 64 * i + j) (block_holds c.fill_blocks.new.blocks i j) (omega arith) (omega arith)
           (holds_mixed c.args.sets.now c.args.windows.now (c.args.start + 0x4000) place i j c.fill_blocks.new.blocks c.deref.result.now empty (empty_has i j short) c.fill_blocks.ensures.blocks_each
-          (λ k window at below. listed_by_slice c.in_ok-mixed.mixed.items c.deref.result.now k c.deref.ensures.value (c.in_ok-mixed.ensures.mixed k window at below)) c.fill_blocks.ensures.blocks short h)
-          ∙ sym (c.in_ok-evaluate_blocks.ensures i j short h)));
+          (λ k window at below. listed_by_slice c.loop-index.room.mixed.items c.deref.result.now k c.deref.ensures.value (c.loop-index.invariant.mixed k window at below)) c.fill_blocks.ensures.blocks short h)
+          ∙ sym (c.in_ok-block.ensures i j short h ∙ ap (value_of (block_holds c.fill_blocks.new.blocks i j)) (c.deref-in-loop-index.ensures.value ∙ c.loop-index.invariant.term))));
     }
 
 pub returns-clause-windows : goal.returns-clause-windows

@@ -5,7 +5,7 @@ use Rattle.cp_terms.specs.declared.step.Step.TheVariants.{Push}
 use Rattle.cp_terms.specs.Terms.{steps_done, step_done}
 use Rattle.cp_terms.specs.Shorten.{FitsTerm}
 use Rattle.cp_terms.proofs.TermsLemmas.{steps_done-more}
-use Rattle.cp_terms.proofs.shorten.Shortened.new.Goals as goal
+use Rattle.cp_terms.proofs.shorten.Shortened.shorten.Goals as goal
 
 pub loop-step-preserved : goal.loop-step-preserved
 loop-step-preserved c = λ v w agree.
@@ -14,4 +14,4 @@ loop-step-preserved c = λ v w agree.
     subst (FitsTerm w c.take.new.self) (steps_done-more v c.args.steps.now c.loop-step.step-index c.loop-step-test.true) e
 
 pub returns : goal.returns
-returns c = λ v w agree. subst (λ (ss : List Step). FitsTerm w c.loop-step.shortened (steps_done v ss [])) (take_all c.loop-step.step-index c.args.steps.now c.loop-step-test.false) (c.loop-step.invariant v w agree)
+returns c = λ v w agree. subst (λ (ss : List Step). FitsTerm w c.loop-step.self (steps_done v ss [])) (take_all c.loop-step.step-index c.args.steps.now c.loop-step-test.false) (c.loop-step.invariant v w agree)

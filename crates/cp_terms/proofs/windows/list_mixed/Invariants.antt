@@ -1,7 +1,7 @@
 use Rattle.std.proofs.Common.{◌≡◌, ℕ, ◌<◌, All, AllPairs, Some, Contains}
 use Rattle.std.specs.List.{slice_get}
 use Rattle.cp_terms.specs.declared.windows.Window.{Window}
-use Rattle.cp_terms.proofs.windows.mixed_before.Given as goal
+use Rattle.cp_terms.proofs.windows.list_mixed.Given as goal
 
 abbrev pub invariant-loop-index : goal.invariant-loop-index
 invariant-loop-index l = record {
