@@ -1,7 +1,8 @@
 -- The strings that a term keeps of a list.
-use Rattle.std.proofs.Common.{◌≡◌, ◌≢◌, ◌<◌, ◌≤◌, ◌+◌, ◌-◌, ◌||◌, ◌&&◌, ℕ, Bool, true, false, true≢false, cond, Bor, Some, List, [], ◌∷◌, ◌++◌, length, map, filter, take, drop, get_or, refl, sym, subst, ap, ap₂, ◌∙◌, append_assoc, append-nil, arith, inl, inr}
+use Rattle.std.proofs.Common.{nat_lt, ◌≡◌, ◌≢◌, ◌<◌, ◌≤◌, ◌+◌, ◌-◌, ◌||◌, ◌&&◌, ℕ, Bool, true, false, true≢false, cond, Bor, Some, List, [], ◌∷◌, ◌++◌, length, map, filter, take, drop, get_or, refl, sym, subst, ap, ap₂, ◌∙◌, append_assoc, append-nil, arith, inl, inr}
 use Rattle.std.proofs.Math.Seq.{take-add}
-use Rattle.std.proofs.lemmas.Bool.{cases_Bool, cond-true, cond-false, eq-eqb, le-leb}
+use Rattle.std.proofs.Math.Bool.{or-false}
+use Rattle.std.proofs.lemmas.Bool.{cases_Bool, cases_lt, cond-true, cond-false, eq-eqb, le-leb, lt-ltb, le-ltb}
 use Rattle.std.proofs.lemmas.Bool.Decides.{eqb_tells}
 use Rattle.std.proofs.lemmas.List.{map_more, map-append}
 use Rattle.std.proofs.lemmas.List.Elements.{All-filter, filter-append}
@@ -117,3 +118,34 @@ pub holds-filter : (test : List ℕ → Bool) (list : List (List ℕ)) (bytes : 
 holds-filter test list bytes complete =
     any-filter_same (λ s. bytes_eq s bytes) test (test bytes) (λ s same. ap test ((bytes_eq-Decides s bytes).0 same)) list
     ∙ both_where (test bytes) (holds list bytes) complete
+
+same_side : (place at : ℕ) → (place ≡ at → ⊥) → nat_lt place at ≡ nat_lt place (at + 1)
+same_side place at apart = elim (cases_lt place at) [
+  | inl before ↦ lt-ltb place at before ∙ sym (lt-ltb place (at + 1) (omega arith))
+  | inr behind ↦ (
+      let past : at + 1 ≤ place = elim (cases_lt at place) [
+        | inl less ↦ omega arith
+        | inr more ↦ absurd (apart (omega arith))
+      ] in
+      le-ltb place at behind ∙ sym (le-ltb place (at + 1) past))
+]
+
+-- a place whose text passes is added to the members before it
+pub place_added : (place at : ℕ) (member : Bool) → place ≤ 0x10_FFFF → (place ≡ at → member ≡ true) → ((nat_lt place at && member) || is_added at place) ≡ (nat_lt place (at + 1) && member)
+place_added place at member small passes = elim (eqb_tells place at) [
+  | inl equal ↦
+      ap₂ (λ x y. (x && member) || y) (le-ltb place at (omega (arith, equal.1))) (ap₂ ◌&&◌ (eq-eqb place at equal.1) (le-leb place 0x10_FFFF small))
+      ∙ sym (ap₂ ◌&&◌ (lt-ltb place (at + 1) (omega (arith, equal.1))) (passes equal.1))
+  | inr apart ↦
+      ap₂ (λ x y. (x && member) || (y && is_code_point place)) (same_side place at apart.1) apart.0
+      ∙ or-false (nat_lt place (at + 1) && member)
+]
+
+-- a place whose text fails is passed over
+pub place_passed : (place at : ℕ) (member : Bool) → (place ≡ at → member ≡ false) → (nat_lt place at && member) ≡ (nat_lt place (at + 1) && member)
+place_passed place at member fails = elim (eqb_tells place at) [
+  | inl equal ↦
+      ap (λ x. x && member) (le-ltb place at (omega (arith, equal.1)))
+      ∙ sym (ap₂ ◌&&◌ (lt-ltb place (at + 1) (omega (arith, equal.1))) (fails equal.1))
+  | inr apart ↦ ap (λ x. x && member) (same_side place at apart.1)
+]

@@ -4,3 +4,4 @@ pub mod TermLemmas
 pub mod TableLemmas
 pub mod KeptLemmas
 pub mod CutLemmas
+pub mod CandidatesLemmas

@@ -1,8 +1,9 @@
 -- Where a string stands in a list of strings in order.
-use Rattle.std.proofs.Common.{◌≡◌, ◌<◌, ◌+◌, ◌↔◌, ℕ, Bool, true, false, Bor, Some, Result, Ok, Err, List, [], ◌∷◌, length, map, get_or, refl, sym, subst, ap, ◌∙◌, arith, nat_cmp, inl, inr}
-use Rattle.std.proofs.lemmas.Bool.{cases_lt}
+use Rattle.std.proofs.Common.{◌≡◌, ◌<◌, ◌+◌, ◌↔◌, ℕ, Bool, true, false, Some, Result, Ok, Err, List, [], ◌∷◌, length, map, get_or, refl, sym, subst, ap, ◌∙◌, arith, nat_cmp, inl, inr}
+use Rattle.std.proofs.lemmas.Bool.{cases_lt, false_from_ne_true}
 use Rattle.std.proofs.lemmas.Cmp.{nat_list_cmp_total}
 use Rattle.std.proofs.lemmas.List.{get_or-map, length-map}
+use Rattle.std.proofs.lemmas.List.Folds.{list_any_at, list_any_none}
 use Rattle.std.proofs.lemmas.List.Sorted.{searchable_from_sorted}
 use Rattle.std.proofs.lemmas.Map.Text.{is_eq-slice_cmp}
 use Rattle.std.proofs.lemmas.Option.{slice_get_within, slice_get-get_or, get_or_from_slice_get}
@@ -12,7 +13,9 @@ use Rattle.std.specs.Cmp.Lexicographic.{slice_cmp}
 use Rattle.std.specs.List.{AllPairs}
 use Rattle.std.specs.List.Sorted.{IsBinarySearchResult, IsSearchInRange, IsNonDecreasingBy}
 use Rattle.std.specs.Ordering.{is_eq, is_lt, ordering_index, ordering_reverse}
-use Rattle.std.specs.Result.{result_ok}
+use Rattle.std.specs.Result.{result_ok, is_ok}
+use Rattle.std.specs.Str.{bytes_eq}
+use Rattle.cp_strset.specs.StringList.{holds}
 use Rattle.cp_strset_terms.specs.Places.{IsAt}
 
 -- by bytes
@@ -52,17 +55,17 @@ answers_rise f xs s ascending = searchable_from_sorted nat_list_cmp_total f xs s
     ∙ ascending k (k + 1) [] (omega arith) (omega (arith, within, length-map xs f)) in
     ap is_lt (nat_list_cmp_total.antisymm (f (get_or xs (k + 1) d)) (f (get_or xs k d)) ∙ ap ordering_reverse at))
 
--- the text behind the reference at a place
-text_at : (list : List (Bor (List ℕ))) (place : ℕ) (s : List ℕ) (d : Bor (List ℕ)) → IsAt (map (λ text. text.now) list) place s → (get_or list place d).now ≡ s
-text_at list place s d at =
-    let within : place < length list = omega (arith, slice_get_within (map (λ text. text.now) list) place s at, length-map list (λ text. text.now)) in
-    sym (get_or-map (λ text. text.now) list place d [] within) ∙ get_or_from_slice_get (map (λ text. text.now) list) place s [] at
+-- the text of the element at a place
+pub text_at : {X : Type 0} (f : X → List ℕ) (list : List X) (place : ℕ) (s : List ℕ) (d : X) → IsAt (map f list) place s → f (get_or list place d) ≡ s
+text_at f list place s d at =
+    let within : place < length list = omega (arith, slice_get_within (map f list) place s at, length-map list f) in
+    sym (get_or-map f list place d [] within) ∙ get_or_from_slice_get (map f list) place s [] at
 
--- a place of the text behind the reference there
-pub is_at : (list : List (Bor (List ℕ))) (place : ℕ) (s : List ℕ) (d : Bor (List ℕ)) → place < length list → (get_or list place d).now ≡ s → IsAt (map (λ text. text.now) list) place s
-is_at list place s d within same =
-    slice_get-get_or (map (λ text. text.now) list) place [] (omega (arith, length-map list (λ text. text.now)))
-    ∙ ap Some (get_or-map (λ text. text.now) list place d [] within ∙ same)
+-- a place of the text of the element there
+pub is_at : {X : Type 0} (f : X → List ℕ) (list : List X) (place : ℕ) (s : List ℕ) (d : X) → place < length list → f (get_or list place d) ≡ s → IsAt (map f list) place s
+is_at f list place s d within same =
+    slice_get-get_or (map f list) place [] (omega (arith, length-map list f))
+    ∙ ap Some (get_or-map f list place d [] within ∙ same)
 
 -- a string stands at one place at most
 pub one_place : (list : List (List ℕ)) → AllPairs IsBelow list → (i j : ℕ) (s : List ℕ) → IsAt list i s → IsAt list j s → i ≡ j
@@ -78,23 +81,36 @@ equal_itself : (s t : List ℕ) (o : Bool) → s ≡ t → is_eq (slice_cmp nat_
 equal_itself s t o same h = sym h ∙ (ap (λ u. is_eq (slice_cmp nat_cmp s u)) (sym same) ∙ equal_bytes s)
 
 -- a binary search in texts in order finds the place of a text, where it has one
-pub search_finds : (list : List (Bor (List ℕ))) (s : List ℕ) (r : Result ℕ ℕ) → AllPairs IsBelow (map (λ text. text.now) list) → IsSearchInRange r (length list) →
-    IsBinarySearchResult (λ y. slice_cmp nat_cmp y.now s) list r → (place : ℕ) → (result_ok r ≡ Some place) ↔ IsAt (map (λ text. text.now) list) place s
-search_finds [] s (Ok i) ascending bound found place = absurd (omega arith)
-search_finds (x ∷ xs) s (Ok i) ascending bound found place =
-    let here = is_at (x ∷ xs) i s x bound (same_bytes (get_or (x ∷ xs) i x).now s (found x)) in (
-      λ e. (let same : i ≡ place = cc in subst (λ k. IsAt (map (λ text. text.now) (x ∷ xs)) k s) same here),
-      λ at. ap Some (one_place (map (λ text. text.now) (x ∷ xs)) ascending i place s here at),
+pub search_finds : {X : Type 0} (f : X → List ℕ) (list : List X) (s : List ℕ) (r : Result ℕ ℕ) → AllPairs IsBelow (map f list) → IsSearchInRange r (length list) →
+    IsBinarySearchResult (λ y. slice_cmp nat_cmp (f y) s) list r → (place : ℕ) → (result_ok r ≡ Some place) ↔ IsAt (map f list) place s
+search_finds f [] s (Ok i) ascending bound found place = absurd (omega arith)
+search_finds f (x ∷ xs) s (Ok i) ascending bound found place =
+    let here = is_at f (x ∷ xs) i s x bound (same_bytes (f (get_or (x ∷ xs) i x)) s (found x)) in (
+      λ e. (let same : i ≡ place = cc in subst (λ k. IsAt (map f (x ∷ xs)) k s) same here),
+      λ at. ap Some (one_place (map f (x ∷ xs)) ascending i place s here at),
     )
-search_finds [] s (Err i) ascending bound found place = (λ e. cc, λ e. cc)
-search_finds (x ∷ xs) s (Err i) ascending bound found place = (
+search_finds f [] s (Err i) ascending bound found place = (λ e. cc, λ e. cc)
+search_finds f (x ∷ xs) s (Err i) ascending bound found place = (
   λ e. cc,
   λ at.
-      let cut = found (answers_rise (λ text. text.now) (x ∷ xs) s ascending) in
-      let same = text_at (x ∷ xs) place s x at in
-      let within : place < length (x ∷ xs) = omega (arith, slice_get_within (map (λ text. text.now) (x ∷ xs)) place s at, length-map (x ∷ xs) (λ text. text.now)) in
+      let cut = found (answers_rise f (x ∷ xs) s ascending) in
+      let same = text_at f (x ∷ xs) place s x at in
+      let within : place < length (x ∷ xs) = omega (arith, slice_get_within (map f (x ∷ xs)) place s at, length-map (x ∷ xs) f) in
       elim (cases_lt place i) [
-        | inl before ↦ (let e = equal_itself (get_or (x ∷ xs) place x).now s false same (ap is_eq (cut.0 place x (omega arith) before)) in cc)
-        | inr behind ↦ (let e = equal_itself (get_or (x ∷ xs) place x).now s false same (ap is_eq (cut.1 place x behind within)) in cc)
+        | inl before ↦ (let e = equal_itself (f (get_or (x ∷ xs) place x)) s false same (ap is_eq (cut.0 place x (omega arith) before)) in cc)
+        | inr behind ↦ (let e = equal_itself (f (get_or (x ∷ xs) place x)) s false same (ap is_eq (cut.1 place x behind within)) in cc)
       ],
 )
+
+holds-at : (list : List (List ℕ)) (place : ℕ) (s : List ℕ) → IsAt list place s → holds list s ≡ true
+holds-at list place s at = list_any_at (λ t. bytes_eq t s) list place [] (slice_get_within list place s at) ((bytes_eq-Decides (get_or list place []) s).1 (get_or_from_slice_get list place s [] at))
+
+holds-nowhere : (list : List (List ℕ)) (s : List ℕ) → ((place : ℕ) → IsAt list place s → ⊥) → holds list s ≡ false
+holds-nowhere list s nowhere = list_any_none (λ t. bytes_eq t s) list (λ place d within. false_from_ne_true (bytes_eq (get_or list place d) s) (λ same.
+    nowhere place (slice_get-get_or list place d within ∙ ap Some ((bytes_eq-Decides (get_or list place d) s).0 same))))
+
+-- and it answers whether the texts hold it
+pub search_answers : {X : Type 0} (f : X → List ℕ) (list : List X) (s : List ℕ) (r : Result ℕ ℕ) → AllPairs IsBelow (map f list) → IsSearchInRange r (length list) →
+    IsBinarySearchResult (λ y. slice_cmp nat_cmp (f y) s) list r → is_ok r ≡ holds (map f list) s
+search_answers f list s (Ok i) ascending bound found = sym (holds-at (map f list) i s ((search_finds f list s (Ok i) ascending bound found i).0 refl))
+search_answers f list s (Err i) ascending bound found = sym (holds-nowhere (map f list) s (λ place at. (let e = (search_finds f list s (Err i) ascending bound found place).1 at in cc)))

@@ -1,3 +1,4 @@
 pub mod Leaves
 pub mod Places
 pub mod Steps
+pub mod Candidates

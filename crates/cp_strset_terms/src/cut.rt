@@ -20,7 +20,8 @@ fn strings_from<'a>(strings: &'a [String], first: &str) -> &'a [String]
 /// The strings up to the text.
 fn strings_up_to<'a>(strings: &'a [String], last: &str) -> &'a [String]
     requires { AreCanonical (map string_bytes strings.now) }
-    ensures { (text : List ℕ) → is_le (slice_cmp nat_cmp text last.now) ≡ true →
+    ensures canonical { AreCanonical (map string_bytes result.now) }
+    ensures same { (text : List ℕ) → is_le (slice_cmp nat_cmp text last.now) ≡ true →
         holds (map string_bytes result.now) text ≡ holds (map string_bytes strings.now) text }
 {
     let end = strings.partition_point(|string| string.as_str() <= last);
@@ -31,7 +32,8 @@ fn strings_up_to<'a>(strings: &'a [String], last: &str) -> &'a [String]
 pub fn strings_among<'a>(list: &[&str], strings: &'a [String]) -> &'a [String]
     requires list { AreCanonical (texts list.now) }
     requires strings { AreCanonical (map string_bytes strings.now) }
-    ensures { (place : ℕ) (text : List ℕ) → IsAt (texts list.now) place text →
+    ensures canonical { AreCanonical (map string_bytes result.now) }
+    ensures same { (place : ℕ) (text : List ℕ) → IsAt (texts list.now) place text →
         holds (map string_bytes result.now) text ≡ holds (map string_bytes strings.now) text }
 {
     let (Some(first), Some(last)) = (list.first(), list.last()) else {

@@ -8,6 +8,7 @@ ghost use Rattle.cp_terms.specs.Terms.{value_of};
 ghost use Rattle.cp_strset_terms.specs.Leaves.{leaf_contains, leaf_holds};
 ghost use Rattle.cp_strset_terms.specs.Steps.{without_complements};
 
+mod candidates;
 mod cut;
 mod leaf;
 mod members;

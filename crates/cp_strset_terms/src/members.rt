@@ -8,6 +8,7 @@ ghost use Rattle.cp_strset_terms.specs.Leaves.{leaf_holds};
 ghost use Rattle.cp_strset_terms.specs.Places.{texts, IsAt};
 ghost use Rattle.cp_strset_terms.specs.Steps.{without_complement, without_complements};
 
+use crate::candidates::candidates;
 use crate::leaf::Leaf;
 use crate::numbers::places_of_leaves;
 use crate::table::string_table;
@@ -124,7 +125,7 @@ pub fn strings_of_term(
     ensures strings { IfOk result (λ strings. (bytes : List ℕ) → holds (map string_bytes strings.items) bytes ≡
         value_of (leaf_holds leaves.now bytes) (without_complements steps.now)) }
 {
-    let table = string_table(alloc, leaves)?;
+    let table = string_table(alloc, &candidates(alloc, leaves, steps)?)?;
     let steps = complement_free(alloc, steps)?;
     kept_texts(alloc, &table, leaves, &steps)
 }

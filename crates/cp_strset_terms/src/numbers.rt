@@ -20,7 +20,59 @@ fn place_of(list: &[&str], text: &str) -> Option<usize>
     list.binary_search(&text).ok()
 }
 
-/// The places in the list of those of the strings that it has.
+/// Whether the text is one of the strings.
+fn has_text(strings: &[String], text: &str) -> bool
+    requires { AreCanonical (map string_bytes strings.now) }
+    ensures { result ≡ holds (map string_bytes strings.now) text.now }
+{
+    strings
+        .binary_search_by(|string| string.as_str().cmp(text))
+        .is_ok()
+}
+
+/// The places in the list of those of the strings that it has, each looked up in the list.
+fn places_by_strings(
+    alloc: Global,
+    list: &[&str],
+    strings: &[String],
+) -> Result<CodePointInversionList, NoMemory>
+    requires canonical { AreCanonical (texts list.now) }
+    requires numbered { length list.now ≤ 0x11_0000 }
+    ensures { IfOk result (λ places. (place : ℕ) (text : List ℕ) →
+        IsAt (texts list.now) place text →
+        contains places place ≡ holds (map string_bytes strings.now) text) }
+{
+    let mut places = CodePointInversionListBuilder::new(alloc);
+    for string in strings {
+        if let Some(place) = place_of(list, string.as_str()) {
+            places.add32(place as u32)?;
+        }
+    }
+    Ok(places.build())
+}
+
+/// The places of those texts of the list that are among the strings, each looked up in the strings.
+fn places_by_texts(
+    alloc: Global,
+    list: &[&str],
+    strings: &[String],
+) -> Result<CodePointInversionList, NoMemory>
+    requires canonical { AreCanonical (map string_bytes strings.now) }
+    requires numbered { length list.now ≤ 0x11_0000 }
+    ensures { IfOk result (λ places. (place : ℕ) (text : List ℕ) →
+        IsAt (texts list.now) place text →
+        contains places place ≡ holds (map string_bytes strings.now) text) }
+{
+    let mut places = CodePointInversionListBuilder::new(alloc);
+    for (index, text) in list.iter().enumerate() {
+        if has_text(strings, text) {
+            places.add32(index as u32)?;
+        }
+    }
+    Ok(places.build())
+}
+
+/// The places in the list of those of the strings that it has. The shorter of both is gone along.
 fn places_of(
     alloc: Global,
     list: &[&str],
@@ -33,14 +85,12 @@ fn places_of(
         IsAt (texts list.now) place text →
         contains places place ≡ holds (map string_bytes strings.now) text) }
 {
-    let mut places = CodePointInversionListBuilder::new(alloc);
-    let candidates = strings_among(list, strings);
-    for string in candidates {
-        if let Some(place) = place_of(list, string.as_str()) {
-            places.add32(place as u32)?;
-        }
+    let among = strings_among(list, strings);
+    if list.len() < among.len() {
+        places_by_texts(alloc, list, among)
+    } else {
+        places_by_strings(alloc, list, among)
     }
-    Ok(places.build())
 }
 
 /// For each leaf the places of its strings.

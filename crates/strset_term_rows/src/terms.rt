@@ -22,6 +22,21 @@ const ROWS: &[(&[Step], &[u32], &[&str])] = &[
     (&[], &[], &[]),
     (&[Step::Push(5)], &[], &[]),
     (&[Step::Push(5), Step::Complement], &[0, 0x11_0000], &[]),
+    (
+        &[Step::Push(5), Step::Push(1), Step::Both(Way::Join)],
+        &[0x62, 0x65],
+        &["", "ab", "bc"],
+    ),
+    (
+        &[Step::Push(1), Step::Push(5), Step::Both(Way::Retain)],
+        &[],
+        &[],
+    ),
+    (
+        &[Step::Push(1), Step::Push(5), Step::Both(Way::Remove)],
+        &[0x62, 0x65],
+        &["", "ab", "bc"],
+    ),
     // Leaves alone.
     (&[Step::Push(0)], LETTERS, &[]),
     (&[Step::Push(1)], &[0x62, 0x65], &["", "ab", "bc"]),
@@ -98,6 +113,129 @@ const ROWS: &[(&[Step], &[u32], &[&str])] = &[
         &[0x61, 0x62],
         &[],
     ),
+    // What both have is found among the fewer strings, whichever stands above.
+    (
+        &[Step::Push(2), Step::Push(1), Step::Both(Way::Retain)],
+        &[],
+        &["ab"],
+    ),
+    (
+        &[
+            Step::Push(3),
+            Step::Push(1),
+            Step::Push(2),
+            Step::Both(Way::Retain),
+            Step::Both(Way::Join),
+        ],
+        &[],
+        &["", "ab", "zz"],
+    ),
+    (
+        &[
+            Step::Push(3),
+            Step::Push(2),
+            Step::Push(1),
+            Step::Both(Way::Retain),
+            Step::Both(Way::Join),
+        ],
+        &[],
+        &["", "ab", "zz"],
+    ),
+    (
+        &[Step::Push(1), Step::Push(0), Step::Both(Way::Retain)],
+        &[0x62, 0x64],
+        &[],
+    ),
+    // The first and the last string of another leaf.
+    (
+        &[Step::Push(1), Step::Push(3), Step::Both(Way::Retain)],
+        &[],
+        &[""],
+    ),
+    (
+        &[Step::Push(2), Step::Push(3), Step::Both(Way::Retain)],
+        &[],
+        &["zz"],
+    ),
+    (
+        &[Step::Push(3), Step::Push(4), Step::Both(Way::Remove)],
+        &[],
+        &["", "zz"],
+    ),
+    // The upper set without the lower, which is made of two, or has one below it.
+    (
+        &[
+            Step::Push(1),
+            Step::Push(2),
+            Step::Both(Way::Join),
+            Step::Push(4),
+            Step::Both(Way::RemoveFrom),
+        ],
+        &[],
+        &["abc", "b\u{301}"],
+    ),
+    (
+        &[
+            Step::Push(3),
+            Step::Push(1),
+            Step::Push(4),
+            Step::Both(Way::RemoveFrom),
+            Step::Both(Way::Join),
+        ],
+        &[],
+        &["", "abc", "b\u{301}", "zz"],
+    ),
+    // A set that is emptied or complemented has no strings to keep or to take away.
+    (
+        &[
+            Step::Push(1),
+            Step::Push(2),
+            Step::Clear,
+            Step::Both(Way::Join),
+        ],
+        &[0x62, 0x65],
+        &["", "ab", "bc"],
+    ),
+    (
+        &[
+            Step::Push(1),
+            Step::Clear,
+            Step::Push(4),
+            Step::Both(Way::Join),
+        ],
+        &[],
+        &["ab", "abc", "b\u{301}"],
+    ),
+    (
+        &[
+            Step::Push(4),
+            Step::Push(1),
+            Step::Complement,
+            Step::Both(Way::Remove),
+        ],
+        &[],
+        &["ab", "abc", "b\u{301}"],
+    ),
+    (
+        &[
+            Step::Push(1),
+            Step::Complement,
+            Step::Push(4),
+            Step::Both(Way::Retain),
+        ],
+        &[],
+        &[],
+    ),
+    (
+        &[
+            Step::Push(1),
+            Step::Complement,
+            Step::Push(4),
+            Step::Both(Way::RemoveFrom),
+        ],
+        &[],
+        &["ab", "abc", "b\u{301}"],
+    ),
     // Steps that find too few sets.
     (&[Step::Complement], &[], &[]),
     (&[Step::Both(Way::Join)], &[], &[]),
@@ -106,9 +244,45 @@ const ROWS: &[(&[Step], &[u32], &[&str])] = &[
         &[0x62, 0x65],
         &["", "ab", "bc"],
     ),
+    (
+        &[Step::Push(1), Step::Both(Way::RemoveFrom)],
+        &[0x62, 0x65],
+        &["", "ab", "bc"],
+    ),
+    (
+        &[Step::Both(Way::Retain), Step::Push(2)],
+        &[0x10_FFFF, 0x11_0000],
+        &["ab", "zz"],
+    ),
     (&[Step::Clear, Step::Push(3)], &[], &["", "zz"]),
     (&[Step::Push(1), Step::Clear], &[], &[]),
     // The same leaf again, and three of them.
+    (
+        &[
+            Step::Push(1),
+            Step::Push(1),
+            Step::Both(Way::Join),
+            Step::Push(1),
+            Step::Both(Way::Join),
+            Step::Push(1),
+            Step::Both(Way::Join),
+        ],
+        &[0x62, 0x65],
+        &["", "ab", "bc"],
+    ),
+    (
+        &[
+            Step::Push(2),
+            Step::Push(2),
+            Step::Both(Way::Join),
+            Step::Push(2),
+            Step::Both(Way::Join),
+            Step::Push(1),
+            Step::Both(Way::Retain),
+        ],
+        &[],
+        &["ab"],
+    ),
     (
         &[Step::Push(1), Step::Push(1), Step::Both(Way::Remove)],
         &[],

@@ -12,7 +12,7 @@ loop-place-preserved c = λ test agree.
     let list = c.args.list.now in
     let old = map string_bytes c.args.strings.now.items in
     let before = c.loop-place.invariant test agree in
-    let tested = sym (agree place (get_or list place d).now (is_at list place (get_or list place d).now d c.loop-place-test.true refl)) ∙ sym c.contains32.ensures in
+    let tested = sym (agree place (get_or list place d).now (is_at (λ text. text.now) list place (get_or list place d).now d c.loop-place-test.true refl)) ∙ sym c.contains32.ensures in
     elim c.if-contains32.branch [
       | then-contains32+in_ok-from_str+in_ok-push w ↦
           ap (λ v. map string_bytes v.items) w.strings-is
