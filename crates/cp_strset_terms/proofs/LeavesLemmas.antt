@@ -36,6 +36,7 @@ leaf_holds-past [] bytes index past = refl
 leaf_holds-past (leaf ∷ leaves) bytes zero past = absurd (omega arith)
 leaf_holds-past (leaf ∷ leaves) bytes (suc index) past = leaf_holds-past leaves bytes index (omega arith)
 
+-- an index that has a string is one of a leaf
 pub leaf_holds-within : (leaves : List Leaf) (bytes : List ℕ) (index : ℕ) → leaf_holds leaves bytes index ≡ true → index < length leaves
 leaf_holds-within [] bytes index h = cc
 leaf_holds-within (leaf ∷ leaves) bytes zero h = omega arith

@@ -16,7 +16,7 @@ use std::alloc::Global;
 struct Source {
     /// Its candidates are the indices from this place on, up to those of the set above it.
     start: usize,
-    /// How many strings its candidates have together. A leaf may count again, and what passes the type is its greatest number.
+    /// How many strings its candidates have together, each leaf as often as it is named; `usize::MAX` where they have more.
     strings: usize,
 }
 
@@ -24,6 +24,7 @@ struct Source {
 struct Sources {
     /// The indices of leaves, those of each set behind those of the set below it.
     indices: Vec<usize>,
+    /// The sets, the one on top last.
     stack: Vec<Source>,
 }
 
@@ -38,12 +39,12 @@ impl Drop for Sources {
 }
 
 impl Sources {
-    ghost use Rattle.std.specs.Prelude.{◌≡◌, ◌||◌, ℕ, ◌∷◌, Bool, true, false, List, [], IfOk, OnOk};
+    ghost use Rattle.std.specs.Prelude.{◌≡◌, ◌||◌, ℕ, ◌∷◌, Bool, true, false, List, IfOk, OnOk};
     ghost use Rattle.std.specs.List.{list_any};
-    ghost use Rattle.cp_terms.specs.Terms.{combined, both_done, clear_done, step_done, steps_done, top};
-    ghost use Rattle.cp_strset_terms.specs.Leaves.{leaf_holds};
-    ghost use Rattle.cp_strset_terms.specs.Steps.{without_complement, without_complements};
+    ghost use Rattle.cp_terms.specs.declared.step.Step.TheVariants.{Push};
+    ghost use Rattle.cp_terms.specs.Terms.{combined, both_done, clear_done, top};
     ghost use Rattle.cp_strset_terms.specs.Candidates.{IsStacked, IsStackedUnderBoth, Covers, CoversUnderBoth};
+    ghost use Rattle.cp_strset_terms.specs.Candidates.{FollowsStep, CoversTerm};
 
     /// Puts down a set without strings.
     fn put_none(&mut self) -> Result<(), NoMemory>
@@ -68,9 +69,7 @@ impl Sources {
 
     /// Puts down the leaf with the index, a set without strings where there is none.
     fn put_down(&mut self, leaves: &[Leaf<'_>], index: usize) -> Result<(), NoMemory>
-        ensures { OnOk result ((bytes : List ℕ) (stack : List Bool) →
-            Covers (leaf_holds leaves.now bytes) self.old stack →
-            Covers (leaf_holds leaves.now bytes) self.new (leaf_holds leaves.now bytes index ∷ stack)) }
+        ensures { OnOk result (FollowsStep leaves.now (Push index) self.old self.new) }
     {
         match leaves.get(index) {
             Some(leaf) => self.put_leaf(index, strings(leaf).len()),
@@ -172,9 +171,7 @@ impl Sources {
     /// Does the step. A complement has no strings.
     fn take(&mut self, leaves: &[Leaf<'_>], step: Step) -> Result<(), NoMemory>
         requires { IsStacked self.old }
-        ensures { OnOk result ((bytes : List ℕ) (stack : List Bool) →
-            Covers (leaf_holds leaves.now bytes) self.old stack →
-            Covers (leaf_holds leaves.now bytes) self.new (step_done (leaf_holds leaves.now bytes) (without_complement step) stack)) }
+        ensures { OnOk result (FollowsStep leaves.now step self.old self.new) }
     {
         match step {
             Step::Push(index) => self.put_down(leaves, index),
@@ -186,8 +183,7 @@ impl Sources {
     /// The candidates of the sets that the steps leave on the stack.
     fn new(alloc: Global, leaves: &[Leaf<'_>], steps: &[Step]) -> Result<Sources, NoMemory>
         ensures stacked { IfOk result IsStacked }
-        ensures covered { IfOk result (λ sources. (bytes : List ℕ) →
-            Covers (leaf_holds leaves.now bytes) sources (steps_done (leaf_holds leaves.now bytes) (without_complements steps.now) [])) }
+        ensures covered { IfOk result (CoversTerm leaves.now steps.now) }
     {
         let mut sources = Sources {
             indices: Vec::new(alloc),
@@ -226,7 +222,8 @@ fn remove_between(indices: &mut Vec<usize>, start: usize, end: usize)
 /// Which of so many leaves the indices name.
 fn marks_of(alloc: Global, count: usize, indices: &[usize]) -> Result<Vec<bool>, NoMemory>
     ensures count { IfOk result (λ marks. length marks.items ≡ count) }
-    ensures marked { IfOk result (λ marks. All (λ index. index < count → slice_get marks.items index ≡ Some true) indices.now) }
+    ensures marked { IfOk result (λ marks.
+        All (λ index. index < count → slice_get marks.items index ≡ Some true) indices.now) }
 {
     let mut marks = vec![in alloc; false; count]?;
     for index in indices {

@@ -3,7 +3,7 @@ use Rattle.std.proofs.lemmas.List.{take_all}
 use Rattle.cp_terms.specs.declared.step.Step.{Step}
 use Rattle.cp_terms.specs.declared.step.Step.TheVariants.{Push}
 use Rattle.cp_terms.specs.Terms.{steps_done, step_done}
-use Rattle.cp_strset_terms.specs.Candidates.{Covers}
+use Rattle.cp_strset_terms.specs.Candidates.{Covers, CoversTerm}
 use Rattle.cp_strset_terms.specs.Leaves.{leaf_holds}
 use Rattle.cp_strset_terms.specs.Steps.{without_complement, without_complements}
 use Rattle.cp_strset_terms.proofs.CandidatesLemmas.{stacked_where_covered, steps_done-more}
@@ -24,5 +24,4 @@ pub returns-clause-stacked : goal.returns-clause-stacked
 returns-clause-stacked c = stacked_where_covered _ c.loop-step.sources.indices.items (reverse c.loop-step.sources.stack.items) _ (c.loop-step.invariant [])
 
 pub returns-clause-covered : goal.returns-clause-covered
-returns-clause-covered c = λ bytes. subst (λ (ss : List Step). Covers (leaf_holds c.args.leaves.now bytes) c.loop-step.sources (steps_done (leaf_holds c.args.leaves.now bytes) (without_complements ss) []))
-    (take_all c.loop-step.step-index c.args.steps.now c.loop-step-test.false) (c.loop-step.invariant bytes)
+returns-clause-covered c = subst (λ (ss : List Step). CoversTerm c.args.leaves.now ss c.loop-step.sources) (take_all c.loop-step.step-index c.args.steps.now c.loop-step-test.false) c.loop-step.invariant
