@@ -1,4 +1,6 @@
 //! Steps that are put off, with the named sets that they gather.
+ghost use Rattle.std.specs.Prelude.{◌≡◌, ◌++◌, ◌∷◌, [], OnOk};
+
 use crate::closed::Closed;
 use crate::counting::counting;
 use crate::growing::Growing;
@@ -39,6 +41,17 @@ impl Drop for Later<'_> {
             huge: _,
         } = self;
     }
+}
+
+/// Puts the set behind the others. Most brackets keep one, and a list's first room would be for four.
+fn push_set<'a>(sets: &mut Vec<Named<'a>>, named: Named<'a>) -> Result<(), NoMemory>
+    ensures { OnOk result (sets.new.items ≡ sets.old.items ++ named.entry ∷ []) }
+{
+    if sets.is_empty() {
+        sets.reserve_exact(1)?;
+    }
+    sets.push(named)?;
+    Ok(())
 }
 
 impl<'a> Later<'a> {
@@ -123,7 +136,7 @@ impl<'a> Later<'a> {
         self.kept = self.kept.saturating_add(SHARE);
         self.huge = self.huge || named.set.is_huge();
         let name = named.name.copy(alloc)?;
-        self.sets.push(named)?;
+        push_set(&mut self.sets, named)?;
         self.places.add(name, place)?;
         Ok(place)
     }

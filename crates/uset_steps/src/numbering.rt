@@ -17,12 +17,12 @@ pub enum TermSet {
     Gathered(CodePointInversionListAndStringList),
 }
 
-/// A term whose sets have numbers. Each name has one.
+/// A term whose sets have numbers.
 #[derive(Drop)]
 pub struct NumberedTerm {
     /// The sets. Their numbers are their indices.
     pub sets: Vec<TermSet>,
-    /// The steps, over a stack on which they leave one set. A complement forgets the strings of its set.
+    /// The steps, over a stack. The set that they leave on top is that of the term. A complement forgets the strings of its set.
     pub steps: Vec<Step>,
 }
 

@@ -8,4 +8,4 @@ returns-in-Some-clause-kept c = λ sets is. kept_before sets (name_seen c.args.n
 
 pub returns-clause-kept : goal.returns-clause-kept
 returns-clause-kept c = λ sets is.
-    kept_now sets c.args.named c.args.self.now _ c.len-place.result (search rules) c.in_ok-push.ensures.items (rw c.in_ok-name.ensures at c.in_ok-add.ensures) is
+    kept_now sets c.args.named c.args.self.now _ c.len-place.result (search rules) c.in_ok-push_set.ensures (rw c.in_ok-name.ensures at c.in_ok-add.ensures) is
