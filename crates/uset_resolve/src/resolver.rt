@@ -1,4 +1,4 @@
-//! The lists that were made for the properties of a pattern.
+//! The lists that were made for the properties of patterns.
 ghost use Rattle.std.specs.Prelude.{◌≡◌, IfOk};
 ghost use Rattle.prop_data.specs.Database.{tables_of};
 ghost use Rattle.uset_gather.specs.Gathered.{list_in};
@@ -12,6 +12,9 @@ use std::collections::BTreeMap;
 use std::marker::Model;
 use std::rc::Rc;
 use uset_gather::Source;
+
+/// Where lists with so many ranges are kept, they are forgotten before a further pattern is read.
+const FULL: usize = 1 << 23;
 
 /// What the code points of a list have in common.
 #[derive(Clone, Copy, PartialEq, Eq, PartialOrd, Ord)]
@@ -29,6 +32,8 @@ pub(crate) enum Origin {
 pub struct Resolver<'a> {
     pub(crate) database: &'a PropertyDatabase,
     made: BTreeMap<Origin, Rc<CodePointInversionList>>,
+    /// How many ranges the lists have that are kept.
+    ranges: usize,
 }
 
 // By hand, so that letting a value go is one call in each proof.
@@ -37,6 +42,7 @@ impl Drop for Resolver<'_> {
         let Self {
             database: _,
             made: _,
+            ranges: _,
         } = self;
     }
 }
@@ -65,6 +71,24 @@ impl<'a> Resolver<'a> {
         Resolver {
             database,
             made: BTreeMap::new(alloc),
+            ranges: 0,
+        }
+    }
+
+    /// The database.
+    pub fn database(&self) -> &'a PropertyDatabase
+        ensures { result.now ≡ self.now }
+    {
+        self.database
+    }
+
+    /// Forgets the lists where they take much memory. They are made anew where they are asked for.
+    pub fn forget_many(&mut self, alloc: Global)
+        ensures { self.new ≡ self.old }
+    {
+        if self.ranges >= FULL {
+            self.made = BTreeMap::new(alloc);
+            self.ranges = 0;
         }
     }
 
@@ -79,8 +103,10 @@ impl<'a> Resolver<'a> {
         ensures list { IfOk result (λ source. list_in source ≡ list) }
         ensures same { self.new ≡ self.old }
     {
+        let ranges = list.get_inversion_list().len() / 2;
         let list = Rc::new(alloc, list)?;
         self.made.insert(origin, list.clone()?)?;
+        self.ranges = self.ranges.saturating_add(ranges);
         Ok(Source::Shared(list))
     }
 
