@@ -2,8 +2,8 @@
 """Times `uset eval` on sets that are named again and again: `repeated.py PROGRAM [TABLES]`.
 
 A variable of 100,000 ranges, or of 10,000 strings, is joined, taken away or kept ever more often in one bracket, and
-named in ever more brackets one behind another, and in brackets inside one another, which stand open at once. With tables, properties
-are named so too. The time of binding the variable, or of reading the tables, and of printing the set once is taken off.
+named in ever more brackets one behind another, in lines that answer with little of it, and in brackets inside one another, which stand open at
+once. With tables, properties are named so too. The time of binding the variable, or of reading the tables, and of printing the set once is taken off.
 """
 
 import sys
@@ -20,7 +20,10 @@ MOST_BYTES = 1 << 23
 # In how many brackets it is named.
 BRACKETS = (1, 10, 100, 10_000, 500_000)
 
-# In how many that stand open at once: of properties, and of variables, which are larger.
+# In how many lines.
+LINES = (1_000, 100_000)
+
+# In how many brackets that stand open at once: of properties, and of variables, which are larger.
 OPEN_PROPERTIES, OPEN_VARIABLES = 50_000, 100
 
 RANGES = "[" + "".join(element(2 * index) for index in range(100_000)) + "]"
@@ -73,6 +76,17 @@ def named_in_brackets(program, before, sets):
             print(f"| {label} | {count:,} | {net * 1e3:.1f} | {net * 1e6 / count:.0f} |", flush=True)
 
 
+def named_in_lines(program, before, sets):
+    """Prints the time of lines that each name the set, and answer with little of it."""
+    print_head("set", "lines", "ms", "us each")
+    for label, name in sets:
+        start, _ = seconds(program, before + f"pat [[{name}-[b]]&[a]]\n")
+        for count in LINES:
+            taken, _ = seconds(program, before + f"pat [[{name}-[b]]&[a]]\n" * count)
+            net = max(taken - start, 0.0)
+            print(f"| {label} | {count:,} | {net * 1e3:.1f} | {net * 1e6 / count:.0f} |", flush=True)
+
+
 def named_inside_one_another(program, before, sets, count):
     """Prints the time and the memory of brackets inside one another that each have the set, or the set without an element. The
     memory is what as many brackets more take: a process begins with what the one that starts it has resident."""
@@ -92,12 +106,14 @@ def main():
     variables = [("100,000 ranges", "$r"), ("10,000 strings", "$s")]
     named_again(program, bound, variables)
     named_in_brackets(program, bound, variables)
+    named_in_lines(program, bound, variables)
     named_inside_one_another(program, bound, variables, OPEN_VARIABLES)
     if len(sys.argv) > 2:
         tables = Path(sys.argv[2]).read_text(encoding="utf-8")
         properties = [("`[:Alphabetic:]`", "[:Alphabetic:]"), ("`[:L:]`", "[:L:]")]
         named_again(program, tables, properties)
         named_in_brackets(program, tables, properties)
+        named_in_lines(program, tables, properties)
         named_inside_one_another(program, tables, properties, OPEN_PROPERTIES)
 
 

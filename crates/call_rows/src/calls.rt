@@ -4,8 +4,8 @@ use cp_strset::CodePointInversionListAndStringList;
 use prop_data::PropertyDatabase;
 use std::alloc::Global;
 use uset_parse::{
-    ParseError, ParseErrorKind, VariableMap, parse, parse_unstable, parse_unstable_with_variables,
-    parse_with_variables,
+    ParseError, ParseErrorKind, Resolver, VariableMap, parse, parse_unstable,
+    parse_unstable_with_variables, parse_with_resolver, parse_with_variables,
 };
 use uset_reader::{Syntax, evaluate_set, read_set};
 
@@ -31,9 +31,18 @@ const CALLS: &[Call] = &[
 type Answer = Result<(CodePointInversionListAndStringList, usize), ParseError>;
 
 /// The answer of the reader below the calls.
-fn read_below(alloc: Global, syntax: &Syntax<'_>, source: &str) -> Answer {
-    let (closed, place) = read_set(alloc, syntax, source)?;
-    let set = evaluate_set(alloc, syntax, closed)?;
+fn read_below(
+    alloc: Global,
+    source: &str,
+    variables: &VariableMap,
+    database: &PropertyDatabase,
+) -> Answer {
+    let Some(syntax) = Syntax::of(variables, database) else {
+        return Err(ParseErrorKind::Internal.into());
+    };
+    let mut resolver = Resolver::new(alloc, database);
+    let (closed, place) = read_set(alloc, &syntax, &mut resolver, source)?;
+    let set = evaluate_set(alloc, &syntax, &mut resolver, closed)?;
     Ok((set, place.offset()))
 }
 
@@ -52,10 +61,7 @@ fn ask(
         Call::UnstableWithVariables => {
             parse_unstable_with_variables(alloc, source, variables, database)
         }
-        Call::Below => match Syntax::of(variables, database) {
-            Some(syntax) => read_below(alloc, &syntax, source),
-            None => Err(ParseErrorKind::Internal.into()),
-        },
+        Call::Below => read_below(alloc, source, variables, database),
     }
 }
 
@@ -129,6 +135,40 @@ impl Row<PropertyDatabase> for ReadByEach {
 fn each_call_reads_letters_and_a_digit(rt: HostRuntime) {
     let row: ReadByEach = ("[a-z0]", 6, &[0x30, 0x31, 0x61, 0x7B]);
     assert_rows_of_text(&rt, rt.alloc(), TABLES, &[row]);
+}
+
+/// Sources that are read in turn by one resolver.
+type InTurn = &'static [ReadByEach];
+
+impl Row<PropertyDatabase> for InTurn {
+    fn holds(&self, alloc: Global, database: &PropertyDatabase) -> bool {
+        let none = VariableMap::new(alloc);
+        let mut resolver = Resolver::new(alloc, database);
+        for (source, length, list) in *self {
+            match parse_with_resolver(alloc, source, &none, &mut resolver) {
+                Ok((set, bytes)) if bytes == *length && is_set(&set, list, &[]) => {}
+                _ => return false,
+            }
+        }
+        true
+    }
+}
+
+/// Properties of maps, which are asked for again in further patterns.
+const IN_TURN: InTurn = &[
+    ("[:L:]", 5, &[0x41, 0x5B, 0x61, 0x7B]),
+    ("[[:L:]-[b]]", 11, &[0x41, 0x5B, 0x61, 0x62, 0x63, 0x7B]),
+    ("[[:Nd:]&[:Letter:]]", 19, &[]),
+    (
+        "[[:Nd:]\\p{gc=L}]",
+        16,
+        &[0x30, 0x3A, 0x41, 0x5B, 0x61, 0x7B],
+    ),
+];
+
+#[test]
+fn one_resolver_reads_patterns_in_turn(rt: HostRuntime) {
+    assert_rows_of_text(&rt, rt.alloc(), TABLES, &[IN_TURN]);
 }
 
 const READ_BELOW: &[Read] = &[(Call::Below, "[$a-c{}$v-]]", 11)];

@@ -6,5 +6,4 @@ pub mod UnitLemmas
 pub mod TurnLemmas
 pub mod ReaderLemmas
 pub mod EvaluationLemmas
-pub mod MakingLemmas
 pub mod SyntaxLemmas

@@ -9,5 +9,4 @@ pub mod Faults
 pub mod Turns
 pub mod Readings
 pub mod Evaluation
-pub mod Making
 pub mod Laws

@@ -2,6 +2,7 @@
 use Rattle.std.specs.Prelude.{ℕ, Bool, Option, Some}
 use Rattle.cp_invlist.specs.InversionList.{contains}
 use Rattle.prop_data.specs.Database.{tables_of}
+use Rattle.prop_data.specs.declared.database.PropertyDatabase.{PropertyDatabase}
 use Rattle.prop_data.specs.Tables.{Tables}
 use Rattle.uset_grammar.specs.Text.{Text, ◌>>=◌}
 use Rattle.uset_grammar.specs.Language.{Value, Language}
@@ -38,3 +39,7 @@ language_seen s = record {
   resolve = resolve (tables_of s.database.now);
   lacking = lacking (tables_of s.database.now);
 }
+
+-- the database by which it resolves properties
+abbrev pub database_seen : Syntax → PropertyDatabase
+database_seen s = s.database.now

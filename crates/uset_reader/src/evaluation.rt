@@ -14,10 +14,9 @@ ghost use Rattle.uset_steps.specs.NumberedTerms.{put_in, steps_over};
 ghost use Rattle.uset_steps.specs.Terms.{term_in, closed_in};
 ghost use Rattle.uset_reader.specs.Evaluation.{lists_of_leaf, lists_of_found, found_in, some_named_in, puts_complement, AreFound, PushesStep, listed_at, found_at};
 ghost use Rattle.uset_reader.specs.Named.{sets_of};
-ghost use Rattle.uset_reader.specs.Syntaxes.{language_seen};
+ghost use Rattle.uset_reader.specs.Syntaxes.{language_seen, database_seen};
 
 use crate::found::FoundSet;
-use crate::making::gather_steps;
 use crate::property::{resolve_query, set_of};
 use crate::syntax::Syntax;
 use cp_invlist::NoMemory;
@@ -29,9 +28,6 @@ use uset_gather::Gathered;
 use uset_read::Query;
 use uset_resolve::Resolver;
 use uset_steps::{Closed, Name, NamedSet, NumberedTerm, Term, TermSet};
-
-/// A term of so few steps is gathered step by step, which takes less time than going over all code points.
-const FEW: usize = 32;
 
 /// The set that the variable is bound to, if it is bound to one.
 fn look_up_variable<'v>(syntax: &Syntax<'v>, name: &str) -> Option<NamedSet<'v>>
@@ -48,9 +44,9 @@ fn look_up_variable<'v>(syntax: &Syntax<'v>, name: &str) -> Option<NamedSet<'v>>
 }
 
 /// The set that the property asks for, if it resolves.
-fn look_up_property<'v>(
+fn look_up_property<'v, 'd: 'v>(
     alloc: Global,
-    resolver: &mut Resolver<'v>,
+    resolver: &mut Resolver<'d>,
     query: &Query,
 ) -> Result<Option<NamedSet<'v>>, NoMemory>
     ensures same { resolver.new ≡ resolver.old }
@@ -65,10 +61,10 @@ fn look_up_property<'v>(
 }
 
 /// The set that the name stands for, if it stands for one.
-fn look_up<'v>(
+fn look_up<'v, 'd: 'v>(
     alloc: Global,
     syntax: &Syntax<'v>,
-    resolver: &mut Resolver<'v>,
+    resolver: &mut Resolver<'d>,
     name: &Name,
 ) -> Result<Option<NamedSet<'v>>, NoMemory>
     requires { resolver.old ≡ syntax.now.database.now }
@@ -83,10 +79,10 @@ fn look_up<'v>(
 }
 
 /// The set, with its name looked up where it has one.
-fn find<'v>(
+fn find<'v, 'd: 'v>(
     alloc: Global,
     syntax: &Syntax<'v>,
-    resolver: &mut Resolver<'v>,
+    resolver: &mut Resolver<'d>,
     set: TermSet,
 ) -> Result<FoundSet<'v>, NoMemory>
     requires { resolver.old ≡ syntax.now.database.now }
@@ -105,17 +101,19 @@ fn find<'v>(
 }
 
 /// The sets, with their names looked up.
-fn find_all<'v>(
+fn find_all<'v, 'd: 'v>(
     alloc: Global,
     syntax: &Syntax<'v>,
+    resolver: &mut Resolver<'d>,
     sets: Vec<TermSet>,
 ) -> Result<Vec<FoundSet<'v>>, NoMemory>
-    ensures { IfOk result (λ found. AreFound (sets_of (language_seen syntax.now)) sets.items found.items) }
+    requires { resolver.old ≡ syntax.now.database.now }
+    ensures same { resolver.new ≡ resolver.old }
+    ensures found { IfOk result (λ found. AreFound (sets_of (language_seen syntax.now)) sets.items found.items) }
 {
-    let mut resolver = Resolver::new(alloc, syntax.database);
     let mut found = Vec::with_capacity(alloc, sets.len())?;
     for set in sets {
-        found.push(find(alloc, syntax, &mut resolver, set)?)?;
+        found.push(find(alloc, syntax, resolver, set)?)?;
     }
     Ok(found)
 }
@@ -170,8 +168,8 @@ fn with_complements(
     Ok(all)
 }
 
-/// The set that the steps make, evaluated at once.
-fn evaluate_at_once(
+/// The set that the steps make of the sets.
+fn evaluate_steps(
     alloc: Global,
     steps: &[Step],
     found: &[FoundSet<'_>],
@@ -185,31 +183,34 @@ fn evaluate_at_once(
 }
 
 /// The set of the term.
-fn evaluate_term(
+fn evaluate_term<'v, 'd: 'v>(
     alloc: Global,
-    syntax: &Syntax<'_>,
+    syntax: &Syntax<'v>,
+    resolver: &mut Resolver<'d>,
     term: Term,
 ) -> Result<CodePointInversionListAndStringList, NoMemory>
-    ensures { IfOk result (λ set. (m : Member) → in_set set m ≡ term_in (sets_of (language_seen syntax.now)) term m) }
+    requires { resolver.old ≡ syntax.now.database.now }
+    ensures same { resolver.new ≡ resolver.old }
+    ensures set { IfOk result (λ set. (m : Member) → in_set set m ≡ term_in (sets_of (language_seen syntax.now)) term m) }
 {
     let NumberedTerm { sets, steps } = term.into_numbered(alloc)?;
-    let found = find_all(alloc, syntax, sets)?;
-    if steps.len() <= FEW {
-        return gather_steps(alloc, &steps, &found);
-    }
-    evaluate_at_once(alloc, &steps, &found)
+    let found = find_all(alloc, syntax, resolver, sets)?;
+    evaluate_steps(alloc, &steps, &found)
 }
 
-/// The set that was read with this syntax, as lists.
-pub fn evaluate_set(
+/// The set that was read with this syntax, as lists. Those that are made for properties are kept by the resolver.
+pub fn evaluate_set<'v, 'd: 'v>(
     alloc: Global,
-    syntax: &Syntax<'_>,
+    syntax: &Syntax<'v>,
+    resolver: &mut Resolver<'d>,
     set: Closed,
 ) -> Result<CodePointInversionListAndStringList, NoMemory>
-    ensures { IfOk result (λ s. (m : Member) → in_set s m ≡ closed_in (sets_of (language_seen syntax.now)) set m) }
+    requires known { resolver.old ≡ database_seen syntax.now }
+    ensures same { resolver.new ≡ resolver.old }
+    ensures set { IfOk result (λ s. (m : Member) → in_set s m ≡ closed_in (sets_of (language_seen syntax.now)) set m) }
 {
     match set {
         Closed::Plain(set) => set.into_set(alloc),
-        Closed::Term(term) => evaluate_term(alloc, syntax, Box::into_inner(term)),
+        Closed::Term(term) => evaluate_term(alloc, syntax, resolver, Box::into_inner(term)),
     }
 }

@@ -2,11 +2,9 @@
 ghost use Rattle.std.specs.Prelude.{◌≡◌};
 ghost use Rattle.uset_reader.specs.Evaluation.{lists_of_leaf, lists_of_named};
 
-use cp_invlist::{CodePointInversionList, NoMemory};
+use cp_invlist::CodePointInversionList;
 use cp_strset::CodePointInversionListAndStringList;
 use cp_strset_terms::Leaf;
-use std::alloc::Global;
-use uset_gather::{Gathered, Operand};
 use uset_steps::NamedSet;
 
 /// A set that a term puts down, once its name was looked up.
@@ -40,12 +38,9 @@ fn leaf_of_named<'f>(set: &'f NamedSet<'_>) -> Leaf<'f>
 }
 
 impl FoundSet<'_> {
-    ghost use Rattle.std.specs.Prelude.{◌≡◌, IfOk};
+    ghost use Rattle.std.specs.Prelude.{◌≡◌};
     ghost use Rattle.cp_invlist.specs.InversionList.{IsInversionList};
-    ghost use Rattle.uset_grammar.specs.Tree.{Member};
-    ghost use Rattle.uset_gather.specs.Gathered.{gathered_in};
-    ghost use Rattle.cp_strset_terms.specs.Leaves.{code_points_of};
-    ghost use Rattle.uset_reader.specs.Evaluation.{lists_of_leaf, lists_of_found, is_complement, found_in};
+    ghost use Rattle.uset_reader.specs.Evaluation.{lists_of_leaf, lists_of_found, is_complement};
 
     /// The code points of the set, or of the one whose other code points it has.
     fn code_points(&self) -> &CodePointInversionList
@@ -64,6 +59,7 @@ impl FoundSet<'_> {
         ensures lists { lists_of_leaf result ≡ lists_of_found self.now }
         ensures canonical { IsInversionList (lists_of_found self.now).code_points }
     {
+        // Only the list's own call says that it is canonical.
         let _ = self.code_points().get_inversion_list();
         match self {
             FoundSet::Named(set) => leaf_of_named(set),
@@ -76,19 +72,5 @@ impl FoundSet<'_> {
         ensures { result ≡ is_complement self.now }
     {
         matches!(self, FoundSet::Named(NamedSet::Complement(_)))
-    }
-
-    /// The set, to be gathered with others.
-    pub(crate) fn gathered(&self, alloc: Global) -> Result<Gathered, NoMemory>
-        ensures { IfOk result (λ set. (m : Member) → gathered_in set m ≡ found_in self.now m) }
-    {
-        match self {
-            FoundSet::Named(set) => set.gathered(alloc),
-            FoundSet::Gathered(set) => {
-                let mut gathered = Gathered::new(alloc);
-                gathered.join(alloc, Operand::Set(set))?;
-                Ok(gathered)
-            }
-        }
     }
 }

@@ -10,7 +10,6 @@ mod found;
 mod front;
 mod item;
 pub mod laws;
-mod making;
 mod property;
 mod reader;
 mod syntax;

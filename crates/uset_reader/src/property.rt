@@ -16,9 +16,9 @@ use uset_resolve::{Resolution, Resolver};
 use uset_steps::{Gathering, Name, Named, NamedSet};
 
 /// What a property asks for.
-pub(crate) fn resolve_query<'v>(
+pub(crate) fn resolve_query<'v, 'd: 'v>(
     alloc: Global,
-    resolver: &mut Resolver<'v>,
+    resolver: &mut Resolver<'d>,
     query: &Query,
 ) -> Result<Resolution<'v>, NoMemory>
     ensures resolved { IfOk result (ResolvesTo (tables_of resolver.old) (query_seen query.now)) }
@@ -44,10 +44,10 @@ pub(crate) fn set_of<'v>(resolution: Resolution<'v>, negated: bool) -> Result<Na
 
 /// The property that asks this, with its set, and what stands behind what closes it, in front of which the mark is. The key is
 /// resolved before what closes the property is looked at.
-fn resolve_named<'v, 'a>(
+fn resolve_named<'v, 'd: 'v, 'a>(
     alloc: Global,
     syntax: &Syntax<'v>,
-    resolver: &mut Resolver<'v>,
+    resolver: &mut Resolver<'d>,
     form: Form,
     query: Query,
     mark: &'a str,
@@ -71,10 +71,10 @@ fn resolve_named<'v, 'a>(
 }
 
 /// Reads the property at the front of the text, which begins with `[:` or a backslash.
-pub(crate) fn read_named<'v, 'a>(
+pub(crate) fn read_named<'v, 'd: 'v, 'a>(
     alloc: Global,
     syntax: &Syntax<'v>,
-    resolver: &mut Resolver<'v>,
+    resolver: &mut Resolver<'d>,
     text: &'a str,
 ) -> Result<(Named<'v>, &'a str), Stop<'a>>
     requires { resolver.old ≡ syntax.now.database.now }
@@ -89,10 +89,10 @@ pub(crate) fn read_named<'v, 'a>(
 }
 
 /// The same in a bracket. A property that the bracket keeps is not resolved again.
-pub(crate) fn read_operand<'v, 'a>(
+pub(crate) fn read_operand<'v, 'd: 'v, 'a>(
     alloc: Global,
     syntax: &Syntax<'v>,
-    resolver: &mut Resolver<'v>,
+    resolver: &mut Resolver<'d>,
     gathered: &Gathering<'v>,
     text: &'a str,
 ) -> Result<(Operand<'v>, &'a str), Stop<'a>>

@@ -3,7 +3,7 @@ ghost use Rattle.std.specs.Prelude.{◌≡◌, ◌<◌, length, IfOk, IfErr};
 ghost use Rattle.std.specs.Str.{chars};
 ghost use Rattle.uset_grammar.specs.Front.{first, of_bracket, of_variable, of_property};
 ghost use Rattle.uset_reader.specs.Brackets.{opening_seen};
-ghost use Rattle.uset_reader.specs.Syntaxes.{language_seen};
+ghost use Rattle.uset_reader.specs.Syntaxes.{language_seen, database_seen};
 ghost use Rattle.uset_reader.specs.Readings.{IsReading, IsRefusal};
 
 use crate::bracket::{OpenBracket, Opening};
@@ -20,16 +20,19 @@ use uset_resolve::Resolver;
 use uset_steps::{Closed, NamedSet};
 
 /// Reads the bracket that begins the source, up to its `]`.
-fn read_bracket<'v, 'a>(
+fn read_bracket<'v, 'd: 'v, 'a>(
     alloc: Global,
     syntax: &Syntax<'v>,
+    resolver: &mut Resolver<'d>,
     source: &'a str,
     opening: Opening,
     inner: &'a str,
 ) -> Result<(Closed, Cursor<'a>), ParseError>
+    requires known { resolver.old ≡ syntax.now.database.now }
     requires begins { first (language_seen syntax.now) (chars source.now) ≡
         of_bracket (opening_seen opening) (chars inner.now) }
     requires behind { length inner.now < length source.now }
+    ensures same { resolver.new ≡ resolver.old }
     ensures read { IfOk result (λ p. IsReading (language_seen syntax.now) source.now p.0 p.1) }
     ensures refused { IfErr result (IsRefusal (language_seen syntax.now) source.now) }
 {
@@ -38,16 +41,8 @@ fn read_bracket<'v, 'a>(
     let mut outer = Vec::new(alloc);
     let mut bracket = OpenBracket::open(alloc, opening, 0)?;
     let mut place = Cursor::new(source).at(inner);
-    let mut resolver = Resolver::new(alloc, syntax.database);
     loop {
-        let progress = match turn(
-            alloc,
-            syntax,
-            &mut resolver,
-            place,
-            &mut outer,
-            &mut bracket,
-        ) {
+        let progress = match turn(alloc, syntax, resolver, place, &mut outer, &mut bracket) {
             Ok(progress) => progress,
             Err(error) => return Err(error),
         };
@@ -85,19 +80,21 @@ fn read_variable<'v, 'a>(
 }
 
 /// Reads the property that begins the source, as a set.
-fn read_property<'v, 'a>(
+fn read_property<'v, 'd: 'v, 'a>(
     alloc: Global,
     syntax: &Syntax<'v>,
+    resolver: &mut Resolver<'d>,
     source: &'a str,
 ) -> Result<(Closed, Cursor<'a>), ParseError>
-    requires { first (language_seen syntax.now) (chars source.now) ≡ of_property }
+    requires known { resolver.old ≡ syntax.now.database.now }
+    requires begins { first (language_seen syntax.now) (chars source.now) ≡ of_property }
+    ensures same { resolver.new ≡ resolver.old }
     ensures read { IfOk result (λ p. IsReading (language_seen syntax.now) source.now p.0 p.1) }
     ensures refused { IfErr result (IsRefusal (language_seen syntax.now) source.now) }
 {
     laws::turns();
     let cursor = Cursor::new(source);
-    let mut resolver = Resolver::new(alloc, syntax.database);
-    let (named, rest) = match read_named(alloc, syntax, &mut resolver, source) {
+    let (named, rest) = match read_named(alloc, syntax, resolver, source) {
         Ok(read) => read,
         Err(stop) => return Err(stopped(cursor, stop)),
     };
@@ -106,12 +103,15 @@ fn read_property<'v, 'a>(
 }
 
 /// Reads the set at the front of the source. The answer is the set, and the cursor behind it. The error is a fault of the source
-/// with its place, or says that memory was refused.
-pub fn read_set<'v, 'a>(
+/// with its place, or says that memory was refused. The lists that are made for properties are kept by the resolver.
+pub fn read_set<'v, 'd: 'v, 'a>(
     alloc: Global,
     syntax: &Syntax<'v>,
+    resolver: &mut Resolver<'d>,
     source: &'a str,
 ) -> Result<(Closed, Cursor<'a>), ParseError>
+    requires known { resolver.old ≡ database_seen syntax.now }
+    ensures same { resolver.new ≡ resolver.old }
     ensures read { IfOk result (λ p. IsReading (language_seen syntax.now) source.now p.0 p.1) }
     ensures refused { IfErr result (IsRefusal (language_seen syntax.now) source.now) }
 {
@@ -121,7 +121,9 @@ pub fn read_set<'v, 'a>(
         First::Stray(c) => Err(fault_at(cursor, ParseErrorKind::UnexpectedChar(c), source)),
         First::Bare => Err(fault_at(cursor, ParseErrorKind::UnexpectedChar('$'), source)),
         First::Variable(name, rest) => read_variable(alloc, syntax, source, name, rest),
-        First::Bracket(opening, inner) => read_bracket(alloc, syntax, source, opening, inner),
-        First::Property => read_property(alloc, syntax, source),
+        First::Bracket(opening, inner) => read_bracket(
+            alloc, syntax, resolver, source, opening, inner,
+        ),
+        First::Property => read_property(alloc, syntax, resolver, source),
     }
 }

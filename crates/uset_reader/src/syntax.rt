@@ -24,17 +24,18 @@ pub struct Syntax<'a> {
 }
 
 impl<'a> Syntax<'a> {
-    ghost use Rattle.std.specs.Prelude.{◌≡◌, ◌≤◌, length, option_map};
+    ghost use Rattle.std.specs.Prelude.{◌≡◌, ◌≤◌, length, option_map, IfSome};
     ghost use Rattle.std.specs.Str.{chars};
     ghost use Rattle.cp_invlist.specs.InversionList.{contains};
     ghost use Rattle.uset_grammar.specs.Text.{skip};
     ghost use Rattle.prop_data.specs.Database.{tables_of};
     ghost use Rattle.uset_variables.specs.Variables.{variables_of};
-    ghost use Rattle.uset_reader.specs.Syntaxes.{language_of, language_seen};
+    ghost use Rattle.uset_reader.specs.Syntaxes.{language_of, language_seen, database_seen};
 
     /// The syntax of the database's own tables, with these variables. `None` where one of the three is absent.
     pub fn of(variables: &'a VariableMap, database: &'a PropertyDatabase) -> Option<Syntax<'a>>
-        ensures { option_map language_seen result ≡ language_of (variables_of variables.now) (tables_of database.now) }
+        ensures language { option_map language_seen result ≡ language_of (variables_of variables.now) (tables_of database.now) }
+        ensures database { IfSome result (λ syntax. database_seen syntax ≡ database.now) }
     {
         let white_space = database.set(SetTable::PATTERN_WHITE_SPACE)?;
         let start = database.set(SetTable::XID_START)?;

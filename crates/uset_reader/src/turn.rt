@@ -146,10 +146,10 @@ fn is_last_property(item: &Item<'_>, rest: &str) -> bool
 }
 
 /// Takes the escape, the string or the property at the front of the text.
-fn take_unit<'v, 'a>(
+fn take_unit<'v, 'd: 'v, 'a>(
     alloc: Global,
     syntax: &Syntax<'v>,
-    resolver: &mut Resolver<'v>,
+    resolver: &mut Resolver<'d>,
     cursor: Cursor<'a>,
     bracket: &mut OpenBracket<'v>,
     text: &'a str,
@@ -231,10 +231,10 @@ fn close<'v, 'a>(
 }
 
 /// Reads what stands in front of what is left, white space aside, in the innermost bracket.
-pub(crate) fn turn<'v, 'a>(
+pub(crate) fn turn<'v, 'd: 'v, 'a>(
     alloc: Global,
     syntax: &Syntax<'v>,
-    resolver: &mut Resolver<'v>,
+    resolver: &mut Resolver<'d>,
     cursor: Cursor<'a>,
     outer: &mut Vec<OpenBracket<'v>>,
     bracket: &mut OpenBracket<'v>,

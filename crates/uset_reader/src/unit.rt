@@ -72,7 +72,7 @@ fn begins_property(text: &str) -> bool
 /// Reads the string at the front of the text.
 fn read_text<'v, 'a>(
     alloc: Global,
-    syntax: &Syntax<'v>,
+    syntax: &Syntax<'_>,
     several: bool,
     text: &'a str,
 ) -> Result<(Item<'v>, &'a str), Stop<'a>>
@@ -92,7 +92,7 @@ fn read_text<'v, 'a>(
 /// Reads the escape at the front of the text.
 fn read_escaped<'v, 'a>(
     alloc: Global,
-    syntax: &Syntax<'v>,
+    syntax: &Syntax<'_>,
     several: bool,
     text: &'a str,
 ) -> Result<(Item<'v>, &'a str), Stop<'a>>
@@ -111,10 +111,10 @@ fn read_escaped<'v, 'a>(
 }
 
 /// Reads the property at the front of the text.
-fn read_set<'v, 'a>(
+fn read_set<'v, 'd: 'v, 'a>(
     alloc: Global,
     syntax: &Syntax<'v>,
-    resolver: &mut Resolver<'v>,
+    resolver: &mut Resolver<'d>,
     several: bool,
     gathered: &Gathering<'v>,
     text: &'a str,
@@ -147,10 +147,10 @@ fn unit_kind(text: &str) -> UnitKind
 
 /// Reads the escape, the string or the property at the front of the text, which begins as one. `several` says whether
 /// an escape of several numbers fits there, and `gathered` is what the bracket has gathered.
-pub(crate) fn read_unit<'v, 'a>(
+pub(crate) fn read_unit<'v, 'd: 'v, 'a>(
     alloc: Global,
     syntax: &Syntax<'v>,
-    resolver: &mut Resolver<'v>,
+    resolver: &mut Resolver<'d>,
     several: bool,
     gathered: &Gathering<'v>,
     text: &'a str,

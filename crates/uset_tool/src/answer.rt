@@ -11,10 +11,9 @@ ghost use Rattle.uset_tool.specs.Answer.{code_point_text, range_text, linked, st
 
 use cp_invlist::{CodePointInversionList, CodePointRange, NoMemory};
 use cp_strset::CodePointInversionListAndStringList;
-use prop_data::PropertyDatabase;
 use std::alloc::{AllocError, Global};
 use std::fmt::Write;
-use uset_parse::{ParseError, ParseErrorKind, VariableMap, parse_unstable_with_variables};
+use uset_parse::{ParseError, ParseErrorKind, Resolver, VariableMap, parse_with_resolver};
 
 /// The answer to a line, and whether it is an `err` line.
 #[derive(Drop)]
@@ -139,12 +138,13 @@ pub(crate) fn answer_pattern(
     alloc: Global,
     source: &str,
     variables: &VariableMap,
-    database: &PropertyDatabase,
+    resolver: &mut Resolver<'_>,
 ) -> Result<Answer, NoMemory>
-    ensures { IfOk result (λ a. PatternAnswer
-        (language_of (variables_of variables.now) (tables_of database.now)) source.now (string_bytes a.text) a.is_err) }
+    ensures answer { IfOk result (λ a. PatternAnswer
+        (language_of (variables_of variables.now) (tables_of resolver.old)) source.now (string_bytes a.text) a.is_err) }
+    ensures same { resolver.new ≡ resolver.old }
 {
-    match parse_unstable_with_variables(alloc, source, variables, database) {
+    match parse_with_resolver(alloc, source, variables, resolver) {
         Ok((set, length)) => answer_read(alloc, &set, length),
         Err(error) => answer_fault(alloc, source, error),
     }

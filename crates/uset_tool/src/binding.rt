@@ -11,10 +11,9 @@ ghost use Rattle.uset_tool.specs.Answered.{AnswersDefinition, AnswersBinding, An
 use crate::answer::{Answer, answer_err, answer_fault, answer_pattern};
 use crate::line::{Definition, Line, read_line};
 use cp_invlist::NoMemory;
-use prop_data::PropertyDatabase;
 use std::alloc::Global;
 use uset_parse::{
-    InsertError, VariableMap, VariableString, VariableValue, parse_unstable_with_variables,
+    InsertError, Resolver, VariableMap, VariableString, VariableValue, parse_with_resolver,
 };
 
 /// The answer to a name that is bound now.
@@ -87,13 +86,14 @@ fn answer_set(
     name: &str,
     source: &str,
     variables: &mut VariableMap,
-    database: &PropertyDatabase,
+    resolver: &mut Resolver<'_>,
 ) -> Result<Answer, NoMemory>
     requires { bound variables.old name.now ≡ None }
-    ensures { IfOk result
-        (AnswersDefinition database.now name.now (set_definition source.now) variables.old variables.new) }
+    ensures answer { IfOk result
+        (AnswersDefinition resolver.old name.now (set_definition source.now) variables.old variables.new) }
+    ensures same { resolver.new ≡ resolver.old }
 {
-    let (set, length) = match parse_unstable_with_variables(alloc, source, variables, database) {
+    let (set, length) = match parse_with_resolver(alloc, source, variables, resolver) {
         Ok(read) => read,
         Err(error) => return answer_fault(alloc, source, error),
     };
@@ -109,11 +109,12 @@ fn answer_definition(
     name: &str,
     definition: Definition<'_>,
     variables: &mut VariableMap,
-    database: &PropertyDatabase,
+    resolver: &mut Resolver<'_>,
 ) -> Result<Answer, NoMemory>
     requires { bound variables.old name.now ≡ None }
-    ensures { IfOk result
-        (AnswersDefinition database.now name.now (definition_seen definition.entry) variables.old variables.new) }
+    ensures answer { IfOk result
+        (AnswersDefinition resolver.old name.now (definition_seen definition.entry) variables.old variables.new) }
+    ensures same { resolver.new ≡ resolver.old }
 {
     match definition {
         Definition::Char(c) => answer_value(alloc, name, VariableValue::Char(c), variables),
@@ -121,7 +122,7 @@ fn answer_definition(
             let value = VariableValue::String(VariableString::new(text));
             answer_value(alloc, name, value, variables)
         }
-        Definition::Set(source) => answer_set(alloc, name, source, variables, database),
+        Definition::Set(source) => answer_set(alloc, name, source, variables, resolver),
     }
 }
 
@@ -131,15 +132,16 @@ fn answer_binding(
     name: &str,
     definition: Definition<'_>,
     variables: &mut VariableMap,
-    database: &PropertyDatabase,
+    resolver: &mut Resolver<'_>,
 ) -> Result<Answer, NoMemory>
-    ensures { IfOk result
-        (AnswersBinding database.now name.now (definition_seen definition.entry) variables.old variables.new) }
+    ensures answer { IfOk result
+        (AnswersBinding resolver.old name.now (definition_seen definition.entry) variables.old variables.new) }
+    ensures same { resolver.new ≡ resolver.old }
 {
     if variables.get(name).is_some() {
         return answer_bound_before(alloc, name);
     }
-    answer_definition(alloc, name, definition, variables, database)
+    answer_definition(alloc, name, definition, variables, resolver)
 }
 
 /// The answer to a line of a script, which may bind a name.
@@ -147,18 +149,19 @@ pub(crate) fn answer_line(
     alloc: Global,
     line: &str,
     variables: &mut VariableMap,
-    database: &PropertyDatabase,
+    resolver: &mut Resolver<'_>,
 ) -> Result<Answer, NoMemory>
-    ensures { IfOk result (AnswersLine database.now (script_line line.now) variables.old variables.new) }
+    ensures answer { IfOk result (AnswersLine resolver.old (script_line line.now) variables.old variables.new) }
+    ensures same { resolver.new ≡ resolver.old }
 {
     match read_line(alloc, line)? {
         Line::Silent => Ok(Answer {
             text: String::new(alloc),
             is_err: false,
         }),
-        Line::Pattern(source) => answer_pattern(alloc, source, variables, database),
+        Line::Pattern(source) => answer_pattern(alloc, source, variables, resolver),
         Line::Binding(name, definition) => answer_binding(
-            alloc, name, definition, variables, database,
+            alloc, name, definition, variables, resolver,
         ),
         Line::Bad => Ok(answer_err(alloc, "bad line")?),
     }

@@ -14,8 +14,8 @@ use cp_strset::laws::one_list;
 use prop_data::PropertyDatabase;
 use std::alloc::Global;
 use text_lines::split_line;
-use uset_parse::VariableMap;
 use uset_parse::laws::one_answer;
+use uset_parse::{Resolver, VariableMap};
 
 /// Answers the lines of a script one by one. The answers are gathered into pieces, which are written as
 /// they are full. Tells whether an `err` line is among the answers.
@@ -37,9 +37,10 @@ pub(crate) fn answer_script<K: Sink>(
     let mut rest = script;
     let mut has_err = false;
     let mut variables = VariableMap::new(alloc);
+    let mut resolver = Resolver::new(alloc, database);
     let mut pending = Vec::new(alloc);
     while let Some((line, behind)) = split_line(rest) {
-        let answer = answer_line(alloc, line, &mut variables, database)?;
+        let answer = answer_line(alloc, line, &mut variables, &mut resolver)?;
         gather(sink, &mut pending, answer.text.as_bytes())?;
         has_err |= answer.is_err;
         rest = behind;

@@ -1,17 +1,7 @@
-use Rattle.std.proofs.Common.{sym}
-use Rattle.std.proofs.lemmas.Result.{err_from_is_err_and}
-use Rattle.uset_reader.specs.Syntaxes.{language_seen}
-use Rattle.uset_parse.proofs.ReadingLemmas.{reading, refusal, absent_syntax}
 use Rattle.uset_parse.proofs.calls.parse_unstable_with_variables.Goals as goal
 
-pub returns-in_default-clause-refused : goal.returns-in_default-clause-refused
-returns-in_default-clause-refused c = absent_syntax _ c.args.source.now c.into.result (sym c.in_default.ensures) c.into.ensures.0 c.into.ensures.1
-
-pub returns-in_err-closed-clause-refused : goal.returns-in_err-closed-clause-refused
-returns-in_err-closed-clause-refused c =
-    let p = err_from_is_err_and c.from_residual.result c.from_residual.ensures.1 in
-    rw (p.1, p.2) (refusal (language_seen c.in-Some.syntax) _ c.args.source.now _ (sym c.in-Some.ensures) c.in_err-closed.ensures.refused)
-
 pub returns-clause-read : goal.returns-clause-read
-returns-clause-read c =
-    reading (language_seen c.in-Some.syntax) _ c.args.source.now c.in_ok-closed.closed c.in_ok-closed.place c.in_ok-set.set c.offset.result (sym c.in-Some.ensures) c.in_ok-closed.ensures.read c.in_ok-set.ensures c.offset.ensures.rest
+returns-clause-read c = rw c.new.ensures at c.parse_with_resolver.ensures.read
+
+pub returns-clause-refused : goal.returns-clause-refused
+returns-clause-refused c = rw c.new.ensures at c.parse_with_resolver.ensures.refused

@@ -1,5 +1,5 @@
 use Rattle.uset_reader.proofs.EvaluationLemmas.{both_ok, at_once}
-use Rattle.uset_reader.proofs.evaluation.evaluate_at_once.Goals as goal
+use Rattle.uset_reader.proofs.evaluation.evaluate_steps.Goals as goal
 
 pub returns : goal.returns
 returns c =

@@ -12,7 +12,7 @@ loop-progress-init c =
     let start = begins c.turns.ensures.units c.turns.ensures.means c.turns.ensures.last c.turns.ensures.onward s c.args.source.now c.args.opening c.args.inner.now c.in_ok-bracket.bracket c.requires.begins c.in_ok-bracket.ensures in (
       c.at-place.ensures.source ∙ c.new.ensures.source,
       rw (c.at-place.ensures.left, c.new-outer.ensures.items) start,
-      c.new-resolver.ensures,
+      c.requires.known,
     )
 
 pub loop-progress-preserved : goal.loop-progress-preserved

@@ -7,10 +7,10 @@ use Rattle.uset_reader.proofs.reader.read_property.Goals as goal
 pub returns-in-Err-clause-refused : goal.returns-in-Err-clause-refused
 returns-in-Err-clause-refused c =
     let s = c.args.syntax.now in
-    refused_property s c.args.source.now (c.turns.ensures.units (language_seen s) (lawful s)) c.requires c.new-cursor.result c.in-Err.stop c.stopped.result c.in-Err.ensures.stopped c.new-cursor.ensures.source c.stopped.ensures
+    refused_property s c.args.source.now (c.turns.ensures.units (language_seen s) (lawful s)) c.requires.begins c.new-cursor.result c.in-Err.stop c.stopped.result c.in-Err.ensures.stopped c.new-cursor.ensures.source c.stopped.ensures
 
 pub returns-clause-read : goal.returns-clause-read
 returns-clause-read c =
     let s = c.args.syntax.now in
-    read_property s c.args.source.now (c.turns.ensures.units (language_seen s) (lawful s)) c.requires c.in-Ok.read.0 (Plain c.in_ok-set.set) c.in-Ok.read.1.now c.at.result c.in-Ok.ensures.read c.in_ok-set.ensures
+    read_property s c.args.source.now (c.turns.ensures.units (language_seen s) (lawful s)) c.requires.begins c.in-Ok.read.0 (Plain c.in_ok-set.set) c.in-Ok.read.1.now c.at.result c.in-Ok.ensures.read c.in_ok-set.ensures
     (c.at.ensures.source ∙ c.new-cursor.ensures.source) c.at.ensures.left

@@ -10,23 +10,23 @@ use Rattle.uset_tool.specs.Answer.{DefinitionAnswer, IsFaultAnswer, IsBound}
 use Rattle.uset_tool.proofs.BindingLemmas.{no_set_answer, text_after_result, set_answer}
 use Rattle.uset_tool.proofs.binding.answer_set.Goals as goal
 
-pub returns-in-Err : goal.returns-in-Err
-returns-in-Err c =
+pub returns-in-Err-clause-answer : goal.returns-in-Err-clause-answer
+returns-in-Err-clause-answer c =
     let old = variables_of c.args.variables.now in
-    let tables = tables_of c.args.database.now in
+    let tables = tables_of c.args.resolver.now in
     IfOk-weaker c.answer_fault.result (IsFaultAnswer c.in-Err.error c.args.source.now) (λ (a : Answer). DefinitionAnswer tables old c.args.name.now (set_definition c.args.source.now) (string_bytes a.text) a.is_err old)
     (λ a h. no_set_answer tables old c.args.name.now c.args.source.now c.in-Err.error a c.in-Err.ensures.refused h)
     c.answer_fault.ensures
 
-pub returns-then-length-source : goal.returns-then-length-source
-returns-then-length-source c =
-    text_after_result (tables_of c.args.database.now) (variables_of c.args.variables.now) c.args.name.now c.args.source.now _ _ c.answer_text_after.result c.in-Ok.ensures.read c.if-length-source.true c.answer_text_after.ensures.text c.answer_text_after.ensures.err
+pub returns-then-length-source-clause-answer : goal.returns-then-length-source-clause-answer
+returns-then-length-source-clause-answer c =
+    text_after_result (tables_of c.args.resolver.now) (variables_of c.args.variables.now) c.args.name.now c.args.source.now _ _ c.answer_text_after.result c.in-Ok.ensures.read c.if-length-source.true c.answer_text_after.ensures.text c.answer_text_after.ensures.err
 
-pub returns : goal.returns
-returns c =
+pub returns-clause-answer : goal.returns-clause-answer
+returns-clause-answer c =
     let old = variables_of c.args.variables.now in
     let new = variables_of c.answer_value.new.variables in
-    let tables = tables_of c.args.database.now in
+    let tables = tables_of c.args.resolver.now in
     IfOk-weaker c.answer_value.result (IsBound c.args.name.now (set (in_set c.in-Ok.read.0)) old new) (λ (a : Answer). DefinitionAnswer tables old c.args.name.now (set_definition c.args.source.now) (string_bytes a.text) a.is_err new)
     (λ a h. set_answer tables old new c.args.name.now c.args.source.now _ _ a c.in-Ok.ensures.read c.if-length-source.false h)
     c.answer_value.ensures

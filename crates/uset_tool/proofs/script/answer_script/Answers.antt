@@ -12,6 +12,7 @@ loop-line-init g c = (
   c.utf8.script,
   refl,
   rw c.new-pending.ensures.items (rw (nothing_bound c.new-variables.result c.new-variables.ensures) (holds_none (tables_of c.args.database.now) no_variables (lines c.args.script.now) (g.K.Sink.written c.args.sink.now))),
+  c.new-resolver.ensures,
 )
 
 pub returns-in_err-answer-clause-written : goal.returns-in_err-answer-clause-written
@@ -23,7 +24,7 @@ pub returns-in_err-gather-clause-written : goal.returns-in_err-gather-clause-wri
 returns-in_err-gather-clause-written g c =
     let tables = tables_of c.args.database.now in
     let laws : Laws tables = record { one_answer = c.one_answer.ensures tables c.requires; one_list_of_ranges = c.one_list_of_ranges.ensures; one_list = c.one_list.ensures } in
-    let answer = rw (← c.as_bytes.ensures.value) at c.in_ok-answer.ensures in
+    let answer = rw (← c.as_bytes.ensures.value, c.loop-line.invariant.3) at c.in_ok-answer.ensures.answer in
     let p = err_from_is_err_and c.from_residual-in_err-gather.result c.from_residual-in_err-gather.ensures.1 in
     rw (p.1, p.2) (gathering_stops laws _ _ _ _ _ _ c.in-Some.line.now c.as_bytes.result.now _ _ _ _ _ _ c.in_err-gather.field-0.0 c.loop-line.invariant.2 c.in-Some.ensures.parts answer c.in_err-gather.ensures.stopped)
 
@@ -31,10 +32,11 @@ pub loop-line-preserved : goal.loop-line-preserved
 loop-line-preserved g c =
     let tables = tables_of c.args.database.now in
     let laws : Laws tables = record { one_answer = c.one_answer.ensures tables c.requires; one_list_of_ranges = c.one_list_of_ranges.ensures; one_list = c.one_list.ensures } in
-    let answer = rw (← c.as_bytes.ensures.value) at c.in_ok-answer.ensures in (
+    let answer = rw (← c.as_bytes.ensures.value, c.loop-line.invariant.3) at c.in_ok-answer.ensures.answer in (
       search rules,
       ◌∙◌ {b = g.K.Sink.faults c.loop-line.sink} c.in_ok-gather.ensures.counted c.loop-line.invariant.1,
       holds_more laws _ _ _ _ _ _ c.in-Some.line.now c.as_bytes.result.now _ _ _ _ _ _ _ c.loop-line.invariant.2 c.in-Some.ensures.parts answer c.in_ok-gather.ensures.gathered,
+      c.in_ok-answer.ensures.same ∙ c.loop-line.invariant.3,
     )
 
 pub returns-in_err-write_all-clause-written : goal.returns-in_err-write_all-clause-written

@@ -12,6 +12,7 @@ invariant-loop-line g l =
     shadow (Utf8 l.rest)
     × (g.K.Sink.faults l.sink ≡ g.K.Sink.faults l.initial.sink)
     × Holds (tables_of l.database) no_variables (lines l.script) (variables_of l.variables) (lines l.rest) l.has_err l.pending.items (g.K.Sink.written l.initial.sink) (g.K.Sink.written l.sink)
+    × (l.resolver ≡ l.database)
 
 abbrev pub decreases-loop-line : goal.decreases-loop-line
 decreases-loop-line g l = length l.rest
