@@ -62,13 +62,13 @@ def named_again(program, before, sets):
                 print(f"| {label} | {how} | {times:,} | {net * 1e3:.1f} | {net * 1e9 / times:.0f} |", flush=True)
 
 
-def named_in_brackets(program, before, sets):
-    """Prints the time of brackets one behind another that each take an element from the set."""
-    print_head("set", "brackets", "ms", "us each")
+def named_in_many(program, before, sets, places, counts, once, many):
+    """Prints the time of a pattern, or of lines, that name each set in many places, at each count. What `once` takes is taken off."""
+    print_head("set", places, "ms", "us each")
     for label, name in sets:
-        start, _ = seconds(program, before + f"pat [{name}]\n")
-        for count in BRACKETS:
-            text = before + "pat [" + f"[{name}-[b]]" * count + "]\n"
+        start, _ = seconds(program, before + once(name))
+        for count in counts:
+            text = before + many(name, count)
             if len(text.encode("utf-8")) > MOST_BYTES:
                 continue
             taken, _ = seconds(program, text)
@@ -76,15 +76,16 @@ def named_in_brackets(program, before, sets):
             print(f"| {label} | {count:,} | {net * 1e3:.1f} | {net * 1e6 / count:.0f} |", flush=True)
 
 
+def named_in_brackets(program, before, sets):
+    """Brackets one behind another that each take an element from the set."""
+    once, many = lambda name: f"pat [{name}]\n", lambda name, count: "pat [" + f"[{name}-[b]]" * count + "]\n"
+    named_in_many(program, before, sets, "brackets", BRACKETS, once, many)
+
+
 def named_in_lines(program, before, sets):
-    """Prints the time of lines that each name the set, and answer with little of it."""
-    print_head("set", "lines", "ms", "us each")
-    for label, name in sets:
-        start, _ = seconds(program, before + f"pat [[{name}-[b]]&[a]]\n")
-        for count in LINES:
-            taken, _ = seconds(program, before + f"pat [[{name}-[b]]&[a]]\n" * count)
-            net = max(taken - start, 0.0)
-            print(f"| {label} | {count:,} | {net * 1e3:.1f} | {net * 1e6 / count:.0f} |", flush=True)
+    """Lines that each name the set, and answer with little of it."""
+    once, many = lambda name: f"pat [[{name}-[b]]&[a]]\n", lambda name, count: f"pat [[{name}-[b]]&[a]]\n" * count
+    named_in_many(program, before, sets, "lines", LINES, once, many)
 
 
 def named_inside_one_another(program, before, sets, count):
