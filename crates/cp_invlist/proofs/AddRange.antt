@@ -12,8 +12,8 @@ use Rattle.cp_invlist.specs.Ranges.{in_code_points}
 use Rattle.cp_invlist.specs.declared.error.NoMemory.{NoMemory}
 use Rattle.cp_invlist.specs.declared.ranges.CodePointRange.{CodePointRange}
 use Rattle.cp_invlist.specs.Cuts.{CutAfter, CutBefore}
-use Rattle.cp_invlist.proofs.Lists.{ascends_from-lower, ascends_from-raise, ascends_from-take, ascends_from-drop, ascends_from-append, ascends_from-cons, contains-append, contains-all_at_most, contains-all_above, has_even_length-append, IsInversionList-parts, IsInversionList-from}
-use Rattle.cp_invlist.proofs.Partition.{CutAfter-all, CutBefore-all, has_even_length-take, has_odd_length-take, cases_parity}
+use Rattle.cp_invlist.specs.ListLaws.{ascends_from-lower, ascends_from-raise, ascends_from-take, ascends_from-drop, ascends_from-append, ascends_from-cons, contains-append, contains-all_at_most, contains-all_above, has_even_length-append, IsInversionList-parts, IsInversionList-from}
+use Rattle.cp_invlist.specs.CutLaws.{CutAfter-all, CutBefore-all, has_even_length-take, has_odd_length-take, cases_parity}
 
 -- an end, where it is to be written
 abbrev pub written : Bool → ℕ → List ℕ

@@ -5,8 +5,8 @@ use Rattle.std.proofs.lemmas.Bool.{le-leb, lt-leb, and_from, and_left, and_right
 use Rattle.std.proofs.lemmas.List.{at_drop_all}
 use Rattle.cp_invlist.specs.InversionList.{ascends_from, has_even_length, IsInversionList}
 use Rattle.cp_invlist.specs.Fault.{first_out_of_order, odd_end, fault_of}
-use Rattle.cp_invlist.proofs.Lists.{IsInversionList-from}
-use Rattle.cp_invlist.proofs.Partition.{odd_length}
+use Rattle.cp_invlist.specs.ListLaws.{IsInversionList-from}
+use Rattle.cp_invlist.specs.CutLaws.{odd_length}
 
 pub first_out_of_order-fits : (n i x : ℕ) (xs : List ℕ) → n ≤ x → x ≤ 0x11_0000 → first_out_of_order n i (x ∷ xs) ≡ first_out_of_order (suc x) (suc i) xs
 first_out_of_order-fits n i x xs low high = cond-true _ _ _ (and_from _ _ (le-leb n x low) (le-leb x 0x11_0000 high))

@@ -5,7 +5,7 @@ use Rattle.std.proofs.lemmas.Bool.{cases_lt, cases_Bool, cond-true, cond-false}
 use Rattle.std.proofs.Math.Nat.{le_antisymm}
 use Rattle.cp_invlist.specs.InversionList.{ascends_from, has_even_length, IsInversionList}
 use Rattle.cp_invlist.specs.Fault.{first_out_of_order, odd_end, fault_of, IsOutOfOrder, IsFirstFault}
-use Rattle.cp_invlist.proofs.Lists.{ascends_from-parts, IsInversionList-parts, IsInversionList-from}
+use Rattle.cp_invlist.specs.ListLaws.{ascends_from-parts, IsInversionList-parts, IsInversionList-from}
 use Rattle.cp_invlist.proofs.FaultLemmas.{first_out_of_order-fits, first_out_of_order-fault, ascends_from-no_fault}
 
 -- what the element at an index must be at least, in a list whose first must be at least the number

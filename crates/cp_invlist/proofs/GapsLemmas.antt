@@ -6,7 +6,7 @@ use Rattle.cp_invlist.specs.InversionList.{contains, is_code_point, ascends_from
 use Rattle.cp_invlist.specs.Ranges.{AreRangesFrom, AreMaximalRanges, is_outside, last_gap, gaps_from}
 use Rattle.cp_invlist.specs.Gap.{IsGapBefore}
 use Rattle.cp_invlist.specs.declared.ranges.CodePointRange.{CodePointRange}
-use Rattle.cp_invlist.proofs.Lists.{ascends_from-parts, ascends_from-cons, IsInversionList-parts}
+use Rattle.cp_invlist.specs.ListLaws.{ascends_from-parts, ascends_from-cons, IsInversionList-parts}
 use Rattle.cp_invlist.proofs.RangesLemmas.{contains-first_below, contains-first_within, contains-first_behind, even_rest}
 
 -- the first gap of a list with two elements and more

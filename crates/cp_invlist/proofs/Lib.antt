@@ -1,5 +1,3 @@
-pub mod Lists
-pub mod Partition
 pub mod RangesLemmas
 pub mod AddRange
 pub mod GapsLemmas

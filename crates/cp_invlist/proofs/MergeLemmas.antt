@@ -9,8 +9,8 @@ use Rattle.std.specs.List.{slice_get}
 use Rattle.cp_invlist.specs.Merge.{keeps, inside_behind, turns_first, turns_second, turns_both, extended}
 use Rattle.cp_invlist.specs.declared.merge.Operation.{Operation}
 use Rattle.cp_invlist.specs.declared.merge.Operation.TheVariants.{Union, Difference, Intersection}
-use Rattle.cp_invlist.proofs.Lists.{ascends_from-parts, ascends_from-cons, ascends_from-lower, ascends_from-append, contains-append, contains-below, contains-all_at_most, has_even_length-append, IsInversionList-from}
-use Rattle.cp_invlist.proofs.Partition.{odd_length, differ-false}
+use Rattle.cp_invlist.specs.ListLaws.{ascends_from-parts, ascends_from-cons, ascends_from-lower, ascends_from-append, contains-append, contains-below, contains-all_at_most, has_even_length-append, IsInversionList-from}
+use Rattle.cp_invlist.specs.CutLaws.{odd_length, differ-false}
 
 -- a list with the number put behind it where that turns whether its end is inside
 abbrev turned_list : List ℕ → ℕ → Bool → List ℕ

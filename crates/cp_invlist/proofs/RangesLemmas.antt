@@ -5,7 +5,7 @@ use Rattle.std.proofs.lemmas.List.{take_rest}
 use Rattle.cp_invlist.specs.InversionList.{differ, contains, ascends_from, has_even_length, IsInversionList}
 use Rattle.cp_invlist.specs.Ranges.{AreRangesFrom, AreMaximalRanges, ranges_of}
 use Rattle.cp_invlist.specs.declared.ranges.CodePointRange.{CodePointRange}
-use Rattle.cp_invlist.proofs.Lists.{ascends_from-parts, ascends_from-lower, ascends_from-drop, contains-below, IsInversionList-parts, IsInversionList-from}
+use Rattle.cp_invlist.specs.ListLaws.{ascends_from-parts, ascends_from-lower, ascends_from-drop, contains-below, IsInversionList-parts, IsInversionList-from}
 
 -- membership before, in and behind the first range of a list
 pub contains-first_below : (a b c : ℕ) (xs : List ℕ) → a < b → ascends_from (suc b) xs ≡ true → c < a → contains (a ∷ b ∷ xs) c ≡ false

@@ -7,7 +7,7 @@ use Rattle.cp_invlist.specs.InversionList.{contains, ascends_from, has_even_leng
 use Rattle.cp_invlist.specs.Ranges.{ranges_of}
 use Rattle.cp_invlist.specs.Size.{count_members, range_size}
 use Rattle.cp_invlist.specs.declared.ranges.CodePointRange.{CodePointRange}
-use Rattle.cp_invlist.proofs.Lists.{ascends_from-parts, ascends_from-lower, IsInversionList-parts}
+use Rattle.cp_invlist.specs.ListLaws.{ascends_from-parts, ascends_from-lower, IsInversionList-parts}
 use Rattle.cp_invlist.proofs.RangesLemmas.{contains-first_below, contains-first_within, contains-first_behind, even_rest}
 
 count_members-next : (m : ℕ → Bool) (n : ℕ) → count_members m (suc n) ≡ cond (m n) 1 0 + count_members m n

@@ -6,3 +6,5 @@ pub mod Fault
 pub mod Gap
 pub mod Merge
 pub mod Laws
+pub mod ListLaws
+pub mod CutLaws

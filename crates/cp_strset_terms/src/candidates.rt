@@ -255,7 +255,7 @@ fn marked_leaves<'a>(
 }
 
 /// Leaves among whose strings are all strings of the set that the steps make, each leaf once.
-pub fn candidates<'a>(
+pub(crate) fn candidates<'a>(
     alloc: Global,
     leaves: &[Leaf<'a>],
     steps: &[Step],

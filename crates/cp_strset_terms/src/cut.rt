@@ -29,7 +29,7 @@ fn strings_up_to<'a>(strings: &'a [String], last: &str) -> &'a [String]
 }
 
 /// The strings from the first of the list up to its last.
-pub fn strings_among<'a>(list: &[&str], strings: &'a [String]) -> &'a [String]
+pub(crate) fn strings_among<'a>(list: &[&str], strings: &'a [String]) -> &'a [String]
     requires list { AreCanonical (texts list.now) }
     requires strings { AreCanonical (map string_bytes strings.now) }
     ensures canonical { AreCanonical (map string_bytes result.now) }

@@ -28,7 +28,7 @@ fn code_points<'a>(leaf: &Leaf<'a>) -> &'a CodePointInversionList
 }
 
 /// The strings of a leaf, in order.
-pub fn strings<'a>(leaf: &Leaf<'a>) -> &'a [String]
+pub(crate) fn strings<'a>(leaf: &Leaf<'a>) -> &'a [String]
     ensures bytes { map string_bytes result.now ≡ strings_of leaf.now }
     ensures canonical { AreCanonical (strings_of leaf.now) }
 {
@@ -39,7 +39,7 @@ pub fn strings<'a>(leaf: &Leaf<'a>) -> &'a [String]
 }
 
 /// The code points of each leaf.
-pub fn code_point_lists<'a>(
+pub(crate) fn code_point_lists<'a>(
     alloc: Global,
     leaves: &[Leaf<'a>],
 ) -> Result<Vec<&'a CodePointInversionList>, NoMemory>

@@ -116,7 +116,7 @@ fn kept_texts(
 }
 
 /// The strings of the set that the steps make of the leaves.
-pub fn strings_of_term(
+pub(crate) fn strings_of_term(
     alloc: Global,
     leaves: &[Leaf<'_>],
     steps: &[Step],

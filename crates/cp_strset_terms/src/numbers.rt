@@ -94,7 +94,7 @@ fn places_of(
 }
 
 /// For each leaf the places of its strings.
-pub fn places_of_leaves(
+pub(crate) fn places_of_leaves(
     alloc: Global,
     list: &[&str],
     leaves: &[Leaf<'_>],

@@ -12,7 +12,7 @@ use cp_invlist::NoMemory;
 use std::alloc::Global;
 
 /// All strings of the leaves, each once, in order.
-pub fn string_table<'a>(alloc: Global, leaves: &[Leaf<'a>]) -> Result<Vec<&'a str>, NoMemory>
+pub(crate) fn string_table<'a>(alloc: Global, leaves: &[Leaf<'a>]) -> Result<Vec<&'a str>, NoMemory>
     ensures canonical { IfOk result (λ table. AreCanonical (texts table.items)) }
     ensures complete { IfOk result (λ table. (bytes : List ℕ) →
         holds (texts table.items) bytes ≡ holds (flat_map strings_of leaves.now) bytes) }

@@ -5,8 +5,8 @@ use Rattle.std.proofs.lemmas.Bool.{cases_lt, le-leb, lt-leb}
 use Rattle.std.proofs.lemmas.List.Elements.{All-append, All-cons, All-nil}
 use Rattle.cp_invlist.specs.InversionList.{contains, differ, ascends_from, has_even_length}
 use Rattle.cp_invlist.specs.declared.set.CodePointInversionList.{CodePointInversionList}
-use Rattle.cp_invlist.proofs.Lists.{ascends_from-cons, ascends_from-append, contains-append, contains-all_at_most, has_even_length-append}
-use Rattle.cp_invlist.proofs.Partition.{differ-false}
+use Rattle.cp_invlist.specs.ListLaws.{ascends_from-cons, ascends_from-append, contains-append, contains-all_at_most, has_even_length-append}
+use Rattle.cp_invlist.specs.CutLaws.{differ-false}
 use Rattle.cp_terms.specs.declared.step.Step.{Step}
 use Rattle.cp_terms.specs.Terms.{value_of, holds_at}
 use Rattle.cp_terms.specs.Words.{has_bit}

@@ -6,8 +6,8 @@ use Rattle.std.proofs.lemmas.Bool.{cases_lt}
 use Rattle.std.proofs.lemmas.List.{take-append-drop, length-take-le}
 use Rattle.std.proofs.lemmas.List.Elements.{All-append, All-take}
 use Rattle.cp_invlist.specs.InversionList.{contains, differ, ascends_from, has_even_length}
-use Rattle.cp_invlist.proofs.Lists.{ascends_from-append, ascends_from-raise, contains-below, contains-all_above, contains-append, contains-all_at_most}
-use Rattle.cp_invlist.proofs.Partition.{differ-false, odd_length}
+use Rattle.cp_invlist.specs.ListLaws.{ascends_from-append, ascends_from-raise, contains-below, contains-all_above, contains-append, contains-all_at_most}
+use Rattle.cp_invlist.specs.CutLaws.{differ-false, odd_length}
 use Rattle.cp_terms.specs.declared.windows.Window.{Window}
 use Rattle.cp_terms.specs.Windows.{IsWindow, AreLeftBefore, is_inside}
 use Rattle.cp_terms.specs.Changes.{AreBefore, TellBelow}

@@ -9,8 +9,8 @@ use Rattle.std.proofs.lemmas.List.Elements.{Contains-append_cases, All-append, A
 use Rattle.cp_invlist.specs.InversionList.{contains, differ, ascends_from, IsInversionList}
 use Rattle.cp_invlist.specs.Cuts.{CutAfter}
 use Rattle.cp_invlist.specs.declared.set.CodePointInversionList.{CodePointInversionList}
-use Rattle.cp_invlist.proofs.Lists.{ascends_from-parts, ascends_from-cons, ascends_from-drop, contains-append, contains-below, contains-all_at_most, IsInversionList-parts}
-use Rattle.cp_invlist.proofs.Partition.{IsNonDecreasingBy-ascends, odd_length, contains-cut}
+use Rattle.cp_invlist.specs.ListLaws.{ascends_from-parts, ascends_from-cons, ascends_from-drop, contains-append, contains-below, contains-all_at_most, IsInversionList-parts}
+use Rattle.cp_invlist.specs.CutLaws.{IsNonDecreasingBy-ascends, odd_length, contains-cut}
 use Rattle.cp_terms.specs.declared.block.Block.{Block}
 use Rattle.cp_terms.specs.declared.windows.Window.{Window}
 use Rattle.cp_terms.specs.Words.{has_bit, IsWord}

@@ -1,7 +1,7 @@
 use Rattle.std.proofs.Common.{nat_le, rules}
 use Rattle.std.proofs.lemmas.List.Sorted.{IsPartitionPoint-from_clause}
-use Rattle.cp_invlist.proofs.Lists.{IsInversionList-parts}
-use Rattle.cp_invlist.proofs.Partition.{partitioned_at_most, CutAfter-from}
+use Rattle.cp_invlist.specs.ListLaws.{IsInversionList-parts}
+use Rattle.cp_invlist.specs.CutLaws.{partitioned_at_most, CutAfter-from}
 use Rattle.cp_invlist.proofs.builder.cut_after.Goals as goal
 
 pub returns-clause-cut : goal.returns-clause-cut

@@ -1,4 +1,4 @@
-use Rattle.cp_invlist.proofs.Partition.{none_from_last}
+use Rattle.cp_invlist.specs.CutLaws.{none_from_last}
 use Rattle.cp_invlist.proofs.laws.members_are_below_the_last.Goals as goal
 
 pub returns : goal.returns

@@ -4,7 +4,7 @@ use Rattle.std.specs.List.{slice_get}
 use Rattle.std.proofs.lemmas.Option.{slice_get_read}
 use Rattle.std.proofs.lemmas.Result.{on_ok_weaker}
 use Rattle.cp_invlist.specs.InversionList.{differ}
-use Rattle.cp_invlist.proofs.Partition.{differ-false}
+use Rattle.cp_invlist.specs.CutLaws.{differ-false}
 use Rattle.cp_terms.specs.Changes.{AreBefore, TellBelow}
 use Rattle.cp_terms.proofs.TermsLemmas.{holds_at-reference, holds_at-past}
 use Rattle.cp_terms.proofs.WindowLemmas.{window_of}

@@ -2,7 +2,7 @@ use Rattle.std.proofs.Common.{◌≡◌, ℕ, ◌<◌, arith, subst, List, All, 
 use Rattle.std.proofs.lemmas.Bool.{OnTrue_at}
 use Rattle.cp_invlist.specs.InversionList.{contains}
 use Rattle.cp_invlist.specs.Ranges.{in_code_points}
-use Rattle.cp_invlist.proofs.Partition.{cuts_ordered}
+use Rattle.cp_invlist.specs.CutLaws.{cuts_ordered}
 use Rattle.cp_invlist.proofs.AddRange.{Added, Added-on_ok, Added-list, Added-members, Added-behind}
 use Rattle.cp_invlist.proofs.builder.CodePointInversionListBuilder.add_range32.Goals as goal
 

@@ -1,8 +1,8 @@
 use Rattle.std.proofs.Common.{◌≡◌, ℕ, ◌-◌, ◌<◌, arith, subst, List, All, length, get_or, ltb-true, ◌∙◌}
 use Rattle.std.proofs.lemmas.Bool.{OnTrue_from}
 use Rattle.cp_invlist.specs.InversionList.{IsInversionList}
-use Rattle.cp_invlist.proofs.Lists.{IsInversionList-parts}
-use Rattle.cp_invlist.proofs.Partition.{All-above_last}
+use Rattle.cp_invlist.specs.ListLaws.{IsInversionList-parts}
+use Rattle.cp_invlist.specs.CutLaws.{All-above_last}
 use Rattle.cp_invlist.proofs.builder.CodePointInversionListBuilder.is_behind_all.Goals as goal
 
 pub returns : goal.returns

@@ -1,8 +1,8 @@
 use Rattle.std.proofs.Common.{sym, ◌∙◌, ap, nat_le, rules}
 use Rattle.std.proofs.lemmas.List.Sorted.{IsPartitionPoint-from_clause}
 use Rattle.cp_invlist.specs.InversionList.{contains, IsInversionList}
-use Rattle.cp_invlist.proofs.Lists.{IsInversionList-parts}
-use Rattle.cp_invlist.proofs.Partition.{partitioned_at_most, CutAfter-from, contains-cut}
+use Rattle.cp_invlist.specs.ListLaws.{IsInversionList-parts}
+use Rattle.cp_invlist.specs.CutLaws.{partitioned_at_most, CutAfter-from, contains-cut}
 use Rattle.cp_invlist.proofs.set.CodePointInversionList.contains32.Goals as goal
 
 pub returns : goal.returns

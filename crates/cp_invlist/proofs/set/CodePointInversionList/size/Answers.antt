@@ -5,7 +5,7 @@ use Rattle.cp_invlist.specs.InversionList.{contains}
 use Rattle.cp_invlist.specs.Ranges.{AreMaximalRanges, ranges_of}
 use Rattle.cp_invlist.specs.Size.{count_members, range_size}
 use Rattle.cp_invlist.specs.declared.ranges.CodePointRange.{CodePointRange}
-use Rattle.cp_invlist.proofs.Lists.{IsInversionList-parts}
+use Rattle.cp_invlist.specs.ListLaws.{IsInversionList-parts}
 use Rattle.cp_invlist.proofs.RangesLemmas.{AreMaximalRanges-ranges_of, AreRangesFrom-unique}
 use Rattle.cp_invlist.proofs.SizeLemmas.{sum_by-ranges_of, sum_by-ranges_of-bound, ranges_of-ordered}
 use Rattle.cp_invlist.proofs.set.CodePointInversionList.size.Goals as goal

@@ -1,6 +1,6 @@
 use Rattle.std.proofs.Common.{◌≡◌, ◌%◌, ◌==◌, not, length, ap, ◌∙◌, sym, rules}
 use Rattle.cp_invlist.specs.InversionList.{has_even_length}
-use Rattle.cp_invlist.proofs.Partition.{odd_length}
+use Rattle.cp_invlist.specs.CutLaws.{odd_length}
 use Rattle.cp_terms.proofs.changes.Changes.is_inside.Goals as goal
 
 pub returns : goal.returns

@@ -1,7 +1,7 @@
 use Rattle.std.proofs.Common.{◌≡◌, true, List, ℕ, Err, sym, ap, ◌∙◌, subst}
 use Rattle.cp_invlist.specs.InversionList.{has_even_length}
 use Rattle.cp_invlist.specs.Fault.{IsFaultAt}
-use Rattle.cp_invlist.proofs.Lists.{IsInversionList-from}
+use Rattle.cp_invlist.specs.ListLaws.{IsInversionList-from}
 use Rattle.cp_terms.proofs.changes.Changes.to_set.Goals as goal
 
 pub unreachable-requires : goal.unreachable-requires

@@ -2,8 +2,8 @@ use Rattle.std.proofs.Common.{◌≡◌, nat_le, rules, refl, sym, subst, List, 
 use Rattle.std.proofs.lemmas.List.Sorted.{IsPartitionPoint-from_clause}
 use Rattle.std.proofs.lemmas.Option.{slice_get_read}
 use Rattle.cp_invlist.specs.InversionList.{ascends_from}
-use Rattle.cp_invlist.proofs.Lists.{IsInversionList-parts}
-use Rattle.cp_invlist.proofs.Partition.{partitioned_at_most, CutAfter-from}
+use Rattle.cp_invlist.specs.ListLaws.{IsInversionList-parts}
+use Rattle.cp_invlist.specs.CutLaws.{partitioned_at_most, CutAfter-from}
 use Rattle.cp_terms.proofs.WindowLemmas.{window_at, window_behind}
 use Rattle.cp_terms.proofs.windows.Window.at.Goals as goal
 

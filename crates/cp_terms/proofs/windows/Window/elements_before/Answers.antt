@@ -2,8 +2,8 @@ use Rattle.std.proofs.Common.{◌≡◌, ◌-◌, nat_lt, List, ℕ, true, lengt
 use Rattle.std.proofs.lemmas.List.Sorted.{IsPartitionPoint-from_clause}
 use Rattle.std.proofs.lemmas.List.{take-append-drop}
 use Rattle.cp_invlist.specs.InversionList.{ascends_from}
-use Rattle.cp_invlist.proofs.Lists.{IsInversionList-parts, ascends_from-drop, ascends_from-take}
-use Rattle.cp_invlist.proofs.Partition.{partitioned_below, CutBefore-from}
+use Rattle.cp_invlist.specs.ListLaws.{IsInversionList-parts, ascends_from-drop, ascends_from-take}
+use Rattle.cp_invlist.specs.CutLaws.{partitioned_below, CutBefore-from}
 use Rattle.cp_terms.proofs.WindowLemmas.{rest_of}
 use Rattle.cp_terms.proofs.windows.Window.elements_before.Goals as goal
 

@@ -10,7 +10,7 @@ use Rattle.std.proofs.lemmas.Option.{get_or_from_slice_get}
 use Rattle.std.proofs.lemmas.List.Sorted.{IsPartitionedBy-leb, IsPartitionedBy-ltb}
 use Rattle.cp_invlist.specs.InversionList.{differ, contains, ascends_from, has_even_length, IsInversionList}
 use Rattle.cp_invlist.specs.Cuts.{CutAfter, CutBefore}
-use Rattle.cp_invlist.proofs.Lists.{ascends_from-parts, IsInversionList-parts, contains-append, contains-all_at_most, contains-all_above}
+use Rattle.cp_invlist.specs.ListLaws.{ascends_from-parts, IsInversionList-parts, contains-append, contains-all_at_most, contains-all_above}
 
 -- an ascending list is non-decreasing, element by element
 ascends_from-at : (n k d : ℕ) (xs : List ℕ) → ascends_from n xs ≡ true → k < length xs → n ≤ get_or xs k d
