@@ -1,9 +1,8 @@
 -- Where a string stands in a list of strings in order.
 use Rattle.std.proofs.Common.{◌≡◌, ◌<◌, ◌+◌, ◌↔◌, ℕ, Bool, true, false, Some, Result, Ok, Err, List, [], ◌∷◌, length, map, get_or, refl, sym, subst, ap, ◌∙◌, arith, nat_cmp, inl, inr}
-use Rattle.std.proofs.lemmas.Bool.{cases_lt, false_from_ne_true}
+use Rattle.std.proofs.lemmas.Bool.{cases_lt}
 use Rattle.std.proofs.lemmas.Cmp.{nat_list_cmp_total}
 use Rattle.std.proofs.lemmas.List.{get_or-map, length-map}
-use Rattle.std.proofs.lemmas.List.Folds.{list_any_at, list_any_none}
 use Rattle.std.proofs.lemmas.List.Sorted.{searchable_from_sorted}
 use Rattle.std.proofs.lemmas.Map.Text.{is_eq-slice_cmp}
 use Rattle.std.proofs.lemmas.Option.{slice_get_within, slice_get-get_or, get_or_from_slice_get}
@@ -13,9 +12,7 @@ use Rattle.std.specs.Cmp.Lexicographic.{slice_cmp}
 use Rattle.std.specs.List.{AllPairs}
 use Rattle.std.specs.List.Sorted.{IsBinarySearchResult, IsSearchInRange, IsNonDecreasingBy}
 use Rattle.std.specs.Ordering.{is_eq, is_lt, ordering_index, ordering_reverse}
-use Rattle.std.specs.Result.{result_ok, is_ok}
-use Rattle.std.specs.Str.{bytes_eq}
-use Rattle.cp_strset.specs.StringList.{holds}
+use Rattle.std.specs.Result.{result_ok}
 use Rattle.cp_strset_terms.specs.Places.{IsAt}
 
 -- by bytes
@@ -101,16 +98,3 @@ search_finds f (x ∷ xs) s (Err i) ascending bound found place = (
         | inr behind ↦ (let e = equal_itself (f (get_or (x ∷ xs) place x)) s false same (ap is_eq (cut.1 place x behind within)) in cc)
       ],
 )
-
-holds-at : (list : List (List ℕ)) (place : ℕ) (s : List ℕ) → IsAt list place s → holds list s ≡ true
-holds-at list place s at = list_any_at (λ t. bytes_eq t s) list place [] (slice_get_within list place s at) ((bytes_eq-Decides (get_or list place []) s).1 (get_or_from_slice_get list place s [] at))
-
-holds-nowhere : (list : List (List ℕ)) (s : List ℕ) → ((place : ℕ) → IsAt list place s → ⊥) → holds list s ≡ false
-holds-nowhere list s nowhere = list_any_none (λ t. bytes_eq t s) list (λ place d within. false_from_ne_true (bytes_eq (get_or list place d) s) (λ same.
-    nowhere place (slice_get-get_or list place d within ∙ ap Some ((bytes_eq-Decides (get_or list place d) s).0 same))))
-
--- and it answers whether the texts hold it
-pub search_answers : {X : Type 0} (f : X → List ℕ) (list : List X) (s : List ℕ) (r : Result ℕ ℕ) → AllPairs IsBelow (map f list) → IsSearchInRange r (length list) →
-    IsBinarySearchResult (λ y. slice_cmp nat_cmp (f y) s) list r → is_ok r ≡ holds (map f list) s
-search_answers f list s (Ok i) ascending bound found = sym (holds-at (map f list) i s ((search_finds f list s (Ok i) ascending bound found i).0 refl))
-search_answers f list s (Err i) ascending bound found = sym (holds-nowhere (map f list) s (λ place at. (let e = (search_finds f list s (Err i) ascending bound found place).1 at in cc)))

@@ -2,3 +2,4 @@ pub mod Leaves
 pub mod Places
 pub mod Steps
 pub mod Candidates
+pub mod Cut

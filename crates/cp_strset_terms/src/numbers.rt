@@ -1,13 +1,14 @@
 //! The strings of a leaf as a set of numbers: their places in a list of strings.
-ghost use Rattle.std.specs.Prelude.{◌≡◌, ◌<◌, ◌≤◌, ◌↔◌, ℕ, List, Some, IfOk, length, map};
+ghost use Rattle.std.specs.Prelude.{◌≡◌, ◌<◌, ◌≤◌, ◌↔◌, ℕ, List, All, Some, IfOk, length, map};
 ghost use Rattle.std.specs.String.{string_bytes};
 ghost use Rattle.cp_invlist.specs.InversionList.{contains};
 ghost use Rattle.cp_strset.specs.StringList.{AreCanonical, holds};
 ghost use Rattle.cp_terms.specs.Terms.{holds_at};
 ghost use Rattle.cp_strset_terms.specs.Leaves.{leaf_holds};
+ghost use Rattle.cp_strset_terms.specs.Cut.{IsNotBelow};
 ghost use Rattle.cp_strset_terms.specs.Places.{texts, IsAt};
 
-use crate::cut::strings_among;
+use crate::cut::{strings_among, strings_from};
 use crate::leaf::{Leaf, strings};
 use cp_invlist::{CodePointInversionList, CodePointInversionListBuilder, NoMemory};
 use std::alloc::Global;
@@ -20,14 +21,16 @@ fn place_of(list: &[&str], text: &str) -> Option<usize>
     list.binary_search(&text).ok()
 }
 
-/// Whether the text is one of the strings.
-fn has_text(strings: &[String], text: &str) -> bool
-    requires { AreCanonical (map string_bytes strings.now) }
+/// Whether the text is the first of the strings, none of which is below it.
+fn begins_with(strings: &[String], text: &str) -> bool
+    requires canonical { AreCanonical (map string_bytes strings.now) }
+    requires behind { All (IsNotBelow text.now) strings.now }
     ensures { result ≡ holds (map string_bytes strings.now) text.now }
 {
-    strings
-        .binary_search_by(|string| string.as_str().cmp(text))
-        .is_ok()
+    match strings.first() {
+        Some(first) => first.as_str() == text,
+        None => false,
+    }
 }
 
 /// The places in the list of those of the strings that it has, each looked up in the list.
@@ -51,28 +54,34 @@ fn places_by_strings(
     Ok(places.build())
 }
 
-/// The places of those texts of the list that are among the strings, each looked up in the strings.
+/// The places of those texts of the list that are among the strings. It goes along both.
 fn places_by_texts(
     alloc: Global,
     list: &[&str],
     strings: &[String],
 ) -> Result<CodePointInversionList, NoMemory>
-    requires canonical { AreCanonical (map string_bytes strings.now) }
+    requires list { AreCanonical (texts list.now) }
+    requires strings { AreCanonical (map string_bytes strings.now) }
     requires numbered { length list.now ≤ 0x11_0000 }
     ensures { IfOk result (λ places. (place : ℕ) (text : List ℕ) →
         IsAt (texts list.now) place text →
         contains places place ≡ holds (map string_bytes strings.now) text) }
 {
     let mut places = CodePointInversionListBuilder::new(alloc);
+    let mut rest = strings;
     for (index, text) in list.iter().enumerate() {
-        if has_text(strings, text) {
+        rest = strings_from(rest, text);
+        if begins_with(rest, text) {
             places.add32(index as u32)?;
         }
     }
     Ok(places.build())
 }
 
-/// The places in the list of those of the strings that it has. The shorter of both is gone along.
+/// How many times longer a list is that is not gone along, since looking each string up takes less.
+const LOOKED_UP: usize = 16;
+
+/// The places in the list of those of the strings that it has. Few strings are looked up in it.
 fn places_of(
     alloc: Global,
     list: &[&str],
@@ -86,10 +95,10 @@ fn places_of(
         contains places place ≡ holds (map string_bytes strings.now) text) }
 {
     let among = strings_among(list, strings);
-    if list.len() < among.len() {
-        places_by_texts(alloc, list, among)
-    } else {
+    if among.len() < list.len() / LOOKED_UP {
         places_by_strings(alloc, list, among)
+    } else {
+        places_by_texts(alloc, list, among)
     }
 }
 

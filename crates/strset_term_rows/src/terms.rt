@@ -1,4 +1,4 @@
-//! Terms over five leaves, each beside the set that it stands for.
+//! Terms over six leaves, each beside the set that it stands for.
 use cp_invlist::CodePointInversionList;
 use cp_strset::CodePointInversionListAndStringList;
 use cp_strset_terms::{Leaf, Step, Way, evaluate};
@@ -8,32 +8,46 @@ use std::process::Abort;
 /// The letters `a` to `c`.
 const LETTERS: &[u32] = &[0x61, 0x64];
 
+/// Forty strings, and all of them but `ab`.
+const MANY: &[&str] = &[
+    "aa", "ab", "ac", "ad", "ae", "af", "ag", "ah", "ai", "aj", "ak", "al", "am", "an", "ao", "ap",
+    "aq", "ar", "as", "at", "au", "av", "aw", "ax", "ay", "az", "ba", "bb", "bc", "bd", "be", "bf",
+    "bg", "bh", "bi", "bj", "bk", "bl", "bm", "bn",
+];
+
+const MANY_BUT_ONE: &[&str] = &[
+    "aa", "ac", "ad", "ae", "af", "ag", "ah", "ai", "aj", "ak", "al", "am", "an", "ao", "ap", "aq",
+    "ar", "as", "at", "au", "av", "aw", "ax", "ay", "az", "ba", "bb", "bc", "bd", "be", "bf", "bg",
+    "bh", "bi", "bj", "bk", "bl", "bm", "bn",
+];
+
 /// The inversion list of each leaf with strings, and its strings.
 const LEAVES: &[(&[u32], &[&str])] = &[
     (&[0x62, 0x65], &["", "ab", "bc"]),
     (&[0x10_FFFF, 0x11_0000], &["ab", "zz"]),
     (&[], &["", "zz"]),
     (&[], &["ab", "abc", "b\u{301}"]),
+    (&[], MANY),
 ];
 
 /// The steps of a term, and the inversion list and the strings of its set. Leaf 0 is the letters, and those with strings follow.
 const ROWS: &[(&[Step], &[u32], &[&str])] = &[
     // No steps, and leaves that aren't there.
     (&[], &[], &[]),
-    (&[Step::Push(5)], &[], &[]),
-    (&[Step::Push(5), Step::Complement], &[0, 0x11_0000], &[]),
+    (&[Step::Push(9)], &[], &[]),
+    (&[Step::Push(9), Step::Complement], &[0, 0x11_0000], &[]),
     (
-        &[Step::Push(5), Step::Push(1), Step::Both(Way::Join)],
+        &[Step::Push(9), Step::Push(1), Step::Both(Way::Join)],
         &[0x62, 0x65],
         &["", "ab", "bc"],
     ),
     (
-        &[Step::Push(1), Step::Push(5), Step::Both(Way::Retain)],
+        &[Step::Push(1), Step::Push(9), Step::Both(Way::Retain)],
         &[],
         &[],
     ),
     (
-        &[Step::Push(1), Step::Push(5), Step::Both(Way::Remove)],
+        &[Step::Push(1), Step::Push(9), Step::Both(Way::Remove)],
         &[0x62, 0x65],
         &["", "ab", "bc"],
     ),
@@ -298,6 +312,22 @@ const ROWS: &[(&[Step], &[u32], &[&str])] = &[
         ],
         &[0x62, 0x65, 0x10_FFFF, 0x11_0000],
         &["ab", "bc"],
+    ),
+    // Many strings beside few, and beside as many.
+    (
+        &[Step::Push(5), Step::Push(2), Step::Both(Way::Remove)],
+        &[],
+        MANY_BUT_ONE,
+    ),
+    (
+        &[Step::Push(5), Step::Push(1), Step::Both(Way::Retain)],
+        &[],
+        &["ab", "bc"],
+    ),
+    (
+        &[Step::Push(5), Step::Push(5), Step::Both(Way::Retain)],
+        &[],
+        MANY,
     ),
 ];
 

@@ -16,10 +16,10 @@ places_kept r list among strings same = IfOk-weaker r
     (λ places. (place : ℕ) (text : List ℕ) → IsAt list place text → contains places place ≡ holds strings text)
     (λ places are place text here. are place text here ∙ same place text here)
 
-pub returns-then-list-among : goal.returns-then-list-among
-returns-then-list-among c = places_kept c.places_by_texts.result (map (λ text. text.now) c.args.list.now)
-    (map string_bytes c.strings_among-among.result.now) (map string_bytes c.args.strings.now) c.strings_among-among.ensures.same c.places_by_texts.ensures
-
-pub returns-else-list-among : goal.returns-else-list-among
-returns-else-list-among c = places_kept c.places_by_strings.result (map (λ text. text.now) c.args.list.now)
+pub returns-then-among-list : goal.returns-then-among-list
+returns-then-among-list c = places_kept c.places_by_strings.result (map (λ text. text.now) c.args.list.now)
     (map string_bytes c.strings_among-among.result.now) (map string_bytes c.args.strings.now) c.strings_among-among.ensures.same c.places_by_strings.ensures
+
+pub returns-else-among-list : goal.returns-else-among-list
+returns-else-among-list c = places_kept c.places_by_texts.result (map (λ text. text.now) c.args.list.now)
+    (map string_bytes c.strings_among-among.result.now) (map string_bytes c.args.strings.now) c.strings_among-among.ensures.same c.places_by_texts.ensures
