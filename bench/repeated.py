@@ -2,8 +2,10 @@
 """Times `uset eval` on sets that are named again and again: `repeated.py PROGRAM [TABLES]`.
 
 A variable of 100,000 ranges, or of 10,000 strings, is joined, taken away or kept ever more often in one bracket, and
-named in ever more brackets one behind another, in lines that answer with little of it, and in brackets inside one another, which stand open at
-once. With tables, properties are named so too. The time of binding the variable, or of reading the tables, and of printing the set once is taken off.
+named in ever more brackets one behind another, in lines that answer with little of it, and in brackets inside one
+another, which stand open at once; and lines keep what it has in common with another of as many, which is nothing. With
+tables, properties are named so too. The time of binding the variables, or of reading the tables, and of printing the
+set once is taken off.
 """
 
 import sys
@@ -26,9 +28,19 @@ LINES = (1_000, 100_000)
 # In how many brackets that stand open at once: of properties, and of variables, which are larger.
 OPEN_PROPERTIES, OPEN_VARIABLES = 50_000, 100
 
-RANGES = "[" + "".join(element(2 * index) for index in range(100_000)) + "]"
+# In how many lines that name two large sets.
+LINES_OF_TWO = (1_000,)
 
-STRINGS = "[" + "".join(string(index) for index in range(10_000)) + "]"
+
+def ranges(first):
+    """A bracket of 100,000 elements that touch no other: every second one from the first on."""
+    return "[" + "".join(element(first + 2 * index) for index in range(100_000)) + "]"
+
+
+def strings(first):
+    """A bracket of 10,000 strings: every second one from the first on."""
+    return "[" + "".join(string(first + 2 * index) for index in range(10_000)) + "]"
+
 
 # What is named again, behind a first time.
 AGAIN = [
@@ -88,6 +100,12 @@ def named_in_lines(program, before, sets):
     named_in_many(program, before, sets, "lines", LINES, once, many)
 
 
+def named_with_another(program, before, sets):
+    """Lines that each keep what two sets have in common."""
+    once, many = lambda names: "pat [a]\n", lambda names, count: f"pat [{names}]\n" * count
+    named_in_many(program, before, sets, "lines", LINES_OF_TWO, once, many)
+
+
 def named_inside_one_another(program, before, sets, count):
     """Prints the time and the memory of brackets inside one another that each have the set, or the set without an element. The
     memory is what as many brackets more take: a process begins with what the one that starts it has resident."""
@@ -103,11 +121,13 @@ def named_inside_one_another(program, before, sets, count):
 
 def main():
     program = sys.argv[1]
-    bound = TABLES + f"let r set {RANGES}\nlet s set {STRINGS}\n"
+    bound = TABLES + f"let r set {ranges(0)}\nlet s set {strings(0)}\n"
+    two = bound + f"let q set {ranges(1)}\nlet t set {strings(1)}\n"
     variables = [("100,000 ranges", "$r"), ("10,000 strings", "$s")]
     named_again(program, bound, variables)
     named_in_brackets(program, bound, variables)
     named_in_lines(program, bound, variables)
+    named_with_another(program, two, [("100,000 ranges, twice", "$r&$q"), ("10,000 strings, twice", "$s&$t")])
     named_inside_one_another(program, bound, variables, OPEN_VARIABLES)
     if len(sys.argv) > 2:
         tables = Path(sys.argv[2]).read_text(encoding="utf-8")
