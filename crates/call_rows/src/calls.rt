@@ -4,8 +4,9 @@ use cp_strset::CodePointInversionListAndStringList;
 use prop_data::PropertyDatabase;
 use std::alloc::Global;
 use uset_parse::{
-    ParseError, ParseErrorKind, Resolver, VariableMap, parse, parse_unstable,
-    parse_unstable_with_variables, parse_with_resolver, parse_with_variables,
+    ParseError, ParseErrorKind, Resolver, VariableMap, WholeSource, parse, parse_unstable,
+    parse_unstable_with_variables, parse_whole_with_resolver, parse_with_resolver,
+    parse_with_variables,
 };
 use uset_reader::{Syntax, evaluate_set, read_set};
 
@@ -169,6 +170,50 @@ const IN_TURN: InTurn = &[
 #[test]
 fn one_resolver_reads_patterns_in_turn(rt: HostRuntime) {
     assert_rows_of_text(&rt, rt.alloc(), TABLES, &[IN_TURN]);
+}
+
+/// What a source is that should be a pattern as a whole.
+#[derive(Clone, Copy)]
+enum Expected {
+    /// A pattern, of the set with this inversion list.
+    Pattern(&'static [u32]),
+    /// A pattern of so many bytes, and text behind it.
+    TextBehind(usize),
+    /// It has a fault of this kind, without a place.
+    Fault(ParseErrorKind),
+}
+
+/// A source that should be a pattern as a whole.
+type Whole = (&'static str, Expected);
+
+impl Row<PropertyDatabase> for Whole {
+    fn holds(&self, alloc: Global, database: &PropertyDatabase) -> bool {
+        let (source, expected) = *self;
+        let none = VariableMap::new(alloc);
+        let mut resolver = Resolver::new(alloc, database);
+        let read = parse_whole_with_resolver(alloc, source, &none, &mut resolver);
+        match (read, expected) {
+            (Ok(WholeSource::Pattern(set)), Expected::Pattern(list)) => is_set(&set, list, &[]),
+            (Ok(WholeSource::TextBehind(bytes)), Expected::TextBehind(length)) => bytes == length,
+            (Err(error), Expected::Fault(kind)) => is_fault(Err(error), kind, None),
+            _ => false,
+        }
+    }
+}
+
+const WHOLE: &[Whole] = &[
+    ("[a-c]", Expected::Pattern(&[0x61, 0x64])),
+    ("[[:Nd:]-[0-8]]", Expected::Pattern(&[0x39, 0x3A])),
+    ("[a-c]x", Expected::TextBehind(5)),
+    ("[:Nd:] ", Expected::TextBehind(6)),
+    ("[ä][", Expected::TextBehind(4)),
+    ("[a-c", Expected::Fault(ParseErrorKind::Eof)),
+    ("", Expected::Fault(ParseErrorKind::Eof)),
+];
+
+#[test]
+fn a_source_is_read_as_a_whole(rt: HostRuntime) {
+    assert_rows_of_text(&rt, rt.alloc(), TABLES, WHOLE);
 }
 
 const READ_BELOW: &[Read] = &[(Call::Below, "[$a-c{}$v-]]", 11)];

@@ -1,14 +1,11 @@
 -- What the calls answer.
 use Rattle.std.proofs.Common.{◌≡◌, ℕ, ◌+◌, List, length, Option, Some, None, sym, ap, ◌∙◌, subst}
 use Rattle.std.specs.Str.{chars}
-use Rattle.cp_strset.specs.StringSet.{StringSet}
 use Rattle.uset_grammar.specs.Outcome.{Kind, internal}
-use Rattle.uset_grammar.specs.Tree.{Member}
 use Rattle.uset_grammar.specs.Language.{Language}
 use Rattle.uset_grammar.specs.Place.{size}
 use Rattle.uset_grammar.specs.Answers.{ReadsUnder, under, FaultUnder, absent, under_fault, IsFault}
 use Rattle.uset_steps.specs.declared.closed.Closed.{Closed as ClosedSet}
-use Rattle.uset_gather.specs.Gathered.{in_set}
 use Rattle.uset_steps.specs.Terms.{closed_in}
 use Rattle.uset_read.specs.declared.cursor.Cursor.{Cursor}
 use Rattle.uset_read.specs.Cursors.{source_of, left_of}
@@ -17,16 +14,16 @@ use Rattle.uset_fault.specs.declared.error.ParseErrorKind.TheVariants.{Internal}
 use Rattle.uset_fault.specs.Errors.{kind_of, offset_in, kind_told, ToldAs}
 use Rattle.uset_reader.specs.Named.{sets_of}
 use Rattle.uset_reader.specs.Readings.{IsReading, IsRefusal}
-use Rattle.uset_parse.specs.Reading.{IsRead, IsRefused}
+use Rattle.uset_parse.specs.Reading.{Denotes, IsRefused}
 
 -- what was gathered up to a cursor is what is read under the syntax that is there
-pub reading : (l : Language) (syntax : Option Language) (source : List ℕ) (gathered : ClosedSet) (end : Cursor) (set : StringSet) (n : ℕ) → syntax ≡ Some l → IsReading l source gathered end →
-    ((m : Member) → in_set set m ≡ closed_in (sets_of l) gathered m) → n + size (chars (left_of end)) ≡ length (source_of end) → IsRead syntax source set n
-reading l syntax source gathered end set n there h made place = record {
+pub reading : (l : Language) (syntax : Option Language) (source : List ℕ) (gathered : ClosedSet) (end : Cursor) (n : ℕ) → syntax ≡ Some l → IsReading l source gathered end →
+    n + size (chars (left_of end)) ≡ length (source_of end) → Denotes syntax source (closed_in (sets_of l) gathered) n
+reading l syntax source gathered end n there h place = record {
   tree = h.tree;
   rest = chars (left_of end);
   reads = subst (λ s. ReadsUnder (chars source) h.tree (chars (left_of end)) s) (sym there) (under h.read);
-  members = λ m. made m ∙ h.members m;
+  members = h.members;
   place = place ∙ ap length h.same;
 }
 

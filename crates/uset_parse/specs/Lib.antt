@@ -1,4 +1,5 @@
 pub mod Reading
+pub mod Front
 pub mod ReadBack
 pub mod Brackets
 pub mod Denotation

@@ -6,7 +6,8 @@ pub mod laws;
 mod stored;
 
 pub use calls::{
-    parse, parse_unstable, parse_unstable_with_variables, parse_with_resolver, parse_with_variables,
+    WholeSource, parse, parse_unstable, parse_unstable_with_variables, parse_whole_with_resolver,
+    parse_with_resolver, parse_with_variables,
 };
 pub use stored::read_back;
 pub use uset_fault::{ParseError, ParseErrorKind};

@@ -1,5 +1,6 @@
 -- The reader on a whole source.
-use Rattle.std.proofs.Common.{◌≡◌, ℕ, false, List, [], ◌∷◌, Option, Some, None, Ok, Err, refl, sym, ap, ◌∙◌, subst, option_map, encode_utf8_all}
+use Rattle.std.proofs.Common.{◌≡◌, ℕ, false, List, [], ◌∷◌, Option, Some, None, Ok, Err, refl, sym, ap, ◌∙◌, subst, option_map, encode_utf8_all, Box}
+use Rattle.std.specs.Global.{Global}
 use Rattle.std.specs.Borrow.{Bor}
 use Rattle.std.specs.Str.{chars}
 use Rattle.uset_grammar.specs.Text.{Text, IsBehind}
@@ -94,8 +95,8 @@ module _ (units_read : UnitsAreRead) (means : TurnsMean) (last : ReadAtLast) (on
           here = record { before = on.0; is = on.1 };
         }
 
-    pub is_read : (new_outer : List CodeBracket) (new : CodeBracket) (made : ClosedSet) (rest : Bor (List ℕ)) (end : Cursor) → Turns l source left outer b new_outer new (Ok (Done made rest)) → source_of end ≡ source → left_of end ≡ rest.now →
-        IsReading l source made end
+    pub is_read : (new_outer : List CodeBracket) (new : CodeBracket) (made : Box ClosedSet Global) (rest : Bor (List ℕ)) (end : Cursor) → Turns l source left outer b new_outer new (Ok (Done made rest)) → source_of end ≡ source → left_of end ≡ rest.now →
+        IsReading l source made.value end
     is_read new_outer new made rest end h same_source same_left =
         let k = h units at.here at.innermost at.others at.stands at.around in record {
           tree = k.0;

@@ -1,7 +1,8 @@
 -- Parts of a turn, and their faults.
-use Rattle.std.proofs.Common.{◌≡◌, ◌-◌, take, append-nil, ℕ, Bool, true, false, cond, List, [], ◌∷◌, ◌++◌, reverse, Option, Some, None, Result, Ok, Err, option_map, encode_utf8_all, refl, sym, ap, ◌∙◌, subst, append_assoc}
+use Rattle.std.proofs.Common.{◌≡◌, ◌-◌, take, append-nil, ℕ, Bool, true, false, cond, List, [], ◌∷◌, ◌++◌, reverse, Option, Some, None, Box, Result, Ok, Err, option_map, encode_utf8_all, refl, sym, ap, ◌∙◌, subst, append_assoc}
 use Rattle.std.proofs.lemmas.List.{reverse-append}
 use Rattle.std.specs.Borrow.{Bor}
+use Rattle.std.specs.Global.{Global}
 use Rattle.std.specs.Str.{chars}
 use Rattle.uset_grammar.specs.Text.{Text, skip, IsBehind}
 use Rattle.uset_grammar.specs.Outcome.{Kind, unexpected, unknown_variable, unexpected_variable, eof, Outcome, got, faulty, ended}
@@ -31,8 +32,7 @@ use Rattle.uset_reader.specs.declared.item.Item.{Item as CodeItem}
 use Rattle.uset_reader.specs.declared.code_point.CodePoint.{CodePoint}
 use Rattle.uset_reader.specs.declared.bracket.Taken.{Taken}
 use Rattle.uset_reader.specs.declared.bracket.Taken.TheVariants.{Fits, Reversed, Unfit}
-use Rattle.uset_reader.specs.Items.{number_of, item_seen, IsTreeOf, awaits_seen}
-use Rattle.uset_reader.specs.Fronts.{no_tree}
+use Rattle.uset_reader.specs.Items.{number_of, awaits_seen}
 use Rattle.uset_reader.specs.Brackets.{Stands, begun, IsBegun, IsItem, Takes, Closes}
 use Rattle.uset_reader.specs.declared.bracket.Opening.{Opening as CodeOpening}
 use Rattle.uset_steps.specs.declared.closed.Closed.{Closed as ClosedSet}
@@ -247,7 +247,7 @@ none_around l [] h = refl
 none_around l (o ∷ os) h = absurd h
 
 -- the outermost bracket closes
-pub closes_outermost : (source : List ℕ) (outer new_outer : List CodeBracket) (b new : CodeBracket) (text : List ℕ) (rest : Bor (List ℕ)) (made : ClosedSet) → Closes b (Some made) → outer ≡ [] →
+pub closes_outermost : (source : List ℕ) (outer new_outer : List CodeBracket) (b new : CodeBracket) (text : List ℕ) (rest : Bor (List ℕ)) (made : Box ClosedSet Global) → Closes b (Some made.value) → outer ≡ [] →
     ClosesAs source outer b text rest.now new_outer new (Ok (Done made rest))
 closes_outermost source outer new_outer b new text rest made h none l units here o os stands around =
     let shut = h l o stands in
@@ -369,10 +369,10 @@ module _ (s : Syntax) (cursor : Cursor) (outer : List CodeBracket) (b : CodeBrac
       stops_so spoken _ (rejected (unexpected 0x5E) (Some (at spoken units all_of_it (chars text)))) e outer b refl
       (rejects_at places spoken units cursor text e (unexpected 0x5E) here is (λ t. refl) offset))
 
-  pub turned_single : RestsAreBehind spoken → (item : CodeItem) (rest : List ℕ) (new : CodeBracket) (result : Result Progress ParseError) → ((m : Language) (g : Gathering) → IsTreeOf m g item no_tree) →
-      front spoken (chars text) ≡ single (item_seen no_tree item) (chars rest) → TakesAs (source_of cursor) b item Written text rest new result →
+  pub turned_single : RestsAreBehind spoken → (item : CodeItem) (seen : Item) (rest : List ℕ) (new : CodeBracket) (result : Result Progress ParseError) → ((m : Language) (g : Gathering) → IsItem m g item seen) →
+      front spoken (chars text) ≡ single seen (chars rest) → TakesAs (source_of cursor) b item Written text rest new result →
       Turns spoken (source_of cursor) (left_of cursor) outer b outer new result
-  turned_single behind item rest new result no_set f h =
-      turned (single (item_seen no_tree item) (chars rest)) f outer new result (λ units here o os stands around.
-      h spoken units of_one_character (item_seen no_tree item) outer (λ z. (let g = z in cc)) (record { tree = no_tree; same = no_set spoken b.gathered; is = refl }) here
-      (behind.singles (chars text) (chars rest) (item_seen no_tree item) f) o os stands around)
+  turned_single behind item seen rest new result is f h =
+      turned (single seen (chars rest)) f outer new result (λ units here o os stands around.
+      h spoken units of_one_character seen outer (λ z. (let g = z in cc)) (is spoken b.gathered) here
+      (behind.singles (chars text) (chars rest) seen f) o os stands around)

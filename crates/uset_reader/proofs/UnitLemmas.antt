@@ -17,7 +17,7 @@ use Rattle.uset_grammar.specs.EscapeSlips.{in_bracket, fits_in, so_many, allowed
 use Rattle.uset_grammar.specs.BracedString.{StringOutcome}
 use Rattle.uset_grammar.specs.Property.{Query, PropertyBegins, PropertyOutcome}
 use Rattle.uset_grammar.specs.Unit.{Meaning, an_escape, a_string, a_property, begins_property, UnitBegins, brace_begins, posix_begins, backslash_begins, UnitOutcome}
-use Rattle.uset_grammar.specs.Tree.{Member, given}
+use Rattle.uset_grammar.specs.Tree.{Tree, Member, given}
 use Rattle.uset_grammar.specs.Item.{chars as item_chars, text as item_text, nested, text_item}
 use Rattle.uset_grammar.specs.Language.{set as value_set, Language, resolves, lacks, property_tree}
 use Rattle.uset_grammar.specs.Laws.{KindsTell, UnitsOfKinds}
@@ -42,8 +42,7 @@ use Rattle.uset_reader.specs.declared.item.Item.{Item as CodeItem}
 use Rattle.uset_reader.specs.declared.item.Item.TheVariants.{Single, Several, Text as Spelled_text, Set}
 use Rattle.uset_reader.specs.declared.item.Codes.{Codes}
 use Rattle.uset_reader.specs.declared.code_point.CodePoint.{CodePoint}
-use Rattle.uset_reader.specs.Items.{number_of}
-use Rattle.uset_reader.specs.Fronts.{no_tree}
+use Rattle.uset_reader.specs.Items.{number_of, IsTreeOf, item_seen}
 use Rattle.uset_reader.specs.Brackets.{IsItem}
 use Rattle.uset_reader.specs.Syntaxes.{language_seen}
 use Rattle.uset_reader.specs.Units.{begins_with, AreCodePoints, chars_of, IsString, IsEscape, IsProperty, OperandIn, OperandStops, UnitIs, UnitStops}
@@ -71,6 +70,14 @@ all_within several (n ∷ ns) h (suc i) d below = all_within several ns (and_par
 allowed_within : (several : Bool) (spelled : CodeSpelled) → allowed (in_bracket several) (spelled_seen spelled) ≡ true → AreCodePoints spelled
 allowed_within several (Itself c) h = tt
 allowed_within several (Numbers first more) h = all_within several (first ∷ more.items) (and_parts (list_all (fits_in (in_bracket several)) (first ∷ more.items)) (so_many (in_bracket several) (first ∷ more.items)) h).0
+
+-- what no item has that is no set
+pub no_tree : Tree
+no_tree = given (λ m. false)
+
+-- an item that is no set
+pub plain_item : (l : Language) (g : Gathering) (item : CodeItem) → IsTreeOf l g item no_tree → IsItem l g item (item_seen no_tree item)
+plain_item l g item h = record { tree = no_tree; same = h; is = refl }
 
 -- ITEMS
 pub single_item : (l : Language) (g : Gathering) (c : CodePoint) (n : ℕ) → number_of c ≡ n → IsItem l g (Single c) (item_chars (n ∷ []))

@@ -1,5 +1,6 @@
 pub mod Named
 pub mod Items
+pub mod Singles
 pub mod Brackets
 pub mod Resolution
 pub mod Syntaxes

@@ -48,7 +48,7 @@ TurnedTo l t outer b (Ok (GoesOn rest)) =
     Around l outer os
 TurnedTo l t outer b (Ok (Done set rest)) =
     (tree : Tree) × (t ≡ stops (accepted tree (chars rest.now))) ×
-    ((m : Member) → closed_in (sets_of l) set m ≡ has tree m)
+    ((m : Member) → closed_in (sets_of l) set.value m ≡ has tree m)
 TurnedTo l t outer b (Err error) =
     Tells error (λ kind offset. (place : Option Text) × (t ≡ stops (rejected kind place)) × (offset ≡ offset_of kind place))
 

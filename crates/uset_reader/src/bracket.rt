@@ -29,6 +29,14 @@ pub(crate) struct Opening {
     pub(crate) leading: bool,
 }
 
+impl Opening {
+    /// Neither.
+    pub(crate) const NONE: Opening = Opening {
+        negated: false,
+        leading: false,
+    };
+}
+
 /// A bracket whose closing `]` is still to come.
 pub(crate) struct OpenBracket<'a> {
     pub(crate) gathered: Gathering<'a>,

@@ -1,28 +1,29 @@
 //! What stands in front of a text.
 ghost use Rattle.std.specs.Prelude.{◌≡◌, ◌≤◌, ◌<◌, length, IfSome};
+ghost use Rattle.std.specs.Bool.{OnTrue};
 ghost use Rattle.std.specs.Str.{chars};
 ghost use Rattle.uset_grammar.specs.Text.{optional_code};
 ghost use Rattle.uset_grammar.specs.Front.{front, first};
 ghost use Rattle.uset_grammar.specs.Reached.{is_short};
 ghost use Rattle.uset_reader.specs.Syntaxes.{language_seen};
-ghost use Rattle.uset_reader.specs.Fronts.{front_seen, first_seen, IsBehindFront, IsBehindFirst, IsOpening};
+ghost use Rattle.uset_reader.specs.Fronts.{front_seen, first_seen, IsBehindFront, IsBehindFirst, IsOpening, IsPlain};
 
 use crate::bracket::Opening;
 use crate::code_point::CodePoint;
-use crate::item::Item;
+use crate::item::Single;
 use crate::syntax::Syntax;
 use uset_read::{read_name, split_first};
 
 /// What stands in front of a text in a bracket.
-#[derive(Drop)]
-pub(crate) enum Front<'v, 'a> {
+#[derive(Clone, Copy)]
+pub(crate) enum Front<'a> {
     Nothing,
     /// A `]`, and the text behind it.
     Closing(&'a str),
     /// A bracket with what it begins with, and the text behind that.
     Opening(Opening, &'a str),
     /// An item of one character, and the text behind it.
-    Single(Item<'v>, &'a str),
+    Single(Single, &'a str),
     /// A name behind a `$`, and the text behind the name.
     Name(&'a str, &'a str),
     /// An escape, a string or a property.
@@ -48,10 +49,16 @@ pub(crate) enum First<'a> {
     Property,
 }
 
-/// Whether nothing is left, or one last character other than `]`.
+/// The bytes of a character are no more.
+const MOST_BYTES: usize = 4;
+
+/// Whether nothing is left, or one last character other than `]`. The length alone tells where more than a character is left.
 pub(crate) fn is_short(text: &str) -> bool
     ensures { result ≡ is_short (chars text.now) }
 {
+    if text.len() > MOST_BYTES {
+        return false;
+    }
     match split_first(text) {
         Some((first, rest)) => first != ']' && rest.is_empty(),
         None => true,
@@ -60,7 +67,7 @@ pub(crate) fn is_short(text: &str) -> bool
 
 /// What stands in front of the text, white space aside, that is the rest of a bracket.
 #[tactic(auto, unfolding(uset_grammar::specs::Front::sign))]
-pub(crate) fn look_ahead<'v, 'a>(syntax: &Syntax<'v>, text: &'a str) -> Front<'v, 'a>
+pub(crate) fn look_ahead<'a>(syntax: &Syntax<'_>, text: &'a str) -> Front<'a>
     ensures front { front_seen result ≡ front (language_seen syntax.now) (chars text.now) }
     ensures behind { IsBehindFront result text.now }
 {
@@ -73,15 +80,15 @@ pub(crate) fn look_ahead<'v, 'a>(syntax: &Syntax<'v>, text: &'a str) -> Front<'v
             None => Front::Unit,
         },
         ']' => Front::Closing(rest),
-        '-' => Front::Single(Item::Minus, rest),
-        '&' => Front::Single(Item::Ampersand, rest),
+        '-' => Front::Single(Single::Minus, rest),
+        '&' => Front::Single(Single::Ampersand, rest),
         '$' => match read_name(syntax.start, syntax.continuing, rest) {
             Some((name, behind)) => Front::Name(name, behind),
-            None => Front::Single(Item::Dollar, rest),
+            None => Front::Single(Single::Dollar, rest),
         },
         '\\' | '{' => Front::Unit,
         '^' => Front::Caret,
-        _ => Front::Single(Item::Single(CodePoint::from_char(first)), rest),
+        _ => Front::Single(Single::Other(CodePoint::from_char(first)), rest),
     }
 }
 
@@ -109,11 +116,28 @@ pub(crate) fn look_at_first<'a>(syntax: &Syntax<'_>, source: &'a str) -> First<'
     }
 }
 
+/// Whether the text begins with a visible ASCII character other than those that mean something behind a `[` alone. Its byte
+/// tells, and nothing is decoded.
+fn is_plain(text: &str) -> bool
+    ensures { OnTrue result (IsPlain (chars text.now)) }
+{
+    let Some(first) = text.as_bytes().first() else {
+        return false;
+    };
+    if *first == b':' || *first == b'^' || *first == b'-' {
+        return false;
+    }
+    first.is_ascii_graphic()
+}
+
 /// Reads what stands behind the `[` of a bracket and in front of its items. `None` where a `:` follows at once.
 fn read_opening<'a>(syntax: &Syntax<'_>, text: &'a str) -> Option<(Opening, &'a str)>
     ensures parts { IsOpening (language_seen syntax.now) (chars text.now) result }
     ensures within { IfSome result (λ p. length p.1.now ≤ length text.now) }
 {
+    if is_plain(text) {
+        return Some((Opening::NONE, text));
+    }
     if let Some((':', _)) = split_first(text) {
         return None;
     }

@@ -23,6 +23,40 @@ pub(crate) enum Operand<'a> {
     Again(Place),
 }
 
+/// An item of one character, which takes as little memory as that.
+#[derive(Clone, Copy)]
+pub(crate) enum Single {
+    /// `-`
+    Minus,
+    /// `&`
+    Ampersand,
+    /// `$` that begins no name.
+    Dollar,
+    /// Any other character.
+    Other(CodePoint),
+}
+
+impl Single {
+    ghost use Rattle.uset_grammar.specs.Language.{Language};
+    ghost use Rattle.uset_steps.specs.declared.gathering.Gathering.{Gathering};
+    ghost use Rattle.uset_reader.specs.Items.{IsProper};
+    ghost use Rattle.uset_reader.specs.Brackets.{IsItem};
+    ghost use Rattle.uset_reader.specs.Singles.{single_seen};
+
+    /// The item that it is.
+    pub(crate) fn into_item<'a>(self) -> Item<'a>
+        ensures item { (l : Language) (g : Gathering) → IsItem l g result (single_seen self) }
+        ensures proper { IsProper result }
+    {
+        match self {
+            Single::Minus => Item::Minus,
+            Single::Ampersand => Item::Ampersand,
+            Single::Dollar => Item::Dollar,
+            Single::Other(c) => Item::Single(c),
+        }
+    }
+}
+
 /// An item of a bracket.
 #[derive(Drop)]
 pub(crate) enum Item<'a> {

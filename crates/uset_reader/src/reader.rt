@@ -48,7 +48,7 @@ fn read_bracket<'v, 'd: 'v, 'a>(
         };
         match progress {
             Progress::GoesOn(rest) => place = place.at(rest),
-            Progress::Done(set, rest) => return Ok((set, place.at(rest))),
+            Progress::Done(set, rest) => return Ok((Box::into_inner(set), place.at(rest))),
         }
     }
 }

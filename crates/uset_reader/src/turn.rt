@@ -35,8 +35,8 @@ use uset_variables::VariableValue;
 pub(crate) enum Progress<'a> {
     /// A bracket is still open, in front of this rest.
     GoesOn(&'a str),
-    /// The outermost bracket was closed, with this set and in front of this rest.
-    Done(Closed, &'a str),
+    /// The outermost bracket was closed, with this set and in front of this rest. The set is in a box, since most turns have none.
+    Done(Box<Closed>, &'a str),
 }
 
 /// How an item is written.
@@ -217,7 +217,7 @@ fn close<'v, 'a>(
         return Err(fault_at(cursor, ParseErrorKind::UnexpectedChar(']'), text));
     };
     let Some(around) = outer.pop() else {
-        return Ok(Progress::Done(set, rest));
+        return Ok(Progress::Done(Box::new(alloc, set)?, rest));
     };
     let Some(_) = split_first(rest) else {
         return Err(ParseErrorKind::Eof.into());
@@ -255,7 +255,10 @@ pub(crate) fn turn<'v, 'd: 'v, 'a>(
         Front::Caret => Err(fault_at(cursor, ParseErrorKind::UnexpectedChar('^'), text)),
         Front::Closing(rest) => close(alloc, cursor, outer, bracket, text, rest),
         Front::Opening(opening, inner) => open(alloc, cursor, outer, bracket, opening, text, inner),
-        Front::Single(item, rest) => take(alloc, cursor, bracket, Sort::Written, item, text, rest),
+        Front::Single(single, rest) => {
+            let item = single.into_item();
+            take(alloc, cursor, bracket, Sort::Written, item, text, rest)
+        }
         Front::Name(name, rest) => take_variable(alloc, syntax, cursor, bracket, name, text, rest),
         Front::Unit => take_unit(alloc, syntax, resolver, cursor, bracket, text),
     }

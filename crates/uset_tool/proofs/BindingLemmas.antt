@@ -1,5 +1,5 @@
 -- What names are bound to, and the answers to lines that bind them.
-use Rattle.std.proofs.Common.{◌≡◌, ℕ, ◌+◌, ◌<◌, ◌≤◌, Bool, true, false, List, [], ◌∷◌, length, encode_utf8_all, cond, Option, Some, None, is_some, option_map, Result, Ok, Err, IfOk, Bor, refl, sym, ap, ◌∙◌, subst, arith}
+use Rattle.std.proofs.Common.{◌≡◌, ℕ, ◌+◌, ◌<◌, Bool, true, false, List, [], ◌∷◌, length, encode_utf8_all, cond, Option, Some, None, is_some, option_map, Result, Ok, Err, IfOk, Bor, refl, sym, ap, ◌∙◌, subst, arith}
 use mathlib.Core.Path.{fun_ext}
 use Rattle.std.proofs.lemmas.Str.{encodes-chars, length-le-encodes}
 use Rattle.std.specs.Option.{option_copied}
@@ -23,7 +23,7 @@ use Rattle.uset_variables.specs.Values.{value_seen, kept, character_or}
 use Rattle.uset_variables.specs.Variables.{bound, variables_of, no_variables, Binds}
 use Rattle.uset_gather.specs.Gathered.{in_set}
 use Rattle.uset_reader.specs.Syntaxes.{language_of}
-use Rattle.uset_parse.specs.Reading.{IsRead, IsRefused}
+use Rattle.uset_parse.specs.Reading.{IsRead, HasTextBehind, IsRefused}
 use Rattle.uset_tool.specs.declared.answer.Answer.{Answer}
 use Rattle.uset_tool.specs.Script.{Definition, character as character_definition, string as string_definition, set as set_definition}
 use Rattle.uset_tool.specs.Answer.{Variables, with_binding, string_or_character, bound_text, is_bound_text, text_after_text, fault_text, DefinitionAnswer, a_character, a_string, a_set, text_after, no_set, BindingAnswer, bound_before, IsBound, IsFaultAnswer}
@@ -70,10 +70,10 @@ string_answer tables old new name bytes answer is =
     definition_at tables old new _ name _ (bound_text name) false answer is.text is.err (is.bound ∙ ap (λ v. with_binding name v old) (kept_string bytes)) a_string
 
 -- the pattern is the whole source
-pub set_answer : (tables : Tables) (old new : Variables) (name source : List ℕ) (s : StringSet) (n : ℕ) (answer : Answer) → IsRead (language_of old tables) source s n → length source ≤ n →
+pub set_answer : (tables : Tables) (old new : Variables) (name source : List ℕ) (s : StringSet) (answer : Answer) → IsRead (language_of old tables) source s (length source) →
     IsBound name (set (in_set s)) old new answer → DefinitionAnswer tables old name (set_definition source) (string_bytes answer.text) answer.is_err new
-set_answer tables old new name source s n answer h whole is =
-    let none : h.rest ≡ [] = nil_from_length h.rest (omega (arith, h.place, whole, length-le-encodes h.rest)) in
+set_answer tables old new name source s answer h is =
+    let none : h.rest ≡ [] = nil_from_length h.rest (omega (arith, h.place, length-le-encodes h.rest)) in
     let same : in_set s ≡ has h.tree = fun_ext h.members in
     definition_at tables old new _ name _ (bound_text name) false answer is.text is.err (is.bound ∙ ap (λ m. with_binding name (set m) old) same)
     (a_set (subst (λ r. ReadsUnder (chars source) h.tree r (language_of old tables)) none h.reads))
@@ -84,10 +84,10 @@ something_behind tables old name source n tree [] h place more = absurd (omega (
 something_behind tables old name source n tree (c ∷ rest) h place more = text_after n h place
 
 -- text stands behind the pattern
-pub text_after_answer : (tables : Tables) (old : Variables) (name source : List ℕ) (s : StringSet) (n : ℕ) (answer : Answer) → IsRead (language_of old tables) source s n → n < length source →
+pub text_after_answer : (tables : Tables) (old : Variables) (name source : List ℕ) (n : ℕ) (answer : Answer) → HasTextBehind (language_of old tables) source n →
     string_bytes answer.text ≡ text_after_text n → answer.is_err ≡ true → DefinitionAnswer tables old name (set_definition source) (string_bytes answer.text) answer.is_err old
-text_after_answer tables old name source s n answer h more text err =
-    definition_at tables old old old name _ (text_after_text n) true answer text err refl (something_behind tables old name source n h.tree h.rest h.reads h.place more)
+text_after_answer tables old name source n answer h text err =
+    definition_at tables old old old name _ (text_after_text n) true answer text err refl (something_behind tables old name source n h.front.tree h.front.rest h.front.reads h.front.place h.more)
 
 -- the pattern has a fault
 pub no_set_answer : (tables : Tables) (old : Variables) (name source : List ℕ) (error : ParseError) (answer : Answer) → IsRefused (language_of old tables) source error → IsFaultAnswer error source answer →
@@ -102,11 +102,11 @@ pub bound_answer : (tables : Tables) (old : Variables) (name : List ℕ) (d : De
 bound_answer tables old name d answer some text err = rw (text, err) (bound_before some)
 
 -- the same of results, where there is an answer
-pub text_after_result : {E : Type 0} (tables : Tables) (old : Variables) (name source : List ℕ) (s : StringSet) (n : ℕ) (result : Result Answer E) → IsRead (language_of old tables) source s n → n < length source →
+pub text_after_result : {E : Type 0} (tables : Tables) (old : Variables) (name source : List ℕ) (n : ℕ) (result : Result Answer E) → HasTextBehind (language_of old tables) source n →
     IfOk result (λ a. string_bytes a.text ≡ text_after_text n) → IfOk result (λ a. a.is_err ≡ true) →
     IfOk result (λ a. DefinitionAnswer tables old name (set_definition source) (string_bytes a.text) a.is_err old)
-text_after_result tables old name source s n (Ok a) h more text err = text_after_answer tables old name source s n a h more text err
-text_after_result tables old name source s n (Err e) h more text err = tt
+text_after_result tables old name source n (Ok a) h text err = text_after_answer tables old name source n a h text err
+text_after_result tables old name source n (Err e) h text err = tt
 
 pub bound_result : {E : Type 0} (tables : Tables) (old : Variables) (name : List ℕ) (d : Definition) (result : Result Answer E) → is_some (old (chars name)) ≡ true →
     IfOk result (λ a. string_bytes a.text ≡ is_bound_text name) → IfOk result (λ a. a.is_err ≡ true) → IfOk result (λ a. BindingAnswer tables old name d (string_bytes a.text) a.is_err old)

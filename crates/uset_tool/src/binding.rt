@@ -13,7 +13,8 @@ use crate::line::{Definition, Line, read_line};
 use cp_invlist::NoMemory;
 use std::alloc::Global;
 use uset_parse::{
-    InsertError, Resolver, VariableMap, VariableString, VariableValue, parse_with_resolver,
+    InsertError, Resolver, VariableMap, VariableString, VariableValue, WholeSource,
+    parse_whole_with_resolver,
 };
 
 /// The answer to a name that is bound now.
@@ -93,14 +94,13 @@ fn answer_set(
         (AnswersDefinition resolver.old name.now (set_definition source.now) variables.old variables.new) }
     ensures same { resolver.new ≡ resolver.old }
 {
-    let (set, length) = match parse_with_resolver(alloc, source, variables, resolver) {
-        Ok(read) => read,
-        Err(error) => return answer_fault(alloc, source, error),
-    };
-    if length < source.len() {
-        return answer_text_after(alloc, length);
+    match parse_whole_with_resolver(alloc, source, variables, resolver) {
+        Ok(WholeSource::Pattern(set)) => {
+            answer_value(alloc, name, VariableValue::UnicodeSet(set), variables)
+        }
+        Ok(WholeSource::TextBehind(length)) => answer_text_after(alloc, length),
+        Err(error) => answer_fault(alloc, source, error),
     }
-    answer_value(alloc, name, VariableValue::UnicodeSet(set), variables)
 }
 
 /// Binds a name that is bound to nothing.

@@ -30,9 +30,9 @@ pub returns-in-Done-clause-read : goal.returns-in-Done-clause-read
 returns-in-Done-clause-read c =
     let s = c.args.syntax.now in
     let here = c.loop-progress.invariant.0 in
-    is_read c.turns.ensures.units c.turns.ensures.means c.turns.ensures.last c.turns.ensures.onward s c.args.source.now (left_of c.loop-progress.place) c.loop-progress.outer.items c.loop-progress.bracket c.loop-progress.invariant.1
+    rw c.into_inner.ensures (is_read c.turns.ensures.units c.turns.ensures.means c.turns.ensures.last c.turns.ensures.onward s c.args.source.now (left_of c.loop-progress.place) c.loop-progress.outer.items c.loop-progress.bracket c.loop-progress.invariant.1
     c.turn.new.outer.items c.turn.new.bracket c.in-Done.set c.in-Done.rest c.at.result (subst (λ z. Turns (language_seen s) z (left_of c.loop-progress.place) c.loop-progress.outer.items c.loop-progress.bracket c.turn.new.outer.items c.turn.new.bracket (Ok (Done c.in-Done.set c.in-Done.rest))) here
-    (subst (λ p. Turns (language_seen s) (source_of c.loop-progress.place) (left_of c.loop-progress.place) c.loop-progress.outer.items c.loop-progress.bracket c.turn.new.outer.items c.turn.new.bracket (Ok p)) c.in-Done.is c.in-Ok.ensures.turns)) (c.at.ensures.source ∙ here) c.at.ensures.left
+    (subst (λ p. Turns (language_seen s) (source_of c.loop-progress.place) (left_of c.loop-progress.place) c.loop-progress.outer.items c.loop-progress.bracket c.turn.new.outer.items c.turn.new.bracket (Ok p)) c.in-Done.is c.in-Ok.ensures.turns)) (c.at.ensures.source ∙ here) c.at.ensures.left)
 
 pub returns-in-Err-clause-refused : goal.returns-in-Err-clause-refused
 returns-in-Err-clause-refused c =

@@ -11,7 +11,8 @@ returns-in_default-clause-closes c =
 
 pub returns-in_default-pop-clause-closes : goal.returns-in_default-pop-clause-closes
 returns-in_default-pop-clause-closes c =
-    closes_outermost (source_of c.args.cursor) c.args.outer.now.items c.pop.new.self.items c.args.bracket.now c.close.new.self c.args.text.now c.args.rest c.in-Some.set (rw c.in-Some.is at c.in_ok-set.ensures.set) (none_popped c.args.outer.now.items c.pop.new.self.items _ c.in_default-pop.ensures.items c.in_default-pop.ensures.rest c.in_default-pop.ensures.cases.0)
+    closes_outermost (source_of c.args.cursor) c.args.outer.now.items c.pop.new.self.items c.args.bracket.now c.close.new.self c.args.text.now c.args.rest c.in_ok-new.field-0 (rw c.in_ok-new.ensures.ok (rw c.in-Some.is at c.in_ok-set.ensures.set))
+    (none_popped c.args.outer.now.items c.pop.new.self.items _ c.in_default-pop.ensures.items c.in_default-pop.ensures.rest c.in_default-pop.ensures.cases.0)
 
 pub returns-in_default-split_first-clause-closes : goal.returns-in_default-split_first-clause-closes
 returns-in_default-split_first-clause-closes c =

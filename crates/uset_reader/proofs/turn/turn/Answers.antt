@@ -3,6 +3,7 @@ use Rattle.std.specs.Str.{chars}
 use Rattle.uset_grammar.specs.Front.{closing, opening, of_name, begins_unit}
 use Rattle.uset_fault.specs.Errors.{kind_told}
 use Rattle.uset_reader.specs.Brackets.{opening_seen}
+use Rattle.uset_reader.specs.Singles.{single_seen}
 use Rattle.uset_reader.specs.Syntaxes.{language_seen}
 use Rattle.uset_reader.proofs.TurnLemmas.{turned, turned_caret, turned_single}
 use Rattle.uset_reader.proofs.turn.turn.Goals as goal
@@ -27,8 +28,8 @@ returns-in-Opening-clause-turns c =
 pub returns-in-Single-clause-turns : goal.returns-in-Single-clause-turns
 returns-in-Single-clause-turns c =
     turned_single c.args.syntax.now c.args.cursor c.args.outer.now.items c.args.bracket.now c.skip_white_space-text.result.now (rw c.rest.ensures at c.skip_white_space-text.ensures.skipped)
-    (sym c.is_short.ensures ∙ c.if-is_short.false) (c.turns.ensures.behind (language_seen c.args.syntax.now)) c.in-Single.item c.in-Single.rest.now c.take.new.bracket c.take.result
-    c.in-Single.ensures.behind.1 (sym c.in-Single.ensures.front) c.take.ensures.takes
+    (sym c.is_short.ensures ∙ c.if-is_short.false) (c.turns.ensures.behind (language_seen c.args.syntax.now)) c.into_item-item.result (single_seen c.in-Single.single) c.in-Single.rest.now c.take.new.bracket c.take.result
+    c.into_item-item.ensures.item (sym c.in-Single.ensures.front) c.take.ensures.takes
 
 pub returns-in-Name-clause-turns : goal.returns-in-Name-clause-turns
 returns-in-Name-clause-turns c =

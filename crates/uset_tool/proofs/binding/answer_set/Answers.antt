@@ -18,15 +18,15 @@ returns-in-Err-clause-answer c =
     (λ a h. no_set_answer tables old c.args.name.now c.args.source.now c.in-Err.error a c.in-Err.ensures.refused h)
     c.answer_fault.ensures
 
-pub returns-then-length-source-clause-answer : goal.returns-then-length-source-clause-answer
-returns-then-length-source-clause-answer c =
-    text_after_result (tables_of c.args.resolver.now) (variables_of c.args.variables.now) c.args.name.now c.args.source.now _ _ c.answer_text_after.result c.in-Ok.ensures.read c.if-length-source.true c.answer_text_after.ensures.text c.answer_text_after.ensures.err
-
-pub returns-clause-answer : goal.returns-clause-answer
-returns-clause-answer c =
+pub returns-in-Ok-Pattern-clause-answer : goal.returns-in-Ok-Pattern-clause-answer
+returns-in-Ok-Pattern-clause-answer c =
     let old = variables_of c.args.variables.now in
     let new = variables_of c.answer_value.new.variables in
     let tables = tables_of c.args.resolver.now in
-    IfOk-weaker c.answer_value.result (IsBound c.args.name.now (set (in_set c.in-Ok.read.0)) old new) (λ (a : Answer). DefinitionAnswer tables old c.args.name.now (set_definition c.args.source.now) (string_bytes a.text) a.is_err new)
-    (λ a h. set_answer tables old new c.args.name.now c.args.source.now _ _ a c.in-Ok.ensures.read c.if-length-source.false h)
+    IfOk-weaker c.answer_value.result (IsBound c.args.name.now (set (in_set c.in-Ok-Pattern.set)) old new) (λ (a : Answer). DefinitionAnswer tables old c.args.name.now (set_definition c.args.source.now) (string_bytes a.text) a.is_err new)
+    (λ a h. set_answer tables old new c.args.name.now c.args.source.now _ a (rw c.in-Ok-Pattern.field-0-is at c.in-Ok-Pattern.ensures.read) h)
     c.answer_value.ensures
+
+pub returns-in-Ok-TextBehind-clause-answer : goal.returns-in-Ok-TextBehind-clause-answer
+returns-in-Ok-TextBehind-clause-answer c =
+    text_after_result (tables_of c.args.resolver.now) (variables_of c.args.variables.now) c.args.name.now c.args.source.now c.in-Ok-TextBehind.length c.answer_text_after.result (rw c.in-Ok-TextBehind.field-0-is at c.in-Ok-TextBehind.ensures.read) c.answer_text_after.ensures.text c.answer_text_after.ensures.err

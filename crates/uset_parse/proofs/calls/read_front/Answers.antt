@@ -2,7 +2,7 @@ use Rattle.std.proofs.Common.{sym}
 use Rattle.std.proofs.lemmas.Result.{err_from_is_err_and}
 use Rattle.uset_reader.specs.Syntaxes.{language_seen}
 use Rattle.uset_parse.proofs.ReadingLemmas.{reading, refusal, absent_syntax}
-use Rattle.uset_parse.proofs.calls.parse_with_resolver.Goals as goal
+use Rattle.uset_parse.proofs.calls.read_front.Goals as goal
 
 pub returns-in_default-clause-refused : goal.returns-in_default-clause-refused
 returns-in_default-clause-refused c =
@@ -18,4 +18,4 @@ returns-in_err-closed-clause-refused c =
 pub returns-clause-read : goal.returns-clause-read
 returns-clause-read c =
     let language = rw c.database.ensures at c.in-Some.ensures.language in
-    reading (language_seen c.in-Some.syntax) _ c.args.source.now c.in_ok-closed.closed c.in_ok-closed.place c.in_ok-set.set c.offset.result (sym language) c.in_ok-closed.ensures.read c.in_ok-set.ensures.set c.offset.ensures.rest
+    reading (language_seen c.in-Some.syntax) _ c.args.source.now c.in_ok-closed.closed c.in_ok-closed.place c.offset.result (sym language) c.in_ok-closed.ensures.read c.offset.ensures.rest
