@@ -184,9 +184,9 @@ enum Expected {
 }
 
 /// A source that should be a pattern as a whole.
-type Whole = (&'static str, Expected);
+type ReadWhole = (&'static str, Expected);
 
-impl Row<PropertyDatabase> for Whole {
+impl Row<PropertyDatabase> for ReadWhole {
     fn holds(&self, alloc: Global, database: &PropertyDatabase) -> bool {
         let (source, expected) = *self;
         let none = VariableMap::new(alloc);
@@ -201,7 +201,7 @@ impl Row<PropertyDatabase> for Whole {
     }
 }
 
-const WHOLE: &[Whole] = &[
+const READ_WHOLE: &[ReadWhole] = &[
     ("[a-c]", Expected::Pattern(&[0x61, 0x64])),
     ("[[:Nd:]-[0-8]]", Expected::Pattern(&[0x39, 0x3A])),
     ("[a-c]x", Expected::TextBehind(5)),
@@ -213,7 +213,7 @@ const WHOLE: &[Whole] = &[
 
 #[test]
 fn a_source_is_read_as_a_whole(rt: HostRuntime) {
-    assert_rows_of_text(&rt, rt.alloc(), TABLES, WHOLE);
+    assert_rows_of_text(&rt, rt.alloc(), TABLES, READ_WHOLE);
 }
 
 const READ_BELOW: &[Read] = &[(Call::Below, "[$a-c{}$v-]]", 11)];

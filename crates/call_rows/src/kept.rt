@@ -138,7 +138,7 @@ fn place_in(
 /// What the bracket closes with, where it names no very large set.
 fn close(
     alloc: Global,
-    gathering: &mut Gathering<'_>,
+    gathering: Gathering<'_>,
     negated: bool,
 ) -> Result<CodePointInversionListAndStringList, NoMemory> {
     match gathering.close(alloc, negated)? {
@@ -168,7 +168,7 @@ fn closed(
 ) -> Result<CodePointInversionListAndStringList, NoMemory> {
     let mut gathering = Gathering::new(alloc);
     gather_and_remove(alloc, &mut gathering, large)?;
-    close(alloc, &mut gathering, negated)
+    close(alloc, gathering, negated)
 }
 
 /// Whether the bracket is negated, and the inversion list and the strings that it closes with.
@@ -259,7 +259,7 @@ fn joined(
 ) -> Result<CodePointInversionListAndStringList, NoMemory> {
     let mut gathering = Gathering::new(alloc);
     gather_again(alloc, &mut gathering, large, has_large, place)?;
-    close(alloc, &mut gathering, false)
+    close(alloc, gathering, false)
 }
 
 /// The same with the place of the letters of the property in another bracket, which keeps the large set in front of

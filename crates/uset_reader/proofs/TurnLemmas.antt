@@ -272,6 +272,13 @@ bracket_around l outer left around os is h = by os refl (subst (λ bs. AllStand 
     by [] e h = absurd h
     by (o ∷ more) e h = record { next = o; further = more; are = e; stands = h.0; around_too = h.1 }
 
+-- no bracket is around it
+pub closes_alone : (source : List ℕ) (outer left : List CodeBracket) (b new : CodeBracket) (text rest : List ℕ) (result : Result Progress ParseError) → outer ≡ left ++ [] → outer ≡ [] →
+    ClosesAs source [] b text rest [] new result → ClosesAs source outer b text rest left new result
+closes_alone source outer left b new text rest result parts none h =
+    let left_none : left ≡ [] = sym (append-nil left) ∙ (sym parts ∙ none) in
+    subst (λ z. ClosesAs source z b text rest left new result) (sym none) (subst (λ z. ClosesAs source [] b text rest z new result) (sym left_none) h)
+
 -- nothing stands behind a bracket inside
 pub closes_last : (source : List ℕ) (outer new_outer left : List CodeBracket) (b around new : CodeBracket) (text rest : List ℕ) (made : ClosedSet) (e : ParseError) → Closes b (Some made) → outer ≡ left ++ around ∷ [] →
     chars rest ≡ [] → kind_told (kind_of e) ≡ Some eof → offset_in e ≡ None → ClosesAs source outer b text rest new_outer new (Err e)

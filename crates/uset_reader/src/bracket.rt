@@ -214,14 +214,19 @@ impl<'a> OpenBracket<'a> {
         Ok(true)
     }
 
-    /// Takes `]`. The answer is the bracket's set, which is moved out, and `None` where no `]` fits.
-    pub(crate) fn close(&mut self, alloc: Global) -> Result<Option<Closed>, NoMemory>
-        ensures set { IfOk result (Closes self.old) }
-        ensures place { self.new.before ≡ self.old.before }
+    /// Takes `]`. The answer is the bracket's set, and `None` where no `]` fits.
+    pub(crate) fn close(mut self, alloc: Global) -> Result<Option<Closed>, NoMemory>
+        ensures { IfOk result (Closes self.entry) }
     {
         if !self.add_last()? {
             return Ok(None);
         }
-        Ok(Some(self.gathered.close(alloc, self.opening.negated)?))
+        let Self {
+            gathered,
+            opening,
+            awaits: _,
+            before: _,
+        } = self;
+        Ok(Some(gathered.close(alloc, opening.negated)?))
     }
 }

@@ -1,5 +1,5 @@
 //! One turn of the reader: what stands in front in the innermost bracket.
-ghost use Rattle.std.specs.Prelude.{◌≡◌, ◌≤◌, ◌<◌, length, IfOk, true};
+ghost use Rattle.std.specs.Prelude.{◌≡◌, ◌≤◌, ◌<◌, [], length, IfOk, true};
 ghost use Rattle.std.specs.Str.{chars};
 ghost use Rattle.uset_read.specs.Cursors.{source_of, left_of};
 ghost use Rattle.uset_reader.specs.Items.{IsProper};
@@ -196,6 +196,28 @@ fn open<'v, 'a>(
     Ok(Progress::GoesOn(inner))
 }
 
+/// Closes the outermost bracket, with a `]` at the front of the text and in front of the rest.
+#[cold]
+fn close_outermost<'v, 'a>(
+    alloc: Global,
+    cursor: Cursor<'a>,
+    bracket: &mut OpenBracket<'v>,
+    text: &'a str,
+    rest: &'a str,
+) -> Result<Progress<'a>, ParseError>
+    requires within { length text.now ≤ length (left_of cursor) }
+    requires behind { length rest.now < length (left_of cursor) }
+    ensures closes { ClosesAs (source_of cursor.entry) [] bracket.old text.now rest.now [] bracket.new result }
+    ensures shorter { IfOk result (λ p. IsShorter p (left_of cursor.entry)) }
+{
+    laws::turns();
+    let none = OpenBracket::open(alloc, Opening::NONE, 0)?;
+    let Some(set) = replace(bracket, none).close(alloc)? else {
+        return Err(fault_at(cursor, ParseErrorKind::UnexpectedChar(']'), text));
+    };
+    Ok(Progress::Done(Box::new(alloc, set)?, rest))
+}
+
 /// Closes the innermost bracket, with a `]` at the front of the text and in front of the rest, and gives its set to the
 /// bracket around it.
 fn close<'v, 'a>(
@@ -213,17 +235,17 @@ fn close<'v, 'a>(
     ensures shorter { IfOk result (λ p. IsShorter p (left_of cursor.entry)) }
 {
     laws::turns();
-    let Some(set) = bracket.close(alloc)? else {
-        return Err(fault_at(cursor, ParseErrorKind::UnexpectedChar(']'), text));
-    };
     let Some(around) = outer.pop() else {
-        return Ok(Progress::Done(Box::new(alloc, set)?, rest));
+        return close_outermost(alloc, cursor, bracket, text, rest);
+    };
+    let inner = replace(bracket, around);
+    let before = inner.before;
+    let Some(set) = inner.close(alloc)? else {
+        return Err(fault_at(cursor, ParseErrorKind::UnexpectedChar(']'), text));
     };
     let Some(_) = split_first(rest) else {
         return Err(ParseErrorKind::Eof.into());
     };
-    let before = bracket.before;
-    *bracket = around;
     match bracket.take(alloc, Item::Set(Operand::Inner(set)))? {
         Taken::Fits => Ok(Progress::GoesOn(rest)),
         _ => Err(ParseError::at(ParseErrorKind::UnexpectedChar('['), before)),

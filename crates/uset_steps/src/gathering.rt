@@ -209,16 +209,14 @@ impl<'a> Gathering<'a> {
         }
     }
 
-    /// Moves out the set of what was gathered, or where it is negated that of the other code points. Nothing is left then.
+    /// The set of what was gathered, or where it is negated that of the other code points.
     #[inline]
-    pub fn close(&mut self, alloc: Global, negated: bool) -> Result<Closed, NoMemory>
-        ensures set { IfOk result (λ set. (sets : Sets) → Fits sets self.old → (m : Member) →
-            closed_in sets set m ≡ closed negated m (gathering_in sets self.old m)) }
-        ensures emptied { OnOk result ((sets : Sets) (m : Member) → gathering_in sets self.new m ≡ false) }
-        ensures forgotten { OnOk result ((place : Place) → kept_at self.new place ≡ None) }
+    pub fn close(self, alloc: Global, negated: bool) -> Result<Closed, NoMemory>
+        ensures { IfOk result (λ set. (sets : Sets) → Fits sets self.entry → (m : Member) →
+            closed_in sets set m ≡ closed negated m (gathering_in sets self.entry m)) }
     {
-        let gathered = replace(&mut self.gathered, Gathered::new(alloc));
-        let set = match self.later.take() {
+        let Self { gathered, later } = self;
+        let set = match later {
             Some(later) => Box::into_inner(later).closed(alloc, gathered)?,
             None => Closed::Plain(gathered),
         };

@@ -4,7 +4,7 @@ use Rattle.uset_reader.specs.Named.{sets_of}
 use Rattle.uset_reader.proofs.BracketLemmas.{closes}
 use Rattle.uset_reader.proofs.bracket.OpenBracket.close.Goals as goal
 
-pub returns-clause-set : goal.returns-clause-set
-returns-clause-set c = λ l o s.
-    closes l c.args.self.now o c.add_last.new.self.gathered c.in_ok-close.field-0 _ s c.if-not-branch.false c.in_ok-add_last.ensures.ended
-    (λ fits m. c.in_ok-close.ensures.set (sets_of l) fits m ∙ ap (λ o. closed o.negated m (gathering_in (sets_of l) c.add_last.new.self.gathered m)) c.add_last.ensures.same.opening)
+pub returns : goal.returns
+returns c = λ l o s.
+    closes l c.args.self o c.add_last.new.self.gathered c.in_ok-close.field-0 _ s c.if-not-branch.false c.in_ok-add_last.ensures.ended
+    (λ fits m. c.in_ok-close.ensures (sets_of l) fits m ∙ ap (λ o. closed o.negated m (gathering_in (sets_of l) c.add_last.new.self.gathered m)) c.add_last.ensures.same.opening)
