@@ -18,7 +18,7 @@ use Rattle.uset_steps.specs.declared.closed.Closed.{Closed as ClosedSet}
 use Rattle.uset_gather.specs.Gathered.{in_set}
 use Rattle.uset_steps.specs.Terms.{closed_in}
 use Rattle.uset_steps.specs.declared.named_set.Named.{Named}
-use Rattle.uset_steps.specs.Names.{named_in}
+use Rattle.uset_steps.specs.Names.{named_in, Sets, IsSetOf}
 use Rattle.uset_read.specs.declared.cursor.Cursor.{Cursor}
 use Rattle.uset_read.specs.declared.stop.Stop.{Stop}
 use Rattle.uset_read.specs.declared.stop.Stop.TheVariants.{Fault as StopFault, Ended, NoMemory as StopNoMemory}
@@ -41,7 +41,7 @@ use Rattle.uset_reader.specs.Syntaxes.{language_seen}
 use Rattle.uset_reader.specs.Turns.{Around, Before, Turns}
 use Rattle.uset_reader.specs.Units.{OperandIs, OperandStops}
 use Rattle.uset_reader.specs.Named.{sets_of}
-use Rattle.uset_reader.specs.Readings.{IsReading, IsRefusal}
+use Rattle.uset_reader.specs.Readings.{IsSetOfVariable, IsReading, IsRefusal}
 use Rattle.uset_reader.proofs.TurnLemmas.{tells, tells_too, tells_nothing}
 
 pub lawful : (s : Syntax) → Lawful (language_seen s)
@@ -154,23 +154,23 @@ module _ (s : Syntax) (source : List ℕ) where
     refused_other cursor e v some other same is h =
         refused_first spoken source e unexpected_variable (Some ends.0) is (no_set_variable begins_so (bound_by ∙ ap (option_map value_seen) some) other ends.1) (placed cursor e same h)
 
-    pub read_variable : (made : ClosedSet) (v : StringSet) (end : Cursor) → bound s.variables.now name ≡ Some (UnicodeSet v) → ((m : Member) → closed_in (sets_of spoken) made m ≡ in_set v m) → source_of end ≡ source → left_of end ≡ rest →
+    pub read_variable : (made : ClosedSet) (v : StringSet) (end : Cursor) → bound s.variables.now name ≡ Some (UnicodeSet v) → IsSetOfVariable name v made → source_of end ≡ source → left_of end ≡ rest →
         IsReading spoken source made end
     read_variable made v end some members same left = record {
       tree = given (in_set v);
       read = subst (λ z. Reads spoken (chars source) (given (in_set v)) (chars z)) (sym left) (a_variable begins_so (bound_by ∙ ap (option_map value_seen) some));
-      members = members;
+      members = members spoken (bound_by ∙ ap (option_map value_seen) some);
       same = same;
     }
 
   module _ (units : UnitReader spoken) (begins_so : first spoken (chars source) ≡ of_property) where
-    pub read_property : (named : Named) (made : ClosedSet) (rest : List ℕ) (end : Cursor) → OperandIs spoken source named rest → ((m : Member) → closed_in (sets_of spoken) made m ≡ named_in named.set m) → source_of end ≡ source →
+    pub read_property : (named : Named) (made : ClosedSet) (rest : List ℕ) (end : Cursor) → OperandIs spoken source named rest → ((sets : Sets) → IsSetOf sets named → (m : Member) → closed_in sets made m ≡ named_in named.set m) → source_of end ≡ source →
         left_of end ≡ rest → IsReading spoken source made end
     read_property named made rest end h members same left =
         let found = h (units.property_begins (chars source) begins_so) in record {
           tree = property_tree spoken found.query;
           read = subst (λ z. Reads spoken (chars source) (property_tree spoken found.query) (chars z)) (sym left) (a_property begins_so ((found.outcome.reads found.query (chars rest)).0 refl));
-          members = λ m. members m ∙ sym (found.members.0 m);
+          members = λ m. members (sets_of spoken) found.members.1 m ∙ sym (found.members.0 m);
           same = same;
         }
 

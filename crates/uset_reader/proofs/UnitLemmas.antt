@@ -25,7 +25,7 @@ use Rattle.cp_strset.specs.StringSet.{StringSet}
 use Rattle.uset_gather.specs.Gathered.{in_set}
 use Rattle.uset_steps.specs.declared.gathering.Gathering.{Gathering}
 use Rattle.uset_steps.specs.declared.named_set.Named.{Named as NamedOperand}
-use Rattle.uset_steps.specs.Names.{variable, name_seen, named_in}
+use Rattle.uset_steps.specs.Names.{variable, name_seen, named_in, IsSetOf}
 use Rattle.uset_reader.specs.declared.item.Operand.TheVariants.{Named}
 use Rattle.uset_reader.specs.Named.{bound_set, sets_of}
 use Rattle.uset_read.specs.declared.stop.Stop.{Stop}
@@ -116,12 +116,17 @@ none_kept (Some c) h = absurd (let g : false ≡ true = h in cc)
 pub copied_item : (l : Language) (g : Gathering) (s : String Global) (bytes : List ℕ) → string_bytes s ≡ bytes → IsItem l g (Spelled_text s) (item_text (chars bytes))
 copied_item l g s bytes e = record { tree = no_tree; same = tt; is = ap (λ bs. item_text (chars bs)) (sym e) }
 
+-- a variable that is bound to a set stands for it
+pub variable_set : (l : Language) (named : NamedOperand) (name : List ℕ) (set : StringSet) → name_seen named.name ≡ variable name → ((m : Member) → named_in named.set m ≡ in_set set m) →
+    l.variable (chars name) ≡ Some (value_set (in_set set)) → IsSetOf (sets_of l) named
+variable_set l named name set called same bound = record { members = in_set set; is = ap (sets_of l) called ∙ ap bound_set bound; same = same }
+
 -- a variable that is bound to a set
 pub set_item : (l : Language) (g : Gathering) (named : Box NamedOperand Global) (name : List ℕ) (set : StringSet) → name_seen named.value.name ≡ variable name → ((m : Member) → named_in named.value.set m ≡ in_set set m) →
     l.variable (chars name) ≡ Some (value_set (in_set set)) → IsItem l g (Set (Named named)) (nested (given (in_set set)))
 set_item l g named name set called same bound = record {
   tree = given (in_set set);
-  same = (λ m. sym (same m), record { members = in_set set; is = ap (sets_of l) called ∙ ap bound_set bound; same = same });
+  same = (λ m. sym (same m), variable_set l named.value name set called same bound);
   is = refl;
 }
 

@@ -4,7 +4,7 @@ ghost use Rattle.std.specs.Str.{chars};
 ghost use Rattle.uset_grammar.specs.Front.{first, of_bracket, of_variable, of_property};
 ghost use Rattle.uset_reader.specs.Brackets.{opening_seen};
 ghost use Rattle.uset_reader.specs.Syntaxes.{language_seen, database_seen};
-ghost use Rattle.uset_reader.specs.Readings.{IsReading, IsRefusal};
+ghost use Rattle.uset_reader.specs.Readings.{IsReading, IsRefusal, IsSetOfVariable};
 
 use crate::bracket::{OpenBracket, Opening};
 use crate::fault::{fault_at, fault_before, stopped};
@@ -12,12 +12,14 @@ use crate::front::{First, look_at_first};
 use crate::property::read_named;
 use crate::syntax::Syntax;
 use crate::turn::{Progress, turn};
+use cp_invlist::NoMemory;
+use cp_strset::CodePointInversionListAndStringList;
 use std::alloc::Global;
 use uset_fault::{ParseError, ParseErrorKind};
 use uset_grammar::laws;
 use uset_read::Cursor;
 use uset_resolve::Resolver;
-use uset_steps::{Closed, NamedSet};
+use uset_steps::{Closed, Name, Named, NamedSet};
 
 /// Reads the bracket that begins the source, up to its `]`.
 fn read_bracket<'v, 'd: 'v, 'a>(
@@ -53,6 +55,19 @@ fn read_bracket<'v, 'd: 'v, 'a>(
     }
 }
 
+/// The set to which the variable of this name is bound.
+fn variable_set(
+    alloc: Global,
+    name: &str,
+    set: &CodePointInversionListAndStringList,
+) -> Result<Closed, NoMemory>
+    ensures { IfOk result (IsSetOfVariable name.now set.now) }
+{
+    let name = Name::Variable(String::from_str(alloc, name)?);
+    let set = NamedSet::Set(set);
+    Named { name, set }.closed(alloc)
+}
+
 /// Reads the variable of this name, which begins the source, as a set.
 fn read_variable<'v, 'a>(
     alloc: Global,
@@ -75,8 +90,7 @@ fn read_variable<'v, 'a>(
     let Some(set) = value.as_set() else {
         return Err(fault_before(cursor, ParseErrorKind::UnexpectedVariable, rest));
     };
-    let set = NamedSet::Set(set).gathered(alloc)?;
-    Ok((Closed::Plain(set), cursor.at(rest)))
+    Ok((variable_set(alloc, name, set)?, cursor.at(rest)))
 }
 
 /// Reads the property that begins the source, as a set.
@@ -98,8 +112,7 @@ fn read_property<'v, 'd: 'v, 'a>(
         Ok(read) => read,
         Err(stop) => return Err(stopped(cursor, stop)),
     };
-    let set = named.set.gathered(alloc)?;
-    Ok((Closed::Plain(set), cursor.at(rest)))
+    Ok((named.closed(alloc)?, cursor.at(rest)))
 }
 
 /// Reads the set at the front of the source. The answer is the set, and the cursor behind it. The error is a fault of the source

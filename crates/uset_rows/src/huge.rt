@@ -13,6 +13,7 @@ const MEMBERS: &str =
 /// Patterns over the set, each with the members that it denotes.
 const DENOTED: &[(&str, &str)] = &[
     ("[$w]", MEMBERS),
+    ("$w", MEMBERS),
     ("[[$w-[b]]&[a-z]]", "0061 0063"),
     ("[[$w-[b]]-[$w-[a{aa}]]]", "0061 {0061_0061}"),
     ("[[$w-[b]]&[$w-[a]]&[a-z{hh}{zz}]]", "0063 {0068_0068}"),
@@ -132,4 +133,22 @@ fn a_set_of_many_strings_may_be_named_in_a_thousand_brackets(rt: HostRuntime) {
         let holds = denotes_repeated(rt.alloc(), row);
         assert_holds(&rt, holds, row.first, row.members);
     }
+}
+
+/// The lines that bind what names the set, or have text behind it.
+const BOUND: &str = "let n set $w!\nlet n set [$w-[b]]]\nlet n set $w\npat [$n&[ad]]";
+
+/// Whether these are the answers to the lines.
+fn answered(alloc: Global, expected: &str) -> Result<bool, AllocError> {
+    let lines = format!(in alloc; "{HUGE}\n{BOUND}")?;
+    have_answer(alloc, &lines, expected, 1)
+}
+
+#[test]
+fn text_behind_it_is_told(rt: HostRuntime) {
+    let alloc = rt.alloc();
+    let expected =
+        "bound w\nerr text after the set at byte 2\nerr text after the set at byte 8\nbound n\nok 9 0061\n";
+    let holds = answered(alloc, expected);
+    assert_holds(&rt, holds, BOUND, expected);
 }

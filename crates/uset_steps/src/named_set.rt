@@ -1,5 +1,7 @@
 //! Sets that have a name.
+use crate::closed::Closed;
 use crate::name::Name;
+use crate::term::Term;
 use cp_invlist::NoMemory;
 use cp_strset::CodePointInversionListAndStringList;
 use std::alloc::Global;
@@ -50,6 +52,26 @@ pub struct Named<'a> {
 impl Drop for Named<'_> {
     fn drop(self) {
         let Self { name: _, set: _ } = self;
+    }
+}
+
+impl Named<'_> {
+    ghost use Rattle.std.specs.Prelude.{◌≡◌, IfOk};
+    ghost use Rattle.uset_grammar.specs.Tree.{Member};
+    ghost use Rattle.uset_steps.specs.Names.{Sets, IsSetOf, named_in};
+    ghost use Rattle.uset_steps.specs.Terms.{closed_in};
+
+    /// The set alone. A very large one is left as a term.
+    pub fn closed(self, alloc: Global) -> Result<Closed, NoMemory>
+        ensures { IfOk result (λ set. (sets : Sets) → IsSetOf sets self.entry → (m : Member) →
+            closed_in sets set m ≡ named_in self.entry.set m) }
+    {
+        let Self { name, set } = self;
+        if set.is_huge() {
+            let term = Term::of_name(alloc, name)?;
+            return Ok(Closed::Term(Box::new(alloc, term)?));
+        }
+        Ok(Closed::Plain(set.gathered(alloc)?))
     }
 }
 

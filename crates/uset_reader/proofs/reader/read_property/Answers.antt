@@ -1,6 +1,5 @@
 use Rattle.std.proofs.Common.{◌∙◌}
 use Rattle.uset_reader.specs.Syntaxes.{language_seen}
-use Rattle.uset_steps.specs.declared.closed.Closed.TheVariants.{Plain}
 use Rattle.uset_reader.proofs.ReaderLemmas.{lawful, read_property, refused_property}
 use Rattle.uset_reader.proofs.reader.read_property.Goals as goal
 
@@ -12,5 +11,5 @@ returns-in-Err-clause-refused c =
 pub returns-clause-read : goal.returns-clause-read
 returns-clause-read c =
     let s = c.args.syntax.now in
-    read_property s c.args.source.now (c.turns.ensures.units (language_seen s) (lawful s)) c.requires.begins c.in-Ok.read.0 (Plain c.in_ok-set.set) c.in-Ok.read.1.now c.at.result c.in-Ok.ensures.read c.in_ok-set.ensures
+    read_property s c.args.source.now (c.turns.ensures.units (language_seen s) (lawful s)) c.requires.begins c.in-Ok.read.0 c.in_ok-closed.field-0 c.in-Ok.read.1.now c.at.result c.in-Ok.ensures.read c.in_ok-closed.ensures
     (c.at.ensures.source ∙ c.new-cursor.ensures.source) c.at.ensures.left

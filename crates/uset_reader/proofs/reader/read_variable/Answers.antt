@@ -1,7 +1,6 @@
 use Rattle.std.proofs.Common.{sym, ap, ◌∙◌, Some}
 use Rattle.std.proofs.lemmas.Str.{encodes-chars}
 use Rattle.uset_fault.specs.Errors.{kind_told}
-use Rattle.uset_steps.specs.declared.closed.Closed.TheVariants.{Plain}
 use Rattle.uset_reader.proofs.ReaderLemmas.{refused_unbound, refused_other, read_variable}
 use Rattle.uset_reader.proofs.reader.read_variable.Goals as goal
 
@@ -17,5 +16,5 @@ returns-in_default-as_set-clause-refused c =
 
 pub returns-clause-read : goal.returns-clause-read
 returns-clause-read c =
-    read_variable c.args.syntax.now c.args.source.now c.turns.ensures.behind c.args.name.now c.args.rest.now c.requires.begins (encodes-chars c.args.name.now c.utf8.name) (Plain c.in_ok-set.set) c.in-Some-as_set.set.now c.at.result
-    (sym c.in-Some.ensures.value ∙ ap Some c.in-Some-as_set.ensures) c.in_ok-set.ensures (c.at.ensures.source ∙ c.new-cursor.ensures.source) c.at.ensures.left
+    read_variable c.args.syntax.now c.args.source.now c.turns.ensures.behind c.args.name.now c.args.rest.now c.requires.begins (encodes-chars c.args.name.now c.utf8.name) c.in_ok-variable_set.field-0 c.in-Some-as_set.set.now c.at.result
+    (sym c.in-Some.ensures.value ∙ ap Some c.in-Some-as_set.ensures) c.in_ok-variable_set.ensures (c.at.ensures.source ∙ c.new-cursor.ensures.source) c.at.ensures.left
