@@ -7,3 +7,5 @@ pub mod MergeLemmas
 pub mod FirstFault
 pub mod Members
 pub mod HeldLemmas
+pub mod WordLemmas
+pub mod WindowLemmas

@@ -8,3 +8,7 @@ pub mod Merge
 pub mod Laws
 pub mod ListLaws
 pub mod CutLaws
+pub mod Words
+pub mod WordLaws
+pub mod Windows
+pub mod WindowLaws

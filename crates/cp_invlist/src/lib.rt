@@ -9,9 +9,12 @@ mod merge;
 mod ranges;
 mod set;
 mod steps;
+mod window;
+pub mod words;
 
 pub use builder::CodePointInversionListBuilder;
 pub use error::{InversionListError, NoMemory};
 pub use ranges::{CodePointRange, ComplementedRanges, InversionListRanges, LAST_CODE_POINT};
 pub use set::CodePointInversionList;
 pub use steps::Steps;
+pub use window::Window;

@@ -5,30 +5,46 @@ ghost use Rattle.cp_invlist.specs.Fault.{fault_of, IsFaultAt};
 ghost use Rattle.cp_invlist.specs.Size.{count_members, SumsTo};
 ghost use Rattle.cp_invlist.specs.InversionList.{contains, is_code_point, IsInversionList};
 ghost use Rattle.cp_invlist.specs.Ranges.{AreMaximalRanges, is_outside};
+ghost use Rattle.cp_invlist.specs.Words.{AreWords};
 ghost use Rattle.cp_invlist.specs.declared.ranges.CodePointRange.{CodePointRange};
 
 use crate::error::{InversionListError, NoMemory};
 use crate::ranges::{CodePointRange, ComplementedRanges, InversionListRanges, LAST_CODE_POINT};
+use crate::words::{all_words, has_member};
 use std::alloc::Global;
 use std::marker::Model;
 
 /// A set of code points, surrogates included, as an inversion list (ICU's name for the form, which
 /// UTS 35 uses for its UnicodeSet): the first member and the number past the last member of each
 /// maximal range, strictly ascending. So two sets with the same members have the same list.
-#[derive(Drop)]
 pub struct CodePointInversionList {
     elements: Vec<u32>,
+    /// For each 64 code points which of them are members, where that is kept beside the list; else none.
+    words: Vec<u64>,
 }
+
+// By hand, so that letting a value go is one call in each proof.
+impl Drop for CodePointInversionList {
+    fn drop(self) {
+        let Self {
+            elements: _,
+            words: _,
+        } = self;
+    }
+}
+
+/// From so many elements on a list takes about as much memory as its words.
+const MANY_ELEMENTS: usize = 1 << 15;
 
 impl Model for CodePointInversionList {
     ghost use Rattle.std.specs.Prelude.{ℕ, List};
-    ghost use Rattle.cp_invlist.specs.InversionList.{IsInversionList};
+    ghost use Rattle.cp_invlist.specs.Words.{IsIndexed};
 
     ghost Value = { List ℕ };
 
     ghost view = { λ s. s.elements.items };
 
-    ghost invariant = { λ s. IsInversionList s.elements.items };
+    ghost invariant = { λ s. IsIndexed s.elements.items s.words.items };
 }
 
 impl CodePointInversionList {
@@ -36,7 +52,8 @@ impl CodePointInversionList {
         requires { IsInversionList elements.items }
         ensures { result ≡ elements.items }
     {
-        CodePointInversionList { elements }
+        let words = Vec::new(*elements.allocator());
+        CodePointInversionList { elements, words }
     }
 
     /// The set whose list this is.
@@ -56,7 +73,7 @@ impl CodePointInversionList {
             return Err(InversionListError::Invalid { index });
         }
         let elements = Vec::from_slice(alloc, list)?;
-        Ok(CodePointInversionList { elements })
+        Ok(CodePointInversionList::from_elements(elements))
     }
 
     /// The set of all code points.
@@ -65,7 +82,7 @@ impl CodePointInversionList {
         ensures list { IfOk result (λ s. s ≡ 0 ∷ 0x11_0000 ∷ []) }
     {
         let elements = Vec::from_slice(alloc, &[0, LAST_CODE_POINT + 1])?;
-        Ok(CodePointInversionList { elements })
+        Ok(CodePointInversionList::from_elements(elements))
     }
 
     /// Whether the character is a member.
@@ -75,11 +92,35 @@ impl CodePointInversionList {
         self.contains32(c as u32)
     }
 
-    /// Whether the number is a member. A number past 10FFFF is none. It is found by binary search.
+    /// Whether the number is a member. A number past 10FFFF is none. It is found by binary search, or where the set has an index
+    /// by one read.
     pub fn contains32(&self, c: u32) -> bool
         ensures { result ≡ contains self.now c }
     {
-        self.elements.partition_point(|element| *element <= c) % 2 == 1
+        match self.words.get(c as usize / 64) {
+            Some(word) => has_member(*word, c % 64),
+            None => self.elements.partition_point(|element| *element <= c) % 2 == 1,
+        }
+    }
+
+    /// Keeps an index of a list of 32,768 elements or more beside it: a bit for each code point, 139 kB. The set stays as it is.
+    /// With an index a member is found by one read, and set expressions don't go along the list (`cp_terms`). `NoMemory` says
+    /// that a request for memory was refused.
+    pub fn index(&mut self, alloc: Global) -> Result<(), NoMemory>
+        ensures { self.new ≡ self.old }
+    {
+        if self.elements.len() >= MANY_ELEMENTS {
+            self.words = all_words(alloc, self)?;
+        }
+        Ok(())
+    }
+
+    /// The words of the index, one for each 64 code points in order, whose bits say which of them are members; none where
+    /// the set has no index.
+    pub fn words(&self) -> &[u64]
+        ensures { AreWords self.now result.now }
+    {
+        &self.words
     }
 
     /// The maximal ranges of members, in order.
@@ -131,7 +172,7 @@ impl CodePointInversionList {
         ensures { IfOk result (λ s. s ≡ self.now) }
     {
         let elements = Vec::from_slice(alloc, &self.elements)?;
-        Ok(CodePointInversionList { elements })
+        Ok(CodePointInversionList::from_elements(elements))
     }
 }
 

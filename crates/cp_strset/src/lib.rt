@@ -106,6 +106,13 @@ impl CodePointInversionListAndStringList {
         &self.code_points
     }
 
+    /// Keeps an index of the code points, where they have many ranges (`CodePointInversionList::index`). The set stays as it is.
+    pub fn index(&mut self, alloc: Global) -> Result<(), NoMemory>
+        ensures { self.new ≡ self.old }
+    {
+        self.code_points.index(alloc)
+    }
+
     /// The strings, in order.
     pub fn strings(&self) -> &[String]
         ensures bytes { map string_bytes result.now ≡ self.now.strings }

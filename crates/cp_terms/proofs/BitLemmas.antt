@@ -1,12 +1,15 @@
 -- What operations on words do to their bits.
-use Rattle.std.proofs.Common.{◌≡◌, ℕ, zero, suc, ◌+◌, ◌*◌, ◌-◌, ◌^◌, ◌≤◌, ◌%◌, ◌<◌, max, min, true, false, not, ◌&&◌, ◌||◌, ◌==◌, nat_le, refl, sym, ap, ◌∙◌, arith, bit_and, bit_or, inl, inr}
+use Rattle.std.proofs.Common.{◌≡◌, ℕ, zero, suc, ◌-◌, ◌^◌, ◌≤◌, ◌<◌, max, min, true, false, not, ◌&&◌, ◌||◌, ◌==◌, Bool, refl, ap, ap₂, ◌∙◌, arith, bit_and, bit_or, inl, inr}
 use Rattle.std.specs.Int.{bit_at, w64, trailing_zeros}
 use Rattle.std.specs.Int.Count.{trailing_of_zero}
-use Rattle.std.specs.Int.RustNames.{bit_xor}
-use Rattle.std.proofs.lemmas.Bool.{cases_lt, le-leb, lt-leb}
-use Rattle.std.proofs.lemmas.Nat.Bits.{bit_at_and, bit_at_or, bit_at_xor, bit_at_not, bit_at_ones, bit_at-zero, bit_at-lt, bit_at_mask_inside, bit_at_mask_below, bit_at-trailing_zeros, ones_shl}
-use Rattle.cp_invlist.specs.InversionList.{differ}
-use Rattle.cp_terms.specs.Words.{has_bit}
+use Rattle.std.proofs.lemmas.Bool.{cases_lt}
+use Rattle.std.proofs.lemmas.Nat.Bits.{bit_at_and, bit_at_or, bit_at_not, bit_at-lt, bit_at-trailing_zeros}
+use Rattle.cp_invlist.specs.Words.{has_bit}
+use Rattle.cp_terms.specs.declared.masks.Masks.{Masks}
+use Rattle.cp_terms.specs.declared.step.Way.{Way}
+use Rattle.cp_terms.specs.declared.step.Way.TheVariants.{Join, Remove, Retain, RemoveFrom}
+use Rattle.cp_terms.specs.Terms.{combined}
+use Rattle.cp_terms.specs.Masks.{AreMasks}
 
 or_of : (x y : ℕ) → x < 2 → y < 2 → (max x y == 1) ≡ (x == 1 || y == 1)
 or_of zero zero hx hy = refl
@@ -31,16 +34,6 @@ not_of zero hx = refl
 not_of (suc zero) hx = refl
 not_of (suc (suc x)) hx = absurd (omega arith)
 
-turned_of : (x : ℕ) → x < 2 → ((x + 1) % 2 == 1) ≡ not (x == 1)
-turned_of zero hx = refl
-turned_of (suc zero) hx = refl
-turned_of (suc (suc x)) hx = absurd (omega arith)
-
-kept_of : (x : ℕ) → x < 2 → ((x + 0) % 2 == 1) ≡ (x == 1)
-kept_of zero hx = refl
-kept_of (suc zero) hx = refl
-kept_of (suc (suc x)) hx = absurd (omega arith)
-
 pub has_bit-or : (a b j : ℕ) → has_bit (bit_or a b) j ≡ (has_bit a j || has_bit b j)
 has_bit-or a b j = ap (λ n. n == 1) (bit_at_or a b j) ∙ or_of (bit_at a j) (bit_at b j) (bit_at-lt a j) (bit_at-lt b j)
 
@@ -52,28 +45,6 @@ has_bit-not a j ha hj = ap (λ n. n == 1) (bit_at_not w64 a j ha hj) ∙ not_of 
 
 pub has_bit-and_not : (a b j : ℕ) → b < 2 ^ 64 → j < 64 → has_bit (bit_and a (18446744073709551615 - b)) j ≡ (has_bit a j && not (has_bit b j))
 has_bit-and_not a b j hb hj = has_bit-and a (18446744073709551615 - b) j ∙ ap (λ x. has_bit a j && x) (has_bit-not b j hb hj)
-
--- a word of ones from the bit k on turns the bits from there on
-pub has_bit-turned : (a k j : ℕ) → k < 64 → j < 64 →
-    has_bit (bit_xor a (18446744073709551615 * 2 ^ k % 18446744073709551616)) j ≡ differ (nat_le k j) (has_bit a j)
-has_bit-turned a k j hk hj =
-    let mask = 18446744073709551615 * 2 ^ k % 18446744073709551616 in
-    let is : mask ≡ 2 ^ 64 - 2 ^ k = ones_shl 64 k (omega arith) in
-    ap (λ n. n == 1) (bit_at_xor a mask j)
-    ∙ (elim (cases_lt j k) [
-      | inl below ↦
-          ap (λ n. (bit_at a j + n) % 2 == 1) (ap (λ m. bit_at m j) is ∙ bit_at_mask_below k 64 j below)
-          ∙ (kept_of (bit_at a j) (bit_at-lt a j) ∙ ap (λ b. differ b (has_bit a j)) (sym (lt-leb k j below)))
-      | inr above ↦
-          ap (λ n. (bit_at a j + n) % 2 == 1) (ap (λ m. bit_at m j) is ∙ bit_at_mask_inside k 64 j above hj)
-          ∙ (turned_of (bit_at a j) (bit_at-lt a j) ∙ ap (λ b. differ b (has_bit a j)) (sym (le-leb k j above)))
-    ])
-
-pub has_bit-ones : (j : ℕ) → j < 64 → has_bit 18446744073709551615 j ≡ true
-has_bit-ones j hj = ap (λ n. n == 1) (bit_at_ones 64 j hj)
-
-pub has_bit-zero : (j : ℕ) → has_bit 0 j ≡ false
-has_bit-zero j = ap (λ n. n == 1) (bit_at-zero j)
 
 -- A word that has no bit up to a place has more zeros at its end.
 pub zeros_more : (n k : ℕ) → n < 2 ^ 64 → k < 64 → ((j : ℕ) → j ≤ k → has_bit n j ≡ false) → k < trailing_zeros w64 n
@@ -95,3 +66,34 @@ has_bit-before n j some fits lt = ap (λ b. b == 1) ((bit_at-trailing_zeros w64 
 
 pub has_bit-first : (n : ℕ) → 0 < n → n < 2 ^ 64 → has_bit n (trailing_zeros w64 n) ≡ true
 has_bit-first n some fits = ap (λ b. b == 1) (bit_at-trailing_zeros w64 n some fits).1
+
+-- a bit of a word that is made of two by masks
+masked : (way : Way) (lower upper : Bool) → (combined way true true && (lower && upper) || combined way true false && (lower && not upper) || combined way false true && (upper && not lower)) ≡ combined way lower upper
+masked Join true true = refl
+masked Join true false = refl
+masked Join false true = refl
+masked Join false false = refl
+masked Remove true true = refl
+masked Remove true false = refl
+masked Remove false true = refl
+masked Remove false false = refl
+masked Retain true true = refl
+masked Retain true false = refl
+masked Retain false true = refl
+masked Retain false false = refl
+masked RemoveFrom true true = refl
+masked RemoveFrom true false = refl
+masked RemoveFrom false true = refl
+masked RemoveFrom false false = refl
+
+pub has_bit-masked : (way : Way) (masks : Masks) (a b j : ℕ) → AreMasks way masks → a < 2 ^ 64 → b < 2 ^ 64 → j < 64 →
+    has_bit (bit_or (bit_or (bit_and masks.both (bit_and a b)) (bit_and masks.lower (bit_and a (18446744073709551615 - b)))) (bit_and masks.upper (bit_and b (18446744073709551615 - a)))) j ≡ combined way (has_bit a j) (has_bit b j)
+has_bit-masked way masks a b j are ha hb hj =
+    has_bit-or (bit_or (bit_and masks.both (bit_and a b)) (bit_and masks.lower (bit_and a (18446744073709551615 - b)))) (bit_and masks.upper (bit_and b (18446744073709551615 - a))) j
+    ∙ (ap₂ (λ x y. x || y)
+    (has_bit-or (bit_and masks.both (bit_and a b)) (bit_and masks.lower (bit_and a (18446744073709551615 - b))) j
+    ∙ ap₂ (λ x y. x || y)
+    (has_bit-and masks.both (bit_and a b) j ∙ ap₂ (λ x y. x && y) (are.both j hj) (has_bit-and a b j))
+    (has_bit-and masks.lower (bit_and a (18446744073709551615 - b)) j ∙ ap₂ (λ x y. x && y) (are.lower j hj) (has_bit-and_not a b j hb hj)))
+    (has_bit-and masks.upper (bit_and b (18446744073709551615 - a)) j ∙ ap₂ (λ x y. x && y) (are.upper j hj) (has_bit-and_not b a j ha hj))
+    ∙ masked way (has_bit a j) (has_bit b j))

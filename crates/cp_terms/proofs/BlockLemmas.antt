@@ -4,9 +4,9 @@ use Rattle.std.specs.List.{slice_index}
 use Rattle.std.proofs.lemmas.Bool.{cases_lt}
 use Rattle.std.proofs.lemmas.List.{get_or-replicate, get_or-set_same, get_or-set_other, length-set, take_all, take_more, take_more_set}
 use Rattle.std.proofs.lemmas.Grind.{common_steps}
-use Rattle.cp_terms.proofs.BitLemmas.{has_bit-zero}
+use Rattle.cp_invlist.specs.WordLaws.{has_bit-zero}
 use Rattle.cp_terms.specs.declared.block.Block.{Block}
-use Rattle.cp_terms.specs.Words.{has_bit}
+use Rattle.cp_invlist.specs.Words.{has_bit}
 use Rattle.cp_terms.specs.Blocks.{block_has, block_marks, block_holds}
 
 -- a block on top of others

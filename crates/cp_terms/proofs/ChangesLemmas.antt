@@ -1,5 +1,5 @@
 -- What changes tell of members.
-use Rattle.std.proofs.Common.{◌≡◌, ℕ, ◌+◌, ◌-◌, ◌<◌, ◌≤◌, Bool, true, false, not, ◌&&◌, nat_le, List, [], ◌∷◌, ◌++◌, map, Bor, refl, sym, ap, ap₂, ◌∙◌, arith, subst, inl, inr}
+use Rattle.std.proofs.Common.{◌≡◌, ℕ, ◌+◌, ◌-◌, ◌*◌, ◌/◌, ◌%◌, ◌<◌, ◌≤◌, Bool, true, false, not, ◌&&◌, nat_le, List, [], ◌∷◌, ◌++◌, map, Bor, refl, sym, ap, ap₂, ◌∙◌, arith, subst, inl, inr}
 use Rattle.std.proofs.Math.Bool.{beq}
 use Rattle.std.proofs.lemmas.Bool.{cases_lt, le-leb, lt-leb}
 use Rattle.std.proofs.lemmas.List.Elements.{All-append, All-cons, All-nil}
@@ -9,8 +9,10 @@ use Rattle.cp_invlist.specs.ListLaws.{ascends_from-cons, ascends_from-append, co
 use Rattle.cp_invlist.specs.CutLaws.{differ-false}
 use Rattle.cp_terms.specs.declared.step.Step.{Step}
 use Rattle.cp_terms.specs.Terms.{value_of, holds_at}
-use Rattle.cp_terms.specs.Words.{has_bit}
-use Rattle.cp_terms.proofs.BitLemmas.{has_bit-zero}
+use Rattle.cp_invlist.specs.Words.{has_bit}
+use Rattle.cp_invlist.specs.WordLaws.{has_bit-zero}
+use Rattle.cp_terms.specs.declared.block.Block.{Block}
+use Rattle.cp_terms.specs.Blocks.{block_has}
 use Rattle.cp_terms.specs.Changes.{AreBefore, TellBelow, IsConstant, members_of}
 
 -- the list goes on ascending
@@ -41,6 +43,14 @@ tell_kept m place end inside xs before is tell constant = record {
     | inr behind ↦ contains-behind place c xs before (omega arith) ∙ (is ∙ sym (constant c behind lt))
   ];
 }
+
+-- on a block that has all or none nothing changes
+pub constant_of_block : (m : ℕ → Bool) (place : ℕ) (inside : Bool) (block : Block) → ((i j : ℕ) → i < 16 → j < 64 → m (place + 64 * i + j) ≡ block_has block i j) → ((i j : ℕ) → i < 16 → j < 64 → block_has block i j ≡ inside) → IsConstant m place (place + 1024) inside
+constant_of_block m place inside block bits all c le lt =
+    let i = (c - place) / 64 in
+    let j = (c - place) % 64 in
+    let is : c ≡ place + 64 * i + j = omega arith in
+    ap m is ∙ (bits i j (omega arith) (omega arith) ∙ all i j (omega arith) (omega arith))
 
 -- more changes from the place on
 pub contains-more : (place c : ℕ) (xs ys : List ℕ) → AreBefore place xs → contains ys c ≡ false → contains (xs ++ ys) c ≡ contains xs c

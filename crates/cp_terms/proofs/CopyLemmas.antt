@@ -8,8 +8,8 @@ use Rattle.std.proofs.lemmas.List.Elements.{All-append, All-take}
 use Rattle.cp_invlist.specs.InversionList.{contains, differ, ascends_from, has_even_length}
 use Rattle.cp_invlist.specs.ListLaws.{ascends_from-append, ascends_from-raise, contains-below, contains-all_above, contains-append, contains-all_at_most}
 use Rattle.cp_invlist.specs.CutLaws.{differ-false, odd_length}
-use Rattle.cp_terms.specs.declared.windows.Window.{Window}
-use Rattle.cp_terms.specs.Windows.{IsWindow, AreLeftBefore, is_inside}
+use Rattle.cp_invlist.specs.declared.window.Window.{Window}
+use Rattle.cp_invlist.specs.Windows.{IsWindow, AreLeftBefore, is_inside}
 use Rattle.cp_terms.specs.Changes.{AreBefore, TellBelow}
 use Rattle.cp_terms.proofs.WindowLemmas.{IsAhead}
 use Rattle.cp_terms.proofs.ChangesLemmas.{before_later, contains-behind}

@@ -5,7 +5,7 @@ use Rattle.std.proofs.lemmas.Option.{slice_get_within, slice_get_cases, slice_ge
 use Rattle.std.proofs.lemmas.Bool.{le-leb}
 use Rattle.cp_invlist.specs.InversionList.{differ}
 use Rattle.cp_invlist.specs.declared.set.CodePointInversionList.{CodePointInversionList}
-use Rattle.cp_terms.specs.declared.windows.Window.{Window}
+use Rattle.cp_invlist.specs.declared.window.Window.{Window}
 use Rattle.cp_terms.specs.declared.step.Step.{Step}
 use Rattle.cp_terms.specs.declared.shorten.Shortened.{Shortened}
 use Rattle.cp_terms.specs.Terms.{steps_done, top, value_of, holds_at}

@@ -2,7 +2,7 @@
 use Rattle.std.specs.Prelude.{◌≡◌, ℕ, ◌+◌, ◌*◌, ◌<◌, Bool, false, List, [], ◌∷◌, map, reverse, zero, suc, slice_index}
 use Rattle.cp_invlist.specs.InversionList.{contains}
 use Rattle.cp_terms.specs.declared.block.Block.{Block}
-use Rattle.cp_terms.specs.Words.{has_bit}
+use Rattle.cp_invlist.specs.Words.{has_bit}
 
 -- the word with the first index has the bit with the second
 abbrev pub block_has : Block → ℕ → ℕ → Bool

@@ -1,8 +1,8 @@
 pub mod Terms
-pub mod Words
 pub mod Blocks
 pub mod Windows
 pub mod Shorten
 pub mod Changes
 pub mod ShortenParts
 pub mod Outcome
+pub mod Masks

@@ -4,9 +4,9 @@ use Rattle.cp_terms.specs.declared.step.Step.{Step}
 use Rattle.cp_terms.specs.declared.shorten.Part.{Part}
 use Rattle.cp_terms.specs.declared.shorten.Part.TheVariants.{Empty, Full, Mixed}
 use Rattle.cp_terms.specs.declared.shorten.Shortened.{Shortened}
-use Rattle.cp_terms.specs.declared.windows.Window.{Window}
+use Rattle.cp_invlist.specs.declared.window.Window.{Window}
 use Rattle.cp_terms.specs.Terms.{steps_done}
-use Rattle.cp_terms.specs.Windows.{is_inside}
+use Rattle.cp_invlist.specs.Windows.{is_inside}
 
 -- a set that doesn't change before the end has the member as its window says, one that does as the second valuation says
 abbrev pub AgreesAt : Option Window → ℕ → Bool → Bool → Type 0

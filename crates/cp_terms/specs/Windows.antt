@@ -1,29 +1,12 @@
 -- What is known of sets from a place on.
-use Rattle.std.specs.Prelude.{◌≡◌, ℕ, ◌<◌, ◌≤◌, ◌%◌, ◌==◌, Bool, true, List, ◌++◌, All, take, drop, length, Some, slice_get}
+use Rattle.std.specs.Prelude.{◌≡◌, ℕ, ◌<◌, Bool, List, Some, slice_get}
 use Rattle.std.specs.Borrow.{Bor}
-use Rattle.cp_invlist.specs.InversionList.{contains, ascends_from}
+use Rattle.cp_invlist.specs.InversionList.{contains}
 use Rattle.cp_invlist.specs.declared.set.CodePointInversionList.{CodePointInversionList}
-use Rattle.cp_terms.specs.declared.windows.Window.{Window}
+use Rattle.cp_invlist.specs.Windows.{IsWindow}
+use Rattle.cp_invlist.specs.declared.window.Window.{Window}
 use Rattle.cp_terms.specs.declared.block.Block.{Block}
 use Rattle.cp_terms.specs.Blocks.{IsBlock}
-
--- the elements that are counted are at most the place, and the others at least the next
-pub record IsWindow (xs : List ℕ) (place : ℕ) (window : Window) : Type 0 where
-  pub within : window.taken ≤ length xs
-  pub before : All (λ x. x ≤ place) (take window.taken xs)
-  pub behind : All (λ x. window.next ≤ x) (drop window.taken xs)
-
--- there is an odd number of elements in front
-abbrev pub is_inside : Window → Bool
-is_inside window = window.taken % 2 == 1
-
--- of the elements that are left, these lie before the end, and the others don't
-pub record AreLeftBefore (xs : List ℕ) (taken end : ℕ) (part : List ℕ) : Type 0 where
-  pub ascends : ascends_from 0 part ≡ true
-  pub others : List ℕ
-  pub split : drop taken xs ≡ part ++ others
-  pub before : All (λ x. x < end) part
-  pub behind : All (λ x. end ≤ x) others
 
 -- the set with the index has its window
 abbrev pub HasWindow : List (Bor CodePointInversionList) → ℕ → List Window → ℕ → Type 0

@@ -1,6 +1,8 @@
 //! Blocks of words: which of 1,024 code points are members.
+use crate::masks::Masks;
 use crate::step::Way;
 use crate::word::complement;
+use cp_invlist::words::filled;
 
 /// Sixteen words, whose bits say which of 64 code points each are members.
 #[derive(Clone, Copy)]
@@ -10,6 +12,7 @@ pub(crate) struct Block {
 
 impl Block {
     ghost use Rattle.std.specs.Prelude.{◌≡◌, ℕ, ◌<◌, not};
+    ghost use Rattle.std.specs.Bool.{OnTrue};
     ghost use Rattle.cp_terms.specs.Terms.{combined};
     ghost use Rattle.cp_terms.specs.Blocks.{block_has};
 
@@ -21,9 +24,18 @@ impl Block {
     pub(crate) fn combine(&mut self, way: Way, upper: &Block)
         ensures { (i j : ℕ) → i < 16 → j < 64 → block_has self.new i j ≡ combined way (block_has self.old i j) (block_has upper.now i j) }
     {
+        let masks = Masks::new(way);
         for index in 0..16 {
-            self.words[index] = way.combine_words(self.words[index], upper.words[index]);
+            self.words[index] = masks.combine(self.words[index], upper.words[index]);
         }
+    }
+
+    /// Whether all are members, or with `false` none is.
+    #[inline]
+    pub(crate) fn is_filled(&self, inside: bool) -> bool
+        ensures { OnTrue result ((i j : ℕ) → i < 16 → j < 64 → block_has self.now i j ≡ inside) }
+    {
+        self.words == [filled(inside); 16]
     }
 
     /// Exchanges the members and the others.

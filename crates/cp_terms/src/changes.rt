@@ -1,7 +1,8 @@
 //! The changes of a set that is written in the order of code points.
 use crate::block::Block;
-use crate::word::{difference, first_bit, turned};
+use crate::word::{difference, first_bit};
 use cp_invlist::laws::faultless;
+use cp_invlist::words::turned;
 use cp_invlist::{CodePointInversionList, InversionListError, NoMemory};
 use std::alloc::Global;
 use std::marker::Model;
@@ -27,7 +28,7 @@ impl Model for Changes {
 impl Changes {
     ghost use Rattle.std.specs.Prelude.{◌≡◌, ℕ, ◌+◌, ◌*◌, ◌<◌, ◌≤◌, Bool, true, not, [], ◌∷◌, ◌++◌, IfOk, OnOk};
     ghost use Rattle.cp_invlist.specs.InversionList.{ascends_from, has_even_length};
-    ghost use Rattle.cp_terms.specs.Words.{has_bit};
+    ghost use Rattle.cp_invlist.specs.Words.{has_bit};
     ghost use Rattle.cp_terms.specs.Blocks.{block_has};
     ghost use Rattle.cp_terms.specs.Changes.{AreBefore, TellBelow, IsConstant};
 
@@ -99,7 +100,7 @@ impl Changes {
         Ok(())
     }
 
-    /// Writes the 1,024 code points from the place on.
+    /// Writes the 1,024 code points from the place on. Where nothing changes in them, no word is looked at alone.
     pub(crate) fn write_block(&mut self, block: Block, place: u32) -> Result<(), NoMemory>
         requires place { place + 1024 ≤ 0x11_0000 }
         requires before { AreBefore place self.old }
@@ -108,6 +109,9 @@ impl Changes {
             ((i j : ℕ) → i < 16 → j < 64 → m (place + 64 * i + j) ≡ block_has block i j) →
             TellBelow m (place + 1024) self.new) }
     {
+        if block.is_filled(self.is_inside()) {
+            return Ok(());
+        }
         for index in 0..16u32 {
             self.write(block.words[index as usize], place + 64 * index)?;
         }

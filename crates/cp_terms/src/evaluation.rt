@@ -1,5 +1,5 @@
 //! The set that a term stands for.
-ghost use Rattle.std.specs.Prelude.{◌≡◌, ℕ, ◌+◌, ◌<◌, ◌≤◌, ◌&&◌, Bool, map, length, All, IfOk, OnOk};
+ghost use Rattle.std.specs.Prelude.{◌≡◌, ℕ, ◌+◌, ◌%◌, ◌<◌, ◌≤◌, ◌&&◌, Bool, map, length, All, IfOk, OnOk};
 ghost use Rattle.cp_invlist.specs.InversionList.{contains, is_code_point};
 ghost use Rattle.cp_terms.specs.Terms.{value_of, holds_at};
 ghost use Rattle.cp_terms.specs.Windows.{AreWindows};
@@ -10,8 +10,8 @@ use crate::blocks::evaluate_blocks;
 use crate::changes::Changes;
 use crate::shorten::{Outcome, Shortened};
 use crate::step::Step;
-use crate::windows::{Window, fill_blocks, list_mixed, move_all};
-use cp_invlist::{CodePointInversionList, LAST_CODE_POINT, NoMemory};
+use crate::windows::{fill_blocks, list_mixed, move_all};
+use cp_invlist::{CodePointInversionList, LAST_CODE_POINT, NoMemory, Window};
 use std::alloc::Global;
 
 /// How many code points are looked at with one shortened term: 16 blocks of 16 words of 64 bits.
@@ -51,6 +51,7 @@ fn write_blocks(
     changes: &mut Changes,
 ) -> Result<(), NoMemory>
     requires start { start + 0x4000 ≤ 0x11_0000 }
+    requires aligned { start % 64 ≡ 0 }
     requires windows_each { length windows.old ≡ length sets.now }
     requires blocks_each { length blocks.old ≡ length sets.now }
     requires windows { AreWindows sets.now start windows.old }
@@ -110,6 +111,7 @@ fn write_stretch(
     changes: &mut Changes,
 ) -> Result<(), NoMemory>
     requires start { start + 0x4000 ≤ 0x11_0000 }
+    requires aligned { start % 64 ≡ 0 }
     requires windows_each { length windows.old ≡ length sets.now }
     requires blocks_each { length blocks.old ≡ length sets.now }
     requires windows { AreWindows sets.now start windows.old }

@@ -5,6 +5,7 @@ mod block;
 mod blocks;
 mod changes;
 mod evaluation;
+mod masks;
 mod shorten;
 mod step;
 mod windows;

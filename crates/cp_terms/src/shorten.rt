@@ -1,7 +1,6 @@
 //! Terms without what constant sets decide.
 use crate::step::{Step, Way};
-use crate::windows::Window;
-use cp_invlist::NoMemory;
+use cp_invlist::{NoMemory, Window};
 use std::alloc::Global;
 
 /// A set on the stack, as far as it is known on a stretch of code points.

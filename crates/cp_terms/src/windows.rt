@@ -1,124 +1,34 @@
 //! What is known of sets from a place on, in the order of code points.
-ghost use Rattle.std.specs.Prelude.{◌≡◌, ◌≢◌, ℕ, ◌+◌, ◌<◌, ◌≤◌, length, All, AllPairs, Contains, Some, slice_get, OnOk};
-ghost use Rattle.cp_terms.specs.Words.{has_bit};
+ghost use Rattle.std.specs.Prelude.{◌≡◌, ◌≢◌, ℕ, ◌+◌, ◌%◌, ◌<◌, ◌≤◌, length, All, AllPairs, Contains, Some, slice_get, IfSome, OnOk};
+ghost use Rattle.cp_invlist.specs.Windows.{IsWindow};
+ghost use Rattle.cp_invlist.specs.declared.window.Window.{Window};
+ghost use Rattle.cp_terms.specs.Blocks.{IsBlock};
 ghost use Rattle.cp_terms.specs.Windows.{HasWindow, AreWindows, HasBlock};
-ghost use Rattle.cp_terms.specs.declared.windows.Window.{Window};
 
 use crate::block::Block;
-use crate::word::turned;
-use cp_invlist::{CodePointInversionList, LAST_CODE_POINT, NoMemory};
+use cp_invlist::{CodePointInversionList, NoMemory, Window};
 
-/// What is known of a set from a place on.
-#[derive(Clone, Copy)]
-pub(crate) struct Window {
-    /// How many elements of its list are at most the place.
-    pub(crate) taken: usize,
-    /// The next element: up to it either all code points are members or none is.
-    pub(crate) next: u32,
-}
-
-impl Window {
-    ghost use Rattle.std.specs.Prelude.{◌≡◌, ◌<◌, ◌≤◌, ◌+◌};
-    ghost use Rattle.cp_terms.specs.Words.{IsWord};
-    ghost use Rattle.cp_terms.specs.Blocks.{IsBlock};
-    ghost use Rattle.cp_terms.specs.Windows.{IsWindow, AreLeftBefore, is_inside};
-
-    /// What is known of each set before it is looked at.
-    pub(crate) const UNKNOWN: Window = Window { taken: 0, next: 0 };
-
-    /// Whether the code points up to the next element are members.
-    pub(crate) fn is_inside(self) -> bool
-        ensures { result ≡ is_inside self }
-    {
-        self.taken % 2 == 1
-    }
-
-    /// The window at the place.
-    fn at(set: &CodePointInversionList, place: u32) -> Window
-        requires { place < 0x11_0000 }
-        ensures window { IsWindow set.now place result }
-        ensures ahead { place < result.next }
-    {
-        let elements = set.get_inversion_list();
-        let taken = elements.partition_point(|element| *element <= place);
-        let next = match elements.get(taken) {
-            Some(element) => *element,
-            None => LAST_CODE_POINT + 1,
-        };
-        Window { taken, next }
-    }
-
-    /// The window at a place further on.
-    fn moved(self, set: &CodePointInversionList, place: u32) -> Window
-        requires place { place < 0x11_0000 }
-        requires window { IsWindow set.now place self }
-        ensures window { IsWindow set.now place result }
-        ensures ahead { place < result.next }
-    {
-        if self.next > place {
-            self
-        } else {
-            Window::at(set, place)
-        }
-    }
-
-    /// The elements of the set from the next one on that lie before the end.
-    pub(crate) fn elements_before(self, set: &CodePointInversionList, end: u32) -> &[u32]
-        requires { self.taken ≤ length set.now }
-        ensures { AreLeftBefore set.now self.taken end result.now }
-    {
-        let left = &set.get_inversion_list()[self.taken..];
-        &left[..left.partition_point(|element| *element < end)]
-    }
-
-    /// Which of the 64 code points from the place on are members. The window moves on behind them.
-    fn word(&mut self, set: &CodePointInversionList, place: u32) -> u64
-        requires place { place + 64 ≤ 0x11_0000 }
-        requires window { IsWindow set.now place self.old }
-        requires ahead { place ≤ self.old.next }
-        ensures word { IsWord set.now place result }
-        ensures window { IsWindow set.now (place + 64) self.new }
-        ensures ahead { place + 64 ≤ self.new.next }
-    {
-        let elements = set.get_inversion_list();
-        let mut taken = self.taken;
-        let mut word = filled(self.is_inside());
-        while let Some(element) = elements.get(taken) {
-            let offset = *element - place;
-            if offset >= 64 {
-                let next = *element;
-                *self = Window { taken, next };
-                return word;
-            }
-            word = turned(word, offset);
-            taken += 1;
-        }
-        let next = LAST_CODE_POINT + 1;
-        *self = Window { taken, next };
-        word
-    }
-
-    /// Which of the 1,024 code points from the place on are members. The window moves on behind them.
-    fn block(&mut self, set: &CodePointInversionList, place: u32) -> Block
-        requires place { place + 1024 ≤ 0x11_0000 }
-        requires window { IsWindow set.now place self.old }
-        requires ahead { place ≤ self.old.next }
-        ensures block { IsBlock set.now place result }
-        ensures window { IsWindow set.now (place + 1024) self.new }
-    {
-        let mut words = [0u64; 16];
-        for index in 0..16u32 {
-            words[index as usize] = self.word(set, place + 64 * index);
-        }
-        Block { words }
-    }
-}
-
-/// The word of a set that has all or none.
-fn filled(inside: bool) -> u64
-    ensures { (j : ℕ) → j < 64 → has_bit result j ≡ inside }
+/// Which of the 1,024 code points from the place on are members. The window moves on behind them.
+fn block_at(window: &mut Window, set: &CodePointInversionList, place: u32) -> Block
+    requires place { place + 1024 ≤ 0x11_0000 }
+    requires window { IsWindow set.now place window.old }
+    requires ahead { place ≤ window.old.next }
+    ensures block { IsBlock set.now place result }
+    ensures window { IsWindow set.now (place + 1024) window.new }
 {
-    if inside { u64::MAX } else { 0 }
+    let mut words = [0u64; 16];
+    for index in 0..16u32 {
+        words[index as usize] = window.word(set, place + 64 * index);
+    }
+    Block { words }
+}
+
+/// The words of the same in the index of the set, where it has one.
+fn indexed_words(set: &CodePointInversionList, place: u32) -> Option<&[u64; 16]>
+    requires { place % 64 ≡ 0 }
+    ensures { IfSome result (λ words. IsBlock set.now place (record { words = words.now })) }
+{
+    set.words().get(place as usize / 64..)?.first_chunk::<16>()
 }
 
 /// Moves all windows on to the place.
@@ -163,6 +73,7 @@ fn fill_block(
     place: u32,
 )
     requires place { place + 1024 ≤ 0x11_0000 }
+    requires aligned { place % 64 ≡ 0 }
     requires windows_each { length windows.old ≡ length sets.now }
     requires blocks_each { length blocks.old ≡ length sets.now }
     requires window { HasWindow sets.now place windows.old index }
@@ -173,11 +84,17 @@ fn fill_block(
     ensures block { HasBlock sets.now place blocks.new index }
     ensures other_blocks { (i : ℕ) → HasBlock sets.now place blocks.old i → HasBlock sets.now place blocks.new i }
 {
-    if let Some(set) = sets.get(index) {
-        let mut window = windows[index].moved(set, place);
-        blocks[index] = window.block(set, place);
-        windows[index] = window;
+    let Some(set) = sets.get(index) else {
+        return;
+    };
+    // Where the set has an index its window may stay behind: it is moved on with the others.
+    if let Some(words) = indexed_words(set, place) {
+        blocks[index] = Block { words: *words };
+        return;
     }
+    let mut window = windows[index].moved(set, place);
+    blocks[index] = block_at(&mut window, set, place);
+    windows[index] = window;
 }
 
 /// Makes the blocks of the sets with these indices at the place, and moves their windows on behind them.
@@ -189,6 +106,7 @@ pub(crate) fn fill_blocks(
     place: u32,
 )
     requires place { place + 1024 ≤ 0x11_0000 }
+    requires aligned { place % 64 ≡ 0 }
     requires ascending { AllPairs (λ i j. i < j) mixed.now }
     requires windows_each { length windows.old ≡ length sets.now }
     requires blocks_each { length blocks.old ≡ length sets.now }

@@ -1,8 +1,8 @@
 //! Words, whose bits say which of 64 code points are members.
-ghost use Rattle.std.specs.Prelude.{◌≡◌, ℕ, ◌<◌, true, false, not, nat_le};
+ghost use Rattle.std.specs.Prelude.{◌≡◌, ℕ, ◌<◌, true, false, not};
 ghost use Rattle.std.specs.Int.{trailing_zeros, w64};
 ghost use Rattle.cp_invlist.specs.InversionList.{differ};
-ghost use Rattle.cp_terms.specs.Words.{has_bit};
+ghost use Rattle.cp_invlist.specs.Words.{has_bit};
 
 /// The bits that the word lacks.
 #[inline]
@@ -17,14 +17,6 @@ pub(crate) fn difference(word: u64, inside: bool) -> u64
     ensures { (j : ℕ) → j < 64 → has_bit result j ≡ differ inside (has_bit word j) }
 {
     if inside { complement(word) } else { word }
-}
-
-/// The word with the bits from the offset on exchanged for their opposites.
-pub(crate) fn turned(word: u64, offset: u32) -> u64
-    requires { offset < 64 }
-    ensures { (j : ℕ) → j < 64 → has_bit result j ≡ differ (nat_le offset j) (has_bit word j) }
-{
-    word ^ (u64::MAX << offset)
 }
 
 /// The first bit that the word has.

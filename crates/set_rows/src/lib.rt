@@ -9,6 +9,8 @@ mod counted;
 #[cfg(test)]
 mod fixtures;
 #[cfg(test)]
+mod indexed;
+#[cfg(test)]
 mod lists;
 #[cfg(test)]
 mod strings;

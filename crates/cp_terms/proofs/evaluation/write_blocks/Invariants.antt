@@ -1,6 +1,6 @@
 use Rattle.std.proofs.Common.{◌≡◌, ℕ, ◌+◌, ◌*◌, ◌<◌, Bool, AllPairs, Some, Contains, length}
 use Rattle.std.specs.List.{slice_get}
-use Rattle.cp_terms.specs.declared.windows.Window.{Window}
+use Rattle.cp_invlist.specs.declared.window.Window.{Window}
 use Rattle.cp_terms.specs.Windows.{AreWindows}
 use Rattle.cp_terms.specs.Changes.{AreBefore, TellBelow, AreMade}
 use Rattle.cp_terms.proofs.evaluation.write_blocks.Given as goal

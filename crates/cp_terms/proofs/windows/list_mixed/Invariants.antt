@@ -1,6 +1,6 @@
 use Rattle.std.proofs.Common.{◌≡◌, ℕ, ◌<◌, All, AllPairs, Some, Contains}
 use Rattle.std.specs.List.{slice_get}
-use Rattle.cp_terms.specs.declared.windows.Window.{Window}
+use Rattle.cp_invlist.specs.declared.window.Window.{Window}
 use Rattle.cp_terms.proofs.windows.list_mixed.Given as goal
 
 abbrev pub invariant-loop-index : goal.invariant-loop-index

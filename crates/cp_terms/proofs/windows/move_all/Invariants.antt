@@ -1,6 +1,6 @@
 use Rattle.std.proofs.Common.{◌≡◌, ◌<◌, length}
 use Rattle.std.specs.List.{AllWithin}
-use Rattle.cp_terms.specs.declared.windows.Window.{Window}
+use Rattle.cp_invlist.specs.declared.window.Window.{Window}
 use Rattle.cp_terms.specs.Windows.{AreWindows}
 use Rattle.cp_terms.proofs.windows.move_all.Given as goal
 

@@ -8,7 +8,7 @@ pub returns-clause-maximal : goal.returns-clause-maximal
 returns-clause-maximal c =
     let xs = c.self.inside.elements.items in
     subst (λ (ys : List ℕ). AreMaximalRanges (contains ys) c.new.result) c.self.view_is
-    (rw (c.new.ensures, c.deref.ensures.value) (AreMaximalRanges-ranges_of xs c.self.invariant))
+    (rw (c.new.ensures, c.deref.ensures.value) (AreMaximalRanges-ranges_of xs c.self.invariant.list))
 
 pub returns-clause-only : goal.returns-clause-only
 returns-clause-only c = λ rs h.

@@ -18,9 +18,9 @@ loop-range-init c =
     record {
       can_next = tt;
       is_finite = tt;
-      ordered = rw e (ranges_of-ordered 0 xs (IsInversionList-parts xs c.self.invariant).0);
+      ordered = rw e (ranges_of-ordered 0 xs (IsInversionList-parts xs c.self.invariant.list).0);
       counted = omega arith;
-      bound = rw e (sum_by-ranges_of-bound xs c.self.invariant);
+      bound = rw e (sum_by-ranges_of-bound xs c.self.invariant.list);
     }
 
 pub loop-range-preserved : goal.loop-range-preserved
@@ -43,10 +43,10 @@ whole c =
 pub returns-clause-counted : goal.returns-clause-counted
 returns-clause-counted c =
     let xs = c.self.inside.elements.items in
-    whole c ∙ sum_by-ranges_of xs 0x11_0000 (omega arith) c.self.invariant ∙ ap (λ l. count_members (contains l) 0x11_0000) c.self.view_is
+    whole c ∙ sum_by-ranges_of xs 0x11_0000 (omega arith) c.self.invariant.list ∙ ap (λ l. count_members (contains l) 0x11_0000) c.self.view_is
 
 pub returns-clause-summed : goal.returns-clause-summed
 returns-clause-summed c = λ rs h.
     let xs = c.self.inside.elements.items in
     let of_list : AreMaximalRanges (contains xs) rs = subst (λ (l : List ℕ). AreMaximalRanges (contains l) rs) (sym c.self.view_is) h in
-    whole c ∙ ap (sum_by range_size) (AreRangesFrom-unique (contains xs) 0 _ rs (AreMaximalRanges-ranges_of xs c.self.invariant) of_list)
+    whole c ∙ ap (sum_by range_size) (AreRangesFrom-unique (contains xs) 0 _ rs (AreMaximalRanges-ranges_of xs c.self.invariant.list) of_list)

@@ -12,5 +12,5 @@ returns-clause-members c =
     let decides = slice_eq-Decides Decides-eqb xs ys c.eq.result c.eq.ensures in
     rw (← c.self.view_is, ← c.other.view_is) (
       λ t d. ap (λ l. contains l d) (decides.0 t),
-      λ same. decides.1 (same_members-same_lists xs ys c.self.invariant c.other.invariant same),
+      λ same. decides.1 (same_members-same_lists xs ys c.self.invariant.list c.other.invariant.list same),
     )

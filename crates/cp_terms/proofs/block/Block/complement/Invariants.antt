@@ -1,6 +1,6 @@
 use Rattle.std.proofs.Common.{◌≡◌, ℕ, ◌<◌, ◌≤◌, not, length}
 use Rattle.std.specs.List.{slice_index}
-use Rattle.cp_terms.specs.Words.{has_bit}
+use Rattle.cp_invlist.specs.Words.{has_bit}
 use Rattle.cp_terms.specs.Blocks.{block_has}
 use Rattle.cp_terms.proofs.block.Block.complement.Given as goal
 

@@ -1,9 +1,9 @@
 use Rattle.std.proofs.Common.{◌≡◌, ◌<◌, length, get_or, Some, refl, ◌∙◌, arith, subst, List, ℕ}
 use Rattle.std.specs.List.{slice_get}
 use Rattle.std.proofs.lemmas.Option.{slice_get_read}
-use Rattle.cp_terms.proofs.WindowLemmas.{IsRead, turned_none, turned_least, turned_more, turned_before}
-use Rattle.cp_terms.proofs.windows.Window.word.Goals as goal
-use Rattle.cp_terms.proofs.windows.Window.word.Goals.{Then-offset-ge64}
+use Rattle.cp_invlist.proofs.WindowLemmas.{IsRead, turned_none, turned_least, turned_more, turned_before}
+use Rattle.cp_invlist.proofs.window.Window.word.Goals as goal
+use Rattle.cp_invlist.proofs.window.Window.word.Goals.{Then-offset-ge64}
 
 pub loop-element-init : goal.loop-element-init
 loop-element-init c = turned_none c.args.set.now c.args.place c.filled-word.result c.args.self.now c.requires.window c.requires.ahead (λ j h. c.filled-word.ensures j h ∙ c.is_inside.ensures)

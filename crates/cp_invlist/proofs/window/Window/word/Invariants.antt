@@ -1,6 +1,6 @@
 use Rattle.std.proofs.Common.{◌-◌, length}
-use Rattle.cp_terms.proofs.WindowLemmas.{IsTurned}
-use Rattle.cp_terms.proofs.windows.Window.word.Given as goal
+use Rattle.cp_invlist.proofs.WindowLemmas.{IsTurned}
+use Rattle.cp_invlist.proofs.window.Window.word.Given as goal
 
 abbrev pub invariant-loop-element : goal.invariant-loop-element
 invariant-loop-element l = IsTurned l.set l.place l.taken l.word

@@ -4,8 +4,8 @@ use Rattle.std.proofs.lemmas.List.{take-append-drop}
 use Rattle.cp_invlist.specs.InversionList.{ascends_from}
 use Rattle.cp_invlist.specs.ListLaws.{IsInversionList-parts, ascends_from-drop, ascends_from-take}
 use Rattle.cp_invlist.specs.CutLaws.{partitioned_below, CutBefore-from}
-use Rattle.cp_terms.proofs.WindowLemmas.{rest_of}
-use Rattle.cp_terms.proofs.windows.Window.elements_before.Goals as goal
+use Rattle.cp_invlist.proofs.WindowLemmas.{rest_of}
+use Rattle.cp_invlist.proofs.window.Window.elements_before.Goals as goal
 
 pub returns : goal.returns
 returns c =

@@ -4,8 +4,8 @@ use Rattle.std.proofs.lemmas.Option.{slice_get_read}
 use Rattle.cp_invlist.specs.InversionList.{ascends_from}
 use Rattle.cp_invlist.specs.ListLaws.{IsInversionList-parts}
 use Rattle.cp_invlist.specs.CutLaws.{partitioned_at_most, CutAfter-from}
-use Rattle.cp_terms.proofs.WindowLemmas.{window_at, window_behind}
-use Rattle.cp_terms.proofs.windows.Window.at.Goals as goal
+use Rattle.cp_invlist.proofs.WindowLemmas.{window_at, window_behind}
+use Rattle.cp_invlist.proofs.window.Window.at.Goals as goal
 
 pub returns-in-Some-clause-window : goal.returns-in-Some-clause-window
 returns-in-Some-clause-window c =

@@ -1,9 +1,9 @@
 use Rattle.std.proofs.Common.{◌+◌, ◌*◌, ◌∙◌, arith}
 use Rattle.std.proofs.lemmas.List.{length-set}
-use Rattle.cp_terms.specs.Words.{IsWord}
+use Rattle.cp_invlist.specs.Words.{IsWord}
 use Rattle.cp_terms.proofs.BlockLemmas.{words_more}
-use Rattle.cp_terms.proofs.WindowLemmas.{window_later}
-use Rattle.cp_terms.proofs.windows.Window.block.Goals as goal
+use Rattle.cp_invlist.specs.WindowLaws.{window_later}
+use Rattle.cp_terms.proofs.windows.block_at.Goals as goal
 
 pub loop-index-preserved : goal.loop-index-preserved
 loop-index-preserved c =
@@ -16,4 +16,4 @@ loop-index-preserved c =
     }
 
 pub returns-clause-window : goal.returns-clause-window
-returns-clause-window c = window_later c.args.set.now (c.args.place + 64 * c.loop-index.index) (c.args.place + 1024) c.loop-index.self (omega arith) c.loop-index.invariant.window
+returns-clause-window c = window_later c.args.set.now (c.args.place + 64 * c.loop-index.index) (c.args.place + 1024) c.loop-index.window (omega arith) c.loop-index.invariant.window

@@ -1,0 +1,37 @@
+-- What operations on words do to their bits.
+use Rattle.std.proofs.Common.{◌≡◌, ℕ, zero, suc, ◌+◌, ◌*◌, ◌-◌, ◌^◌, ◌%◌, ◌<◌, true, not, ◌==◌, nat_le, refl, sym, ap, ◌∙◌, arith, inl, inr}
+use Rattle.std.specs.Int.{bit_at}
+use Rattle.std.specs.Int.RustNames.{bit_xor}
+use Rattle.std.proofs.lemmas.Bool.{cases_lt, le-leb, lt-leb}
+use Rattle.std.proofs.lemmas.Nat.Bits.{bit_at_xor, bit_at_ones, bit_at-lt, bit_at_mask_inside, bit_at_mask_below, ones_shl}
+use Rattle.cp_invlist.specs.InversionList.{differ}
+use Rattle.cp_invlist.specs.Words.{has_bit}
+
+turned_of : (x : ℕ) → x < 2 → ((x + 1) % 2 == 1) ≡ not (x == 1)
+turned_of zero hx = refl
+turned_of (suc zero) hx = refl
+turned_of (suc (suc x)) hx = absurd (omega arith)
+
+kept_of : (x : ℕ) → x < 2 → ((x + 0) % 2 == 1) ≡ (x == 1)
+kept_of zero hx = refl
+kept_of (suc zero) hx = refl
+kept_of (suc (suc x)) hx = absurd (omega arith)
+
+-- a word of ones from the bit k on turns the bits from there on
+pub has_bit-turned : (a k j : ℕ) → k < 64 → j < 64 →
+    has_bit (bit_xor a (18446744073709551615 * 2 ^ k % 18446744073709551616)) j ≡ differ (nat_le k j) (has_bit a j)
+has_bit-turned a k j hk hj =
+    let mask = 18446744073709551615 * 2 ^ k % 18446744073709551616 in
+    let is : mask ≡ 2 ^ 64 - 2 ^ k = ones_shl 64 k (omega arith) in
+    ap (λ n. n == 1) (bit_at_xor a mask j)
+    ∙ (elim (cases_lt j k) [
+      | inl below ↦
+          ap (λ n. (bit_at a j + n) % 2 == 1) (ap (λ m. bit_at m j) is ∙ bit_at_mask_below k 64 j below)
+          ∙ (kept_of (bit_at a j) (bit_at-lt a j) ∙ ap (λ b. differ b (has_bit a j)) (sym (lt-leb k j below)))
+      | inr above ↦
+          ap (λ n. (bit_at a j + n) % 2 == 1) (ap (λ m. bit_at m j) is ∙ bit_at_mask_inside k 64 j above hj)
+          ∙ (turned_of (bit_at a j) (bit_at-lt a j) ∙ ap (λ b. differ b (has_bit a j)) (sym (le-leb k j above)))
+    ])
+
+pub has_bit-ones : (j : ℕ) → j < 64 → has_bit 18446744073709551615 j ≡ true
+has_bit-ones j hj = ap (λ n. n == 1) (bit_at_ones 64 j hj)

@@ -1,0 +1,89 @@
+//! Sets with an index.
+use crate::fixtures::assert_equal;
+use cp_invlist::{CodePointInversionList, CodePointInversionListBuilder, NoMemory};
+use cp_strset::CodePointInversionListAndStringList;
+use std::alloc::Global;
+
+/// A set of so many ranges, one code point in three, from the place on.
+fn apart(alloc: Global, place: u32, count: u32) -> Result<CodePointInversionList, NoMemory> {
+    let mut builder = CodePointInversionListBuilder::new(alloc);
+    for index in 0..count {
+        builder.add32(place.saturating_add(index.saturating_mul(3)))?;
+    }
+    Ok(builder.build())
+}
+
+/// The first number that is a member of one set alone, up to some past the last code point.
+fn first_difference(
+    first: &CodePointInversionList,
+    second: &CodePointInversionList,
+) -> Option<u32> {
+    (0..0x11_0100).find(|number| first.contains32(*number) != second.contains32(*number))
+}
+
+/// What a set has once it was asked for an index.
+#[derive(PartialEq, Debug, Drop)]
+struct Indexed {
+    /// How many words there are.
+    words: usize,
+    /// The first number that only the set or its list has.
+    difference: Option<u32>,
+    /// Whether the set is as it was.
+    is_same: bool,
+}
+
+fn by_index(alloc: Global, place: u32, count: u32) -> Result<Indexed, NoMemory> {
+    let plain = apart(alloc, place, count)?;
+    let mut set = plain.copy(alloc)?;
+    set.index(alloc)?;
+    Ok(Indexed {
+        words: set.words().len(),
+        difference: first_difference(&set, &plain),
+        is_same: set == plain,
+    })
+}
+
+/// Where the first range of a set is, how many ranges it has, and how many words its index.
+const SIZES: &[(u32, u32, usize)] = &[
+    (0, 0, 0),
+    (0x61, 1, 0),
+    (0, 16_383, 0),
+    (0, 16_384, 17_408),
+    // The last range is the last code point.
+    (0x10_FFFF - 3 * 19_999, 20_000, 17_408),
+];
+
+#[test]
+fn an_index_tells_the_members_of_the_list(rt: HostRuntime) {
+    for (place, count, words) in SIZES {
+        let expected = Indexed {
+            words: *words,
+            difference: None,
+            is_same: true,
+        };
+        assert_equal(&rt, by_index(rt.alloc(), *place, *count), Ok(expected));
+    }
+}
+
+/// How many words the index of a set with strings has, and whether its code points are as they were.
+fn indexed_with_strings(alloc: Global, count: u32) -> Result<(usize, bool), NoMemory> {
+    let plain = apart(alloc, 0, count)?;
+    let strings = Vec::new(alloc);
+    let Ok(mut set) = CodePointInversionListAndStringList::try_from(plain.copy(alloc)?, strings)
+    else {
+        return Ok((0, false));
+    };
+    set.index(alloc)?;
+    Ok((set.code_points().words().len(), *set.code_points() == plain))
+}
+
+#[test]
+fn a_set_with_strings_has_the_index_of_its_code_points(rt: HostRuntime) {
+    for (count, words) in [(1, 0), (16_384, 17_408)] {
+        assert_equal(
+            &rt,
+            indexed_with_strings(rt.alloc(), count),
+            Ok((words, true)),
+        );
+    }
+}
