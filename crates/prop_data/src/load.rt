@@ -81,7 +81,7 @@ impl OpenTable {
         ensures { OnOk result (TakesFinished self database.old database.new) }
     {
         match self {
-            OpenTable::Set(open) => open.finish(database),
+            OpenTable::Set(open) => open.finish(alloc, database),
             OpenTable::Map(open) => open.finish(alloc, database),
             OpenTable::Names(open) => open.finish(alloc, database),
             OpenTable::Texts(open) => open.finish(database),

@@ -92,18 +92,19 @@ impl<'a> Resolver<'a> {
         }
     }
 
-    /// Keeps the list of these code points.
+    /// Keeps the list of these code points, with an index where it has many ranges.
     fn keep(
         &mut self,
         alloc: Global,
         origin: Origin,
-        list: CodePointInversionList,
+        mut list: CodePointInversionList,
     ) -> Result<Source<'a>, NoMemory>
         requires { HasSource list (of_origin (tables_of self.old) origin) }
         ensures list { IfOk result (λ source. list_in source ≡ list) }
         ensures same { self.new ≡ self.old }
     {
         let ranges = list.get_inversion_list().len() / 2;
+        list.index(alloc)?;
         let list = Rc::new(alloc, list)?;
         self.made.insert(origin, list.clone()?)?;
         self.ranges = self.ranges.saturating_add(ranges);

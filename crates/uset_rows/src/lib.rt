@@ -27,6 +27,8 @@ mod guide;
 #[cfg(test)]
 mod huge;
 #[cfg(test)]
+mod indexed;
+#[cfg(test)]
 mod patterns;
 #[cfg(test)]
 mod properties;

@@ -95,7 +95,8 @@ fn answer_set(
     ensures same { resolver.new ≡ resolver.old }
 {
     match parse_whole_with_resolver(alloc, source, variables, resolver) {
-        Ok(WholeSource::Pattern(set)) => {
+        Ok(WholeSource::Pattern(mut set)) => {
+            set.index(alloc)?;
             answer_value(alloc, name, VariableValue::UnicodeSet(set), variables)
         }
         Ok(WholeSource::TextBehind(length)) => answer_text_after(alloc, length),

@@ -59,10 +59,16 @@ impl OpenSet {
         Ok(())
     }
 
-    /// Moves the set into the database.
-    pub(crate) fn finish(self, database: &mut PropertyDatabase) -> Result<(), NoMemory>
+    /// Moves the set into the database, with an index where it has many ranges.
+    pub(crate) fn finish(
+        self,
+        alloc: Global,
+        database: &mut PropertyDatabase,
+    ) -> Result<(), NoMemory>
         ensures { OnOk result (TakesFinished (OpenTable.Set self) database.old database.new) }
     {
-        database.insert_set(self.table, self.builder.build())
+        let mut set = self.builder.build();
+        set.index(alloc)?;
+        database.insert_set(self.table, set)
     }
 }
