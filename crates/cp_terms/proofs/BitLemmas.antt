@@ -1,15 +1,10 @@
 -- What operations on words do to their bits.
-use Rattle.std.proofs.Common.{◌≡◌, ℕ, zero, suc, ◌-◌, ◌^◌, ◌≤◌, ◌<◌, max, min, true, false, not, ◌&&◌, ◌||◌, ◌==◌, Bool, refl, ap, ap₂, ◌∙◌, arith, bit_and, bit_or, inl, inr}
+use Rattle.std.proofs.Common.{◌≡◌, ℕ, zero, suc, ◌-◌, ◌^◌, ◌≤◌, ◌<◌, max, min, true, false, not, ◌&&◌, ◌||◌, ◌==◌, refl, ap, ◌∙◌, arith, bit_and, bit_or, inl, inr}
 use Rattle.std.specs.Int.{bit_at, w64, trailing_zeros}
 use Rattle.std.specs.Int.Count.{trailing_of_zero}
 use Rattle.std.proofs.lemmas.Bool.{cases_lt}
 use Rattle.std.proofs.lemmas.Nat.Bits.{bit_at_and, bit_at_or, bit_at_not, bit_at-lt, bit_at-trailing_zeros}
 use Rattle.cp_invlist.specs.Words.{has_bit}
-use Rattle.cp_terms.specs.declared.masks.Masks.{Masks}
-use Rattle.cp_terms.specs.declared.step.Way.{Way}
-use Rattle.cp_terms.specs.declared.step.Way.TheVariants.{Join, Remove, Retain, RemoveFrom}
-use Rattle.cp_terms.specs.Terms.{combined}
-use Rattle.cp_terms.specs.Masks.{AreMasks}
 
 or_of : (x y : ℕ) → x < 2 → y < 2 → (max x y == 1) ≡ (x == 1 || y == 1)
 or_of zero zero hx hy = refl
@@ -66,34 +61,3 @@ has_bit-before n j some fits lt = ap (λ b. b == 1) ((bit_at-trailing_zeros w64 
 
 pub has_bit-first : (n : ℕ) → 0 < n → n < 2 ^ 64 → has_bit n (trailing_zeros w64 n) ≡ true
 has_bit-first n some fits = ap (λ b. b == 1) (bit_at-trailing_zeros w64 n some fits).1
-
--- a bit of a word that is made of two by masks
-masked : (way : Way) (lower upper : Bool) → (combined way true true && (lower && upper) || combined way true false && (lower && not upper) || combined way false true && (upper && not lower)) ≡ combined way lower upper
-masked Join true true = refl
-masked Join true false = refl
-masked Join false true = refl
-masked Join false false = refl
-masked Remove true true = refl
-masked Remove true false = refl
-masked Remove false true = refl
-masked Remove false false = refl
-masked Retain true true = refl
-masked Retain true false = refl
-masked Retain false true = refl
-masked Retain false false = refl
-masked RemoveFrom true true = refl
-masked RemoveFrom true false = refl
-masked RemoveFrom false true = refl
-masked RemoveFrom false false = refl
-
-pub has_bit-masked : (way : Way) (masks : Masks) (a b j : ℕ) → AreMasks way masks → a < 2 ^ 64 → b < 2 ^ 64 → j < 64 →
-    has_bit (bit_or (bit_or (bit_and masks.both (bit_and a b)) (bit_and masks.lower (bit_and a (18446744073709551615 - b)))) (bit_and masks.upper (bit_and b (18446744073709551615 - a)))) j ≡ combined way (has_bit a j) (has_bit b j)
-has_bit-masked way masks a b j are ha hb hj =
-    has_bit-or (bit_or (bit_and masks.both (bit_and a b)) (bit_and masks.lower (bit_and a (18446744073709551615 - b)))) (bit_and masks.upper (bit_and b (18446744073709551615 - a))) j
-    ∙ (ap₂ (λ x y. x || y)
-    (has_bit-or (bit_and masks.both (bit_and a b)) (bit_and masks.lower (bit_and a (18446744073709551615 - b))) j
-    ∙ ap₂ (λ x y. x || y)
-    (has_bit-and masks.both (bit_and a b) j ∙ ap₂ (λ x y. x && y) (are.both j hj) (has_bit-and a b j))
-    (has_bit-and masks.lower (bit_and a (18446744073709551615 - b)) j ∙ ap₂ (λ x y. x && y) (are.lower j hj) (has_bit-and_not a b j hb hj)))
-    (has_bit-and masks.upper (bit_and b (18446744073709551615 - a)) j ∙ ap₂ (λ x y. x && y) (are.upper j hj) (has_bit-and_not b a j ha hj))
-    ∙ masked way (has_bit a j) (has_bit b j))

@@ -5,4 +5,3 @@ pub mod Shorten
 pub mod Changes
 pub mod ShortenParts
 pub mod Outcome
-pub mod Masks

@@ -1,5 +1,4 @@
 //! Blocks of words: which of 1,024 code points are members.
-use crate::masks::Masks;
 use crate::step::Way;
 use crate::word::complement;
 use cp_invlist::words::filled;
@@ -24,9 +23,8 @@ impl Block {
     pub(crate) fn combine(&mut self, way: Way, upper: &Block)
         ensures { (i j : ℕ) → i < 16 → j < 64 → block_has self.new i j ≡ combined way (block_has self.old i j) (block_has upper.now i j) }
     {
-        let masks = Masks::new(way);
         for index in 0..16 {
-            self.words[index] = masks.combine(self.words[index], upper.words[index]);
+            self.words[index] = way.combine_words(self.words[index], upper.words[index]);
         }
     }
 

@@ -5,7 +5,6 @@ mod block;
 mod blocks;
 mod changes;
 mod evaluation;
-mod masks;
 mod shorten;
 mod step;
 mod windows;

@@ -14,8 +14,9 @@ pub enum Way {
 }
 
 impl Way {
-    ghost use Rattle.std.specs.Prelude.{◌≡◌};
+    ghost use Rattle.std.specs.Prelude.{◌≡◌, ℕ, ◌<◌};
     ghost use Rattle.cp_terms.specs.Terms.{combined};
+    ghost use Rattle.cp_invlist.specs.Words.{has_bit};
 
     /// Whether the set that is made has a member, by whether the two have it.
     pub(crate) fn combine(self, lower: bool, upper: bool) -> bool
@@ -26,6 +27,18 @@ impl Way {
             Way::Remove => lower && !upper,
             Way::Retain => lower && upper,
             Way::RemoveFrom => upper && !lower,
+        }
+    }
+
+    /// The same for the 64 numbers that words stand for.
+    pub(crate) fn combine_words(self, lower: u64, upper: u64) -> u64
+        ensures { (j : ℕ) → j < 64 → has_bit result j ≡ combined self (has_bit lower j) (has_bit upper j) }
+    {
+        match self {
+            Way::Join => lower | upper,
+            Way::Remove => lower & !upper,
+            Way::Retain => lower & upper,
+            Way::RemoveFrom => upper & !lower,
         }
     }
 }

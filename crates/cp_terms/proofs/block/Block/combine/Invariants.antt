@@ -1,6 +1,5 @@
 use Rattle.std.proofs.Common.{◌≡◌, ℕ, ◌<◌, ◌≤◌, length}
 use Rattle.std.specs.List.{slice_index}
-use Rattle.cp_terms.specs.Masks.{AreMasks}
 use Rattle.cp_terms.specs.Terms.{combined}
 use Rattle.cp_invlist.specs.Words.{has_bit}
 use Rattle.cp_terms.specs.Blocks.{block_has}
@@ -8,8 +7,7 @@ use Rattle.cp_terms.proofs.block.Block.combine.Given as goal
 
 abbrev pub invariant-loop-index : goal.invariant-loop-index
 invariant-loop-index l = record {
-  masks : AreMasks l.fn.way l.masks;
   sized : length l.self.words ≡ 16;
-  words : (i : ℕ) → i < l.index → (j : ℕ) → j < 64 → has_bit (slice_index l.self.words i) j ≡ combined l.fn.way (block_has l.fn.self i j) (block_has l.upper i j);
+  words : (i : ℕ) → i < l.index → (j : ℕ) → j < 64 → has_bit (slice_index l.self.words i) j ≡ combined l.way (block_has l.fn.self i j) (block_has l.upper i j);
   others : (i : ℕ) → l.index ≤ i → slice_index l.self.words i ≡ slice_index l.fn.self.words i;
 }
