@@ -1,5 +1,6 @@
 -- How two sets are merged: a walk over the elements of both lists in order, which keeps count of whether it is inside each.
-use Rattle.std.specs.Prelude.{◌≡◌, ℕ, Bool, true, false, not, ◌&&◌, ◌||◌, if◌then◌else◌, List, [], ◌∷◌, ◌++◌}
+use Rattle.std.specs.Prelude.{◌≡◌, ◌≢◌, ℕ, Bool, true, false, not, ◌&&◌, ◌||◌, if◌then◌else◌, List, [], ◌∷◌, ◌++◌, Some}
+use Rattle.std.specs.List.{slice_get}
 use Rattle.cp_invlist.specs.InversionList.{contains, differ}
 use Rattle.cp_invlist.specs.declared.merge.Operation.{Operation}
 use Rattle.cp_invlist.specs.declared.merge.Operation.TheVariants.{Union, Difference, Intersection}
@@ -30,6 +31,10 @@ turns_second operation a = differ (keeps operation a true) (keeps operation a fa
 -- whether it turns where both lists do, by whether the walk is inside the first set and inside the second
 abbrev pub turns_both : Operation → Bool → Bool → Bool
 turns_both operation a b = differ (keeps operation a b) (keeps operation (not a) (not b))
+
+-- the lists have no element in common at the place
+abbrev pub DifferAt : ℕ → List ℕ → List ℕ → Type 0
+DifferAt place xs ys = (x : ℕ) → slice_get xs place ≡ Some x → slice_get ys place ≢ Some x
 
 -- a list with these elements put behind it where it turns at each of them
 abbrev pub extended : List ℕ → List ℕ → Bool → List ℕ

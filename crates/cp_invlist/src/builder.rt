@@ -213,7 +213,8 @@ impl CodePointInversionListBuilder {
 
     /// The set that was built.
     pub fn build(self) -> CodePointInversionList
-        ensures { result ≡ self }
+        ensures list { result ≡ self }
+        ensures canonical { IsInversionList self }
     {
         CodePointInversionList::from_elements(self.elements)
     }

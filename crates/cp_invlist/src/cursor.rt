@@ -1,7 +1,7 @@
 //! The only way to an element of a list that is merged.
-ghost use Rattle.std.specs.Prelude.{◌≡◌, ◌≢◌, ℕ, ◌+◌, ◌<◌, ◌≤◌, false, Some, length, take, drop, All, IfSome};
+ghost use Rattle.std.specs.Prelude.{◌≡◌, ◌+◌, ◌<◌, ◌≤◌, false, Some, length, take, drop, All, IfSome};
 ghost use Rattle.std.specs.List.{slice_get};
-ghost use Rattle.cp_invlist.specs.Merge.{inside_behind};
+ghost use Rattle.cp_invlist.specs.Merge.{inside_behind, DifferAt};
 
 use crate::steps::Steps;
 use std::sync::ledger::Ledger;
@@ -61,7 +61,7 @@ impl<'a> Cursor<'a> {
         ensures within_own { result ≤ length self.now.rest.now }
         ensures within_its { result ≤ length other.now.rest.now }
         ensures equal { take result self.now.rest.now ≡ take result other.now.rest.now }
-        ensures ended { (x : ℕ) → slice_get self.now.rest.now result ≡ Some x → slice_get other.now.rest.now result ≢ Some x }
+        ensures ended { DifferAt result self.now.rest.now other.now.rest.now }
     {
         let (own, its) = (self.rest, other.rest);
         let mut count = 1;

@@ -33,8 +33,8 @@ impl Drop for CodePointInversionList {
     }
 }
 
-/// From so many elements on a list takes about as much memory as its words.
-const MANY_ELEMENTS: usize = 1 << 15;
+/// From so many elements on it takes about as much time to go along a list as along the words of all code points.
+const MANY_ELEMENTS: usize = 1 << 13;
 
 impl Model for CodePointInversionList {
     ghost use Rattle.std.specs.Prelude.{ℕ, List};
@@ -103,7 +103,7 @@ impl CodePointInversionList {
         }
     }
 
-    /// Keeps an index of a list of 32,768 elements or more beside it: a bit for each code point, 139 kB. The set stays as it is.
+    /// Keeps an index of a list of 8,192 elements or more beside it: a bit for each code point, 139 kB. The set stays as it is.
     /// With an index a member is found by one read, and set expressions don't go along the list (`cp_terms`). `NoMemory` says
     /// that a request for memory was refused.
     pub fn index(&mut self, alloc: Global) -> Result<(), NoMemory>

@@ -44,7 +44,7 @@ impl Window {
         Window { taken, next }
     }
 
-    /// The window at a place further on.
+    /// The window at a place further on, from one of the same set.
     pub fn moved(self, set: &CodePointInversionList, place: u32) -> Window
         requires place { place < 0x11_0000 }
         requires window { IsWindow set.now place self }
@@ -58,7 +58,7 @@ impl Window {
         }
     }
 
-    /// The elements of the set from the next one on that lie before the end.
+    /// The elements of the set from the next one on that lie before the end. The window is one of the same set.
     pub fn elements_before(self, set: &CodePointInversionList, end: u32) -> &[u32]
         requires { self.taken ≤ length set.now }
         ensures { AreLeftBefore set.now self.taken end result.now }
@@ -67,7 +67,8 @@ impl Window {
         &left[..left.partition_point(|element| *element < end)]
     }
 
-    /// Which of the 64 code points from the place on are members. The window moves on behind them.
+    /// Which of the 64 code points from the place on, up to 10FFFF, are members. The window is one of the same set at the place,
+    /// whose next element isn't before the place, and moves on behind them.
     pub fn word(&mut self, set: &CodePointInversionList, place: u32) -> u64
         requires place { place + 64 ≤ 0x11_0000 }
         requires window { IsWindow set.now place self.old }

@@ -12,7 +12,7 @@ use std::alloc::Global;
 /// How many words all code points have.
 const WORDS: u32 = (LAST_CODE_POINT + 1) / 64;
 
-/// The word with the bits from the offset on exchanged for their opposites.
+/// The word with the bits from the offset on, which is below 64, exchanged for their opposites.
 pub fn turned(word: u64, offset: u32) -> u64
     requires { offset < 64 }
     ensures { (j : ℕ) → j < 64 → has_bit result j ≡ differ (nat_le offset j) (has_bit word j) }

@@ -47,8 +47,8 @@ fn by_index(alloc: Global, place: u32, count: u32) -> Result<Indexed, NoMemory> 
 const SIZES: &[(u32, u32, usize)] = &[
     (0, 0, 0),
     (0x61, 1, 0),
-    (0, 16_383, 0),
-    (0, 16_384, 17_408),
+    (0, 4_095, 0),
+    (0, 4_096, 17_408),
     // The last range is the last code point.
     (0x10_FFFF - 3 * 19_999, 20_000, 17_408),
 ];
@@ -79,7 +79,7 @@ fn indexed_with_strings(alloc: Global, count: u32) -> Result<(usize, bool), NoMe
 
 #[test]
 fn a_set_with_strings_has_the_index_of_its_code_points(rt: HostRuntime) {
-    for (count, words) in [(1, 0), (16_384, 17_408)] {
+    for (count, words) in [(1, 0), (4_096, 17_408)] {
         assert_equal(
             &rt,
             indexed_with_strings(rt.alloc(), count),

@@ -212,8 +212,6 @@ impl Painting {
         members_are_code_points();
         let complemented = other.complemented;
         let set = flattened(other.alloc, other.layers, other.ranges)?.build();
-        // Only the list's own call says that it is canonical.
-        let _ = set.get_inversion_list();
         if complemented {
             self.add_outside(&set)
         } else {

@@ -10,7 +10,7 @@ use Rattle.uset_grammar.specs.Outcome.{unexpected, invalid_escape, Outcome, got,
 use Rattle.uset_grammar.specs.Escape.{Apart, onto, is_hex, value, plain, Spelled, itself, numbers, Letter, four, two, six, name, other, letter, is_above, is_surrogate}
 use Rattle.uset_grammar.specs.EscapeSlips.{Around, in_string, in_bracket, EscapeOutcome}
 use Rattle.uset_grammar.specs.Parts.{and_then, TellsOutcome}
-use Rattle.uset_grammar.specs.EscapeParts.{digit_in, two_digits_in, four_digits_in, six_digits_in, last_digit_in, checked, sole_in, is_later, all_in, second_in, number_at, behind_number, number_or, numbers_in, braced_in, zero_in, long_escape, letter_in, letters_in}
+use Rattle.uset_grammar.specs.EscapeParts.{digit_in, two_digits_in, four_digits_in, six_digits_in, last_digit_in, checked, sole_in, is_later, all_in, second_in, behind_number, number_or, numbers_in, braced_in, zero_in, long_escape, letter_in, letters_in}
 use Rattle.uset_grammar.specs.EscapeParts as R
 use Rattle.uset_grammar.specs.Laws.{EscapesByParts}
 use Rattle.uset_grammar.proofs.UnitMachine.{Next, goes, whole, refuses, Slip, turn, run}

@@ -36,6 +36,6 @@ loop-string-preserved c = λ place text here.
 
 pub returns : goal.returns
 returns c = λ place text here.
-    ap (λ set. contains set place) c.build.ensures
+    ap (λ set. contains set place) c.build.ensures.list
     ∙ (c.loop-string.invariant place text here
     ∙ ap (λ l. holds (map string_bytes l) text) (take_all c.loop-string.string-index c.args.strings.now c.loop-string-test.false))

@@ -52,6 +52,6 @@ loop-index-preserved c = (
 pub returns : goal.returns
 returns c = λ place text here.
     let within : place < length c.args.list.now = omega (arith, slice_get_within (map (λ text. text.now) c.args.list.now) place text here, length-map c.args.list.now (λ text. text.now)) in
-    ap (λ set. contains set place) c.build.ensures
+    ap (λ set. contains set place) c.build.ensures.list
     ∙ (c.loop-index.invariant.2 place text here
     ∙ ap (λ b. b && holds (map string_bytes c.args.strings.now) text) (lt-ltb place c.loop-index.index (omega arith)))

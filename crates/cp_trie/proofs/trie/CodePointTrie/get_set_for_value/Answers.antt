@@ -11,7 +11,7 @@ returns g c n =
     let runs = c.runs-run-items.result.now in
     let cover = IsCover-from_runs eq _ 0 runs c.runs-run-items.ensures.maximal in
     let gathered = holds_value-all_done eq c.args.value runs c.loop-run.run-index n _ c.loop-run-test.false (c.loop-run.invariant n) in
-    rw c.build.ensures (gathered ∙ rw c.runs-run-items.ensures.runs (holds_value-value_in eq c.args.value 0 _ c.args.self.now.error_value n (rw c.runs-run-items.ensures.runs at cover) (omega arith)))
+    rw c.build.ensures.list (gathered ∙ rw c.runs-run-items.ensures.runs (holds_value-value_in eq c.args.value 0 _ c.args.self.now.error_value n (rw c.runs-run-items.ensures.runs at cover) (omega arith)))
 
 pub loop-run-preserved : goal.loop-run-preserved
 loop-run-preserved g c n =

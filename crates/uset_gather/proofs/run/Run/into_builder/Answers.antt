@@ -15,7 +15,7 @@ returns-then-is_empty c =
 pub returns-then-get_inversion_list-len : goal.returns-then-get_inversion_list-len
 returns-then-get_inversion_list-len c =
     IfOk-weaker c.sorted_union.result _ _ (λ set h d.
-    gathered_in_run c.args.self c.build-front.result set d c.build-front.ensures
+    gathered_in_run c.args.self c.build-front.result set d c.build-front.ensures.list
     (h d ∙ c.in_ok-put_aside.ensures d
     ∙ ap (λ b. b || contains c.build-front.result d)
     (sym (list_any-IsPermutation (λ r. in_code_points r d) c.args.self.aside.items c.reverse.new.self.items c.reverse.ensures.permutation))))
@@ -23,5 +23,5 @@ returns-then-get_inversion_list-len c =
 
 pub returns : goal.returns
 returns c = λ d.
-    gathered_in_run c.args.self c.build-front.result c.add_set.new.self d c.build-front.ensures
+    gathered_in_run c.args.self c.build-front.result c.add_set.new.self d c.build-front.ensures.list
     (c.in_ok-add_set.ensures.ok d ∙ ap (λ b. b || contains c.build-front.result d) (c.in_ok-builder.ensures d))
