@@ -9,17 +9,15 @@ use Rattle.std.proofs.lemmas.List.Elements.{All-filter, filter-append}
 use Rattle.std.proofs.lemmas.List.Folds.{list_any-append}
 use Rattle.std.proofs.lemmas.List.Kept.{AllPairs-filter}
 use Rattle.std.proofs.lemmas.Map.Views.{any-filter_same}
-use Rattle.std.proofs.lemmas.Option.{slice_get_within}
 use Rattle.std.proofs.lemmas.Slice.Eq.{bytes_eq-Decides}
 use Rattle.std.specs.declared.string.String.{String}
 use Rattle.std.specs.Global.{Global}
-use Rattle.std.specs.List.{AllPairs}
 use Rattle.std.specs.Str.{bytes_eq, chars}
 use Rattle.std.specs.String.{string_bytes}
 use Rattle.cp_invlist.specs.InversionList.{is_code_point, is_added}
 use Rattle.cp_strset.specs.StringList.{AreCanonical, holds}
 use Rattle.cp_strset_terms.specs.Places.{IsAt}
-use Rattle.cp_strset_terms.proofs.PlacesLemmas.{IsBelow, one_place}
+use Rattle.cp_strset_terms.proofs.PlacesLemmas.{IsBelow}
 
 -- what is kept of one text more
 pub filter-more : (test : List ℕ → Bool) (list : List (Bor (List ℕ))) (place : ℕ) (d : Bor (List ℕ)) → place < length list →
@@ -77,14 +75,13 @@ one_text list place s t at here =
     let same : s ≡ t = some_same s t (sym at ∙ here) in
     (bytes_eq-Decides s t).1 same
 
--- a string that is added at its place is the text at just that place
-pub is_added-place : (list : List (List ℕ)) → AllPairs IsBelow list → length list ≤ 0x11_0000 → (added place : ℕ) (string text : List ℕ) →
+-- a string that is added at its only place is the text at just that place
+pub is_added-place : (list : List (List ℕ)) (added place : ℕ) (string text : List ℕ) → ((k : ℕ) → IsAt list k string → k ≡ added) → added < 0x11_0000 →
     IsAt list added string → IsAt list place text → is_added added place ≡ (bytes_eq string text || false)
-is_added-place list ascending short added place string text at here = elim (cases_Bool (bytes_eq string text)) [
+is_added-place list added place string text once short at here = elim (cases_Bool (bytes_eq string text)) [
   | inl same ↦ (
       let there : IsAt list place string = here ∙ ap Some (sym ((bytes_eq-Decides string text).0 same)) in
-      let within = slice_get_within list place text here in
-      let one : place ≡ added = one_place list ascending place added string there at in
+      let one : place ≡ added = once place there in
       ap₂ ◌&&◌ (eq-eqb place added one) (le-leb place 0x10_FFFF (omega arith)) ∙ ap (λ b. b || false) (sym same))
   | inr other ↦ elim (eqb_tells place added) [
     | inl equal ↦ (

@@ -5,3 +5,5 @@ pub mod TableLemmas
 pub mod KeptLemmas
 pub mod CutLemmas
 pub mod CandidatesLemmas
+pub mod NumbersLemmas
+pub mod NarrowedLemmas

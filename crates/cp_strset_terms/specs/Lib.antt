@@ -3,3 +3,5 @@ pub mod Places
 pub mod Steps
 pub mod Candidates
 pub mod Cut
+pub mod Numbers
+pub mod LeafNumbers

@@ -3,7 +3,7 @@ ghost use Rattle.std.specs.Prelude.{◌≡◌, ◌≤◌, ◌<◌, ◌++◌, ℕ
 ghost use Rattle.std.specs.List.{flat_map};
 ghost use Rattle.cp_strset.specs.StringList.{holds};
 ghost use Rattle.cp_terms.specs.Terms.{value_of};
-ghost use Rattle.cp_strset_terms.specs.Leaves.{leaf_holds, strings_of};
+ghost use Rattle.cp_strset_terms.specs.Leaves.{leaf_holds, strings_of, FitsNumbers};
 ghost use Rattle.cp_strset_terms.specs.Steps.{without_complements};
 
 use crate::leaf::{Leaf, strings};
@@ -241,9 +241,11 @@ fn marked_leaves<'a>(
     marks: &[bool],
 ) -> Result<Vec<Leaf<'a>>, NoMemory>
     requires { length marks.now ≡ length leaves.now }
-    ensures { IfOk result (λ marked. (bytes : List ℕ) (index : ℕ) →
+    ensures held { IfOk result (λ marked. (bytes : List ℕ) (index : ℕ) →
         slice_get marks.now index ≡ Some true → leaf_holds leaves.now bytes index ≡ true →
         holds (flat_map strings_of marked.items) bytes ≡ true) }
+    ensures fits { IfOk result (λ marked. (all : List (List ℕ)) →
+        All (FitsNumbers all) leaves.now → All (FitsNumbers all) marked.items) }
 {
     let mut marked = Vec::new(alloc);
     for (index, leaf) in leaves.iter().enumerate() {
@@ -260,9 +262,11 @@ pub(crate) fn candidates<'a>(
     leaves: &[Leaf<'a>],
     steps: &[Step],
 ) -> Result<Vec<Leaf<'a>>, NoMemory>
-    ensures { IfOk result (λ candidates. (bytes : List ℕ) →
+    ensures held { IfOk result (λ candidates. (bytes : List ℕ) →
         value_of (leaf_holds leaves.now bytes) (without_complements steps.now) ≡ true →
         holds (flat_map strings_of candidates.items) bytes ≡ true) }
+    ensures fits { IfOk result (λ candidates. (all : List (List ℕ)) →
+        All (FitsNumbers all) leaves.now → All (FitsNumbers all) candidates.items) }
 {
     let sources = Sources::new(alloc, leaves, steps)?;
     let marks = marks_of(alloc, leaves.len(), sources.of_top())?;

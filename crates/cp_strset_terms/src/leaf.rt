@@ -15,6 +15,8 @@ pub enum Leaf<'a> {
     CodePoints(&'a CodePointInversionList),
     /// Code points and strings.
     WithStrings(&'a CodePointInversionListAndStringList),
+    /// The same, with the numbers of the strings.
+    Numbered(&'a CodePointInversionListAndStringList, &'a CodePointInversionList),
 }
 
 /// The code points of a leaf.
@@ -23,7 +25,7 @@ fn code_points<'a>(leaf: &Leaf<'a>) -> &'a CodePointInversionList
 {
     match *leaf {
         Leaf::CodePoints(list) => list,
-        Leaf::WithStrings(set) => set.code_points(),
+        Leaf::WithStrings(set) | Leaf::Numbered(set, _) => set.code_points(),
     }
 }
 
@@ -34,7 +36,7 @@ pub(crate) fn strings<'a>(leaf: &Leaf<'a>) -> &'a [String]
 {
     match *leaf {
         Leaf::CodePoints(_) => &[],
-        Leaf::WithStrings(set) => set.strings(),
+        Leaf::WithStrings(set) | Leaf::Numbered(set, _) => set.strings(),
     }
 }
 

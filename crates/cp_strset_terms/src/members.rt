@@ -1,17 +1,18 @@
 //! The strings of a term.
-ghost use Rattle.std.specs.Prelude.{◌≡◌, ◌≤◌, ◌++◌, ℕ, Bool, List, IfOk, OnOk, length, map, filter};
+ghost use Rattle.std.specs.Prelude.{◌≡◌, ◌≤◌, ◌++◌, ℕ, All, Bool, List, IfOk, OnOk, length, map, filter};
 ghost use Rattle.std.specs.String.{string_bytes};
 ghost use Rattle.cp_invlist.specs.InversionList.{contains};
 ghost use Rattle.cp_strset.specs.StringList.{AreCanonical, holds};
 ghost use Rattle.cp_terms.specs.Terms.{value_of};
-ghost use Rattle.cp_strset_terms.specs.Leaves.{leaf_holds};
+ghost use Rattle.cp_strset_terms.specs.Leaves.{leaf_holds, FitsNumbers};
 ghost use Rattle.cp_strset_terms.specs.Places.{texts, IsAt};
 ghost use Rattle.cp_strset_terms.specs.Steps.{without_complement, without_complements};
 
 use crate::candidates::candidates;
 use crate::leaf::Leaf;
+use crate::narrowed::table_of_term;
 use crate::numbers::places_of_leaves;
-use crate::table::string_table;
+use crate::string_numbers::StringNumbers;
 use cp_invlist::{CodePointInversionList, LAST_CODE_POINT, NoMemory};
 use cp_terms::Step;
 use std::alloc::Global;
@@ -118,14 +119,17 @@ fn kept_texts(
 /// The strings of the set that the steps make of the leaves.
 pub(crate) fn strings_of_term(
     alloc: Global,
+    all: &StringNumbers,
     leaves: &[Leaf<'_>],
     steps: &[Step],
 ) -> Result<Vec<String>, NoMemory>
+    requires { All (FitsNumbers all.now) leaves.now }
     ensures canonical { IfOk result (λ strings. AreCanonical (map string_bytes strings.items)) }
     ensures strings { IfOk result (λ strings. (bytes : List ℕ) → holds (map string_bytes strings.items) bytes ≡
         value_of (leaf_holds leaves.now bytes) (without_complements steps.now)) }
 {
-    let table = string_table(alloc, &candidates(alloc, leaves, steps)?)?;
+    let candidates = candidates(alloc, leaves, steps)?;
     let steps = complement_free(alloc, steps)?;
+    let table = table_of_term(alloc, all, leaves, &candidates, &steps)?;
     kept_texts(alloc, &table, leaves, &steps)
 }

@@ -17,14 +17,25 @@ pub(crate) fn string_table<'a>(alloc: Global, leaves: &[Leaf<'a>]) -> Result<Vec
     ensures complete { IfOk result (λ table. (bytes : List ℕ) →
         holds (texts table.items) bytes ≡ holds (flat_map strings_of leaves.now) bytes) }
 {
-    let mut table = gathered_strings(alloc, leaves)?;
+    Ok(in_order(gathered_strings(alloc, leaves)?))
+}
+
+/// The texts in order, each once.
+pub(crate) fn in_order(mut table: Vec<&str>) -> Vec<&str>
+    requires { All (λ s. length (chars s) ≢ 1) (texts table.items) }
+    ensures canonical { AreCanonical (texts result.items) }
+    ensures same { (bytes : List ℕ) → holds (texts result.items) bytes ≡ holds (texts table.entry.items) bytes }
+{
     table.sort_unstable();
     table.dedup();
-    Ok(table)
+    table
 }
 
 /// The strings of each leaf, one leaf behind another.
-fn gathered_strings<'a>(alloc: Global, leaves: &[Leaf<'a>]) -> Result<Vec<&'a str>, NoMemory>
+pub(crate) fn gathered_strings<'a>(
+    alloc: Global,
+    leaves: &[Leaf<'a>],
+) -> Result<Vec<&'a str>, NoMemory>
     ensures strings { IfOk result (λ table. texts table.items ≡ flat_map strings_of leaves.now) }
     ensures none_of_one { OnOk result (All (λ s. length (chars s) ≢ 1) (flat_map strings_of leaves.now)) }
 {
@@ -36,7 +47,10 @@ fn gathered_strings<'a>(alloc: Global, leaves: &[Leaf<'a>]) -> Result<Vec<&'a st
 }
 
 /// Puts the strings behind the others.
-fn push_strings<'a>(table: &mut Vec<&'a str>, strings: &'a [String]) -> Result<(), NoMemory>
+pub(crate) fn push_strings<'a>(
+    table: &mut Vec<&'a str>,
+    strings: &'a [String],
+) -> Result<(), NoMemory>
     ensures { OnOk result (texts table.new.items ≡
         texts table.old.items ++ map string_bytes strings.now) }
 {

@@ -3,4 +3,6 @@
 #![tactic(auto)]
 
 #[cfg(test)]
+mod numbered;
+#[cfg(test)]
 mod terms;

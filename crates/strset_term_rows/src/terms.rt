@@ -1,7 +1,10 @@
-//! Terms over six leaves, each beside the set that it stands for.
+//! Terms over six leaves without numbers, each beside the set that it stands for.
+ghost use Rattle.std.specs.Prelude.{ℕ, All, List, IfOk};
+ghost use Rattle.cp_strset_terms.specs.Leaves.{FitsNumbers};
+
 use cp_invlist::CodePointInversionList;
 use cp_strset::CodePointInversionListAndStringList;
-use cp_strset_terms::{Leaf, Step, Way, evaluate};
+use cp_strset_terms::{Leaf, Step, StringNumbers, Way, evaluate};
 use std::alloc::{AllocError, Global};
 use std::process::Abort;
 
@@ -364,21 +367,23 @@ fn leaves<'a>(
     alloc: Global,
     letters: &'a CodePointInversionList,
     sets: &'a [CodePointInversionListAndStringList],
-) -> Option<Vec<Leaf<'a>>> {
+) -> Result<Vec<Leaf<'a>>, AllocError>
+    ensures { IfOk result (λ leaves. (all : List (List ℕ)) → All (FitsNumbers all) leaves.items) }
+{
     let mut leaves = Vec::new(alloc);
-    leaves.push(Leaf::CodePoints(letters)).ok()?;
+    leaves.push(Leaf::CodePoints(letters))?;
     for set in sets {
-        leaves.push(Leaf::WithStrings(set)).ok()?;
+        leaves.push(Leaf::WithStrings(set))?;
     }
-    Some(leaves)
+    Ok(leaves)
 }
 
 /// The set that the steps make of the leaves.
 fn evaluated(alloc: Global, steps: &[Step]) -> Option<CodePointInversionListAndStringList> {
     let letters = CodePointInversionList::try_from_inversion_list(alloc, LETTERS).ok()?;
     let sets = sets(alloc)?;
-    let leaves = leaves(alloc, &letters, &sets)?;
-    evaluate(alloc, &leaves, steps).ok()
+    let leaves = leaves(alloc, &letters, &sets).ok()?;
+    evaluate(alloc, &StringNumbers::new(alloc), &leaves, steps).ok()
 }
 
 /// Whether the steps make the set of the list and of the strings.

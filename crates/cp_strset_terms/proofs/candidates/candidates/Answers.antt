@@ -8,8 +8,8 @@ use Rattle.cp_strset_terms.specs.Steps.{without_complements}
 use Rattle.cp_strset_terms.proofs.CandidatesLemmas.{one_marked}
 use Rattle.cp_strset_terms.proofs.candidates.candidates.Goals as goal
 
-pub returns : goal.returns
-returns c =
+pub returns-clause-held : goal.returns-clause-held
+returns-clause-held c =
     let leaves = c.args.leaves.now in
     IfOk-weaker c.marked_leaves.result
     (λ candidates. (bytes : List ℕ) (index : ℕ) → slice_get c.deref.result.now index ≡ Some true → leaf_holds leaves bytes index ≡ true → holds (flat_map strings_of candidates.items) bytes ≡ true)
@@ -19,4 +19,7 @@ returns c =
     let some = c.of_top.ensures v (steps_done v (without_complements c.args.steps.now) []) (c.in_ok-sources.ensures.covered bytes) held in
     let one = one_marked leaves bytes c.of_top.result.now c.in_ok-marks.marks.items c.in_ok-marks.ensures.marked some in
     all bytes one.0 (ap (λ l. slice_get l one.0) c.deref.ensures.value ∙ one.1) one.2)
-    c.marked_leaves.ensures
+    c.marked_leaves.ensures.held
+
+pub returns-clause-fits : goal.returns-clause-fits
+returns-clause-fits c = c.marked_leaves.ensures.fits

@@ -1,7 +1,7 @@
 use Rattle.std.proofs.Common.{◌||◌, map, take, arith, sym, ap, ap₂, ◌∙◌}
 use Rattle.std.proofs.Math.Bool.{or-false}
 use Rattle.std.proofs.lemmas.List.{length-map, take_all}
-use Rattle.std.proofs.lemmas.Option.{slice_get_within}
+use Rattle.std.proofs.lemmas.Option.{same_Some, slice_get_within}
 use Rattle.std.specs.String.{string_bytes}
 use Rattle.cp_invlist.specs.InversionList.{contains}
 use Rattle.cp_strset.specs.StringList.{holds}
@@ -24,7 +24,7 @@ loop-string-preserved c = λ place text here.
       | in-Some+in_ok-add32 w ↦
           ap (λ set. contains set place) w.places-is
           ∙ (w.in_ok-add32.ensures.ok place
-          ∙ (ap₂ ◌||◌ before (is_added-place list c.requires.canonical.ascending (omega (arith, c.requires.numbered, length-map c.args.list.now (λ text. text.now))) w.in-Some.place place string text ((c.place_of.ensures w.in-Some.place).0 w.in-Some.is) here)
+          ∙ (ap₂ ◌||◌ before (is_added-place list w.in-Some.place place string text (λ k at. same_Some k w.in-Some.place (sym ((c.place_of.ensures k).1 at) ∙ w.in-Some.is)) (omega (arith, c.requires.numbered, length-map c.args.list.now (λ text. text.now), slice_get_within list w.in-Some.place string ((c.place_of.ensures w.in-Some.place).0 w.in-Some.is))) ((c.place_of.ensures w.in-Some.place).0 w.in-Some.is) here)
           ∙ sym more))
       | in_default w ↦
           ap (λ set. contains set place) w.places-is

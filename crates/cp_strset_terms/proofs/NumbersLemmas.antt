@@ -1,0 +1,233 @@
+-- Strings with numbers.
+use Rattle.std.proofs.Common.{◌≡◌, ◌≢◌, ◌<◌, ◌≤◌, ◌+◌, ◌||◌, ℕ, zero, suc, true, false, ◌&&◌, Option, Some, None, IfSome, OnOk, Result, Ok, Err, List, [], ◌∷◌, ◌++◌, length, map, refl, sym, subst, ap, ap₂, ◌∙◌, append_assoc, append-nil, arith, nat_cmp, inl, inr}
+use Rattle.std.specs.Prelude.{cond}
+use Rattle.std.proofs.Math.Bool.{or-true, or-false}
+use Rattle.std.proofs.lemmas.Bool.{cases_Bool, cases_lt, cond-true, cond-false, false_from_ne_true}
+use Rattle.std.proofs.lemmas.Bool.Decides.{eqb_tells}
+use Rattle.std.proofs.lemmas.List.{length-append, length-map, map-append}
+use Rattle.std.proofs.lemmas.List.Elements.{All-append, All-cons, All-nil}
+use Rattle.std.proofs.lemmas.List.Folds.{list_any-append}
+use Rattle.std.proofs.lemmas.Map.Text.{btree_map_updates_text}
+use Rattle.std.proofs.lemmas.Option.{same_Some, slice_get_within}
+use Rattle.std.proofs.lemmas.Slice.Eq.{bytes_eq-Decides}
+use Rattle.std.specs.BTreeMap.{BTreeMap, get_by_text, UpdatesBy}
+use Rattle.std.specs.Cmp.Lexicographic.{slice_cmp}
+use Rattle.std.specs.declared.string.String.{String}
+use Rattle.std.specs.Global.{Global}
+use Rattle.std.specs.List.{list_any, slice_get}
+use Rattle.std.specs.Result.{is_err}
+use Rattle.std.specs.Str.{bytes_eq, chars}
+use Rattle.std.specs.String.{string_bytes, string_cmp}
+use Rattle.cp_invlist.specs.InversionList.{contains, is_code_point, is_added}
+use Rattle.cp_strset.specs.StringList.{holds}
+use Rattle.cp_strset_terms.specs.Numbers.{AreNumbersOf, KeepsNumbers, Grows, AreNumbered, AreIndexed, StandOnce}
+use Rattle.cp_strset_terms.specs.Places.{IsAt}
+use Rattle.cp_strset_terms.proofs.KeptLemmas.{is_added-place}
+
+-- a string stands where it stood in a list that goes on
+pub at_front : (xs ys : List (List ℕ)) (i : ℕ) (s : List ℕ) → IsAt xs i s → IsAt (xs ++ ys) i s
+at_front [] ys i s h = cc
+at_front (x ∷ xs) ys zero s h = h
+at_front (x ∷ xs) ys (suc i) s h = at_front xs ys i s h
+
+-- and so does one in front of its end
+pub at_before : (xs ys : List (List ℕ)) (i : ℕ) (s : List ℕ) → IsAt (xs ++ ys) i s → i < length xs → IsAt xs i s
+at_before [] ys i s h within = absurd (omega arith)
+at_before (x ∷ xs) ys zero s h within = h
+at_before (x ∷ xs) ys (suc i) s h within = at_before xs ys i s h (omega arith)
+
+at_last : (xs : List (List ℕ)) (t : List ℕ) → IsAt (xs ++ t ∷ []) (length xs) t
+at_last [] t = refl
+at_last (x ∷ xs) t = at_last xs t
+
+at_last_is : (xs : List (List ℕ)) (t s : List ℕ) (i : ℕ) → IsAt (xs ++ t ∷ []) i s → length xs ≤ i → (i ≡ length xs) × (t ≡ s)
+at_last_is [] t s zero h behind = (refl, same_Some t s h)
+at_last_is [] t s (suc i) h behind = cc
+at_last_is (x ∷ xs) t s zero h behind = absurd (omega arith)
+at_last_is (x ∷ xs) t s (suc i) h behind = let last = at_last_is xs t s i h (omega arith) in (ap suc last.0, last.1)
+
+-- a string of a list stands at some place
+pub held_at : (xs : List (List ℕ)) (bytes : List ℕ) → holds xs bytes ≡ true → (i : ℕ) × IsAt xs i bytes
+held_at [] bytes h = cc
+held_at (x ∷ xs) bytes h = elim (cases_Bool (bytes_eq x bytes)) [
+  | inl same ↦ (0, ap Some ((bytes_eq-Decides x bytes).0 same))
+  | inr other ↦ (let behind = held_at xs bytes (sym (ap (λ b. b || holds xs bytes) other) ∙ h) in (suc behind.0, behind.1))
+]
+
+-- a string that stands at a place is one of the list
+pub at_held : (xs : List (List ℕ)) (i : ℕ) (bytes : List ℕ) → IsAt xs i bytes → holds xs bytes ≡ true
+at_held [] i bytes h = cc
+at_held (x ∷ xs) zero bytes h = ap (λ b. b || holds xs bytes) ((bytes_eq-Decides x bytes).1 (same_Some x bytes h))
+at_held (x ∷ xs) (suc i) bytes h = ap (λ b. bytes_eq x bytes || b) (at_held xs i bytes h) ∙ or-true (bytes_eq x bytes)
+
+-- a string that is found by its bytes stands once
+pub stand_once : (all : List (List ℕ)) (indices : BTreeMap (String Global) ℕ) → AreIndexed all indices → StandOnce all
+stand_once all indices h i j s at there = same_Some i j (sym ((h.found s i).1 at) ∙ (h.found s j).1 there)
+
+-- one string more is found too
+pub indexed_more : (all : List (List ℕ)) (text : List ℕ) (old new : BTreeMap (String Global) ℕ) → AreIndexed all old → ((number : ℕ) → IsAt all number text → ⊥) →
+    length all < 0x11_0000 → length (chars text) ≢ 1 → UpdatesBy string_cmp (λ k. slice_cmp nat_cmp text (string_bytes k)) old new (Some (length all)) →
+    AreIndexed (all ++ text ∷ []) new
+indexed_more all text old new h absent few one updates = record {
+  found = λ bytes number. (found bytes number, stands bytes number);
+  few = omega (arith, few, length-append all (text ∷ []));
+  none_of_one = All-append (λ s. length (chars s) ≢ 1) all (text ∷ []) h.none_of_one (All-cons (λ s. length (chars s) ≢ 1) text [] one (All-nil (λ s. length (chars s) ≢ 1)));
+}
+  where
+    after : (bytes : List ℕ) → get_by_text new bytes ≡ cond (bytes_eq text bytes) (Some (length all)) (get_by_text old bytes)
+    after bytes = btree_map_updates_text text old new (Some (length all)) updates bytes
+
+    found : (bytes : List ℕ) (number : ℕ) → get_by_text new bytes ≡ Some number → IsAt (all ++ text ∷ []) number bytes
+    found bytes number is = elim (cases_Bool (bytes_eq text bytes)) [
+      | inl same ↦ (
+          let last : length all ≡ number = same_Some (length all) number (sym (cond-true _ _ _ same) ∙ (sym (after bytes) ∙ is)) in
+          subst (λ n. IsAt (all ++ text ∷ []) n bytes) last (at_last all text ∙ ap Some ((bytes_eq-Decides text bytes).0 same)))
+      | inr other ↦ at_front all (text ∷ []) number bytes ((h.found bytes number).0 (sym (cond-false _ _ _ other) ∙ (sym (after bytes) ∙ is)))
+    ]
+
+    stands : (bytes : List ℕ) (number : ℕ) → IsAt (all ++ text ∷ []) number bytes → get_by_text new bytes ≡ Some number
+    stands bytes number at = elim (cases_lt number (length all)) [
+      | inl before ↦ (
+          let here = at_before all (text ∷ []) number bytes at before in
+          let other : bytes_eq text bytes ≡ false = false_from_ne_true (bytes_eq text bytes) (λ same. absent number (here ∙ ap Some (sym ((bytes_eq-Decides text bytes).0 same)))) in
+          after bytes ∙ (cond-false _ _ _ other ∙ (h.found bytes number).1 here))
+      | inr behind ↦ (
+          let last = at_last_is all text bytes number at (omega arith) in
+          after bytes ∙ (cond-true _ _ _ ((bytes_eq-Decides text bytes).1 last.1) ∙ ap Some (sym last.0)))
+    ]
+
+-- where a list goes on and each of its strings stands once, numbers stay those of their strings
+pub keeps_numbers : (old more new : List (List ℕ)) → new ≡ old ++ more → StandOnce new → KeepsNumbers old new
+keeps_numbers old more new is once strings numbers h = record {
+  known = λ bytes held. ap (λ l. holds l bytes) is ∙ (list_any-append (λ s. bytes_eq s bytes) old more ∙ ap (λ b. b || holds more bytes) (h.known bytes held));
+  told = told;
+  within = λ number member. (let below = h.within number member in omega (arith, below, ap length is, length-append old more));
+}
+  where
+    told : (number : ℕ) (bytes : List ℕ) → IsAt new number bytes → contains numbers number ≡ holds strings bytes
+    told number bytes at = elim (cases_lt number (length old)) [
+      | inl before ↦ h.told number bytes (at_before old more number bytes (subst (λ l. IsAt l number bytes) is at) before)
+      | inr behind ↦ (
+          let none : contains numbers number ≡ false = false_from_ne_true (contains numbers number) (λ member. (let below = h.within number member in absurd (omega arith))) in
+          let lacks : holds strings bytes ≡ false = false_from_ne_true (holds strings bytes) (λ held.
+          let place = held_at old bytes (h.known bytes held) in
+          let below = slice_get_within old place.0 bytes place.1 in
+          let same : place.0 ≡ number = once place.0 number bytes (subst (λ l. IsAt l place.0 bytes) (sym is) (at_front old more place.0 bytes place.1)) at in
+          absurd (omega arith)) in
+          none ∙ sym lacks)
+    ]
+
+pub keeps_same : (all : List (List ℕ)) → KeepsNumbers all all
+keeps_same all strings numbers h = h
+
+pub grows_none : (count : ℕ) (all : List (List ℕ)) → Grows count all all
+grows_none count all = record { more = []; is = sym (append-nil all); most = omega arith }
+
+pub grows_weaker : (a b : ℕ) (old new : List (List ℕ)) → a ≤ b → Grows a old new → Grows b old new
+grows_weaker a b old new more h = record { more = h.more; is = h.is; most = (let most = h.most in omega arith) }
+
+pub grows_on : (a b : ℕ) (old between new : List (List ℕ)) → Grows a old between → Grows b between new → Grows (a + b) old new
+grows_on a b old between new h k = record {
+  more = h.more ++ k.more;
+  is = k.is ∙ (ap (λ l. l ++ k.more) h.is ∙ append_assoc old h.more k.more);
+  most = (let first = h.most in let second = k.most in omega (arith, first, second, length-append h.more k.more));
+}
+
+pub grows_length : (a : ℕ) (old new : List (List ℕ)) → Grows a old new → length new ≤ length old + a
+grows_length a old new h = let most = h.most in omega (arith, most, ap length h.is, length-append old h.more)
+
+head_same : {X : Type 0} (x y : X) (xs ys : List X) → (x ∷ xs) ≡ (y ∷ ys) → x ≡ y
+head_same x y xs ys e = cc
+
+tail_same : {X : Type 0} (x y : X) (xs ys : List X) → (x ∷ xs) ≡ (y ∷ ys) → xs ≡ ys
+tail_same x y xs ys e = cc
+
+-- the first number is that of the first string, and so on
+number_at : (all : List (List ℕ)) (n : ℕ) (numbers : List ℕ) (s : List ℕ) (strings : List (List ℕ)) → AreNumbered all (n ∷ numbers) (s ∷ strings) → IsAt all n s
+number_at all n numbers s strings h = head_same (slice_get all n) (Some s) (map (λ number. slice_get all number) numbers) (map (λ t. Some t) strings) h
+
+numbers_behind : (all : List (List ℕ)) (n : ℕ) (numbers : List ℕ) (s : List ℕ) (strings : List (List ℕ)) → AreNumbered all (n ∷ numbers) (s ∷ strings) → AreNumbered all numbers strings
+numbers_behind all n numbers s strings h = tail_same (slice_get all n) (Some s) (map (λ number. slice_get all number) numbers) (map (λ t. Some t) strings) h
+
+numbered_front : (all more : List (List ℕ)) (numbers : List ℕ) (strings : List (List ℕ)) → AreNumbered all numbers strings → AreNumbered (all ++ more) numbers strings
+numbered_front all more [] [] h = refl
+numbered_front all more [] (s ∷ strings) h = cc
+numbered_front all more (n ∷ numbers) [] h = cc
+numbered_front all more (n ∷ numbers) (s ∷ strings) h =
+    ap₂ ◌∷◌ (at_front all more n s (number_at all n numbers s strings h)) (numbered_front all more numbers strings (numbers_behind all n numbers s strings h))
+
+-- one number more
+pub numbered_more : (old new : List (List ℕ)) (count : ℕ) (numbers : List ℕ) (strings : List (List ℕ)) (n : ℕ) (s : List ℕ) → Grows count old new → AreNumbered old numbers strings → IsAt new n s →
+    AreNumbered new (numbers ++ n ∷ []) (strings ++ s ∷ [])
+numbered_more old new count numbers strings n s grown h at =
+    let front : AreNumbered new numbers strings = subst (λ l. AreNumbered l numbers strings) (sym grown.is) (numbered_front old grown.more numbers strings h) in
+    map-append (λ number. slice_get new number) numbers (n ∷ [])
+    ∙ (ap₂ (λ (a : List (Option (List ℕ))) (b : Option (List ℕ)). a ++ b ∷ []) front at
+    ∙ sym (map-append (λ (t : List ℕ). Some t) strings (s ∷ [])))
+
+told_by : (all : List (List ℕ)) (numbers : List ℕ) (strings : List (List ℕ)) → StandOnce all → length all ≤ 0x11_0000 → AreNumbered all numbers strings →
+    (number : ℕ) (bytes : List ℕ) → IsAt all number bytes → list_any (λ k. is_added k number) numbers ≡ holds strings bytes
+told_by all [] [] once few h number bytes at = refl
+told_by all [] (s ∷ strings) once few h number bytes at = cc
+told_by all (n ∷ numbers) [] once few h number bytes at = cc
+told_by all (n ∷ numbers) (s ∷ strings) once few h number bytes at =
+    let here = number_at all n numbers s strings h in
+    let short : n < 0x11_0000 = (let within = slice_get_within all n s here in omega arith) in
+    ap₂ ◌||◌ (is_added-place all n number s bytes (λ k there. once k n s there here) short here at ∙ or-false (bytes_eq s bytes))
+    (told_by all numbers strings once few (numbers_behind all n numbers s strings h) number bytes at)
+
+known_by : (all : List (List ℕ)) (numbers : List ℕ) (strings : List (List ℕ)) → AreNumbered all numbers strings → (bytes : List ℕ) → holds strings bytes ≡ true → holds all bytes ≡ true
+known_by all [] [] h bytes held = cc
+known_by all [] (s ∷ strings) h bytes held = cc
+known_by all (n ∷ numbers) [] h bytes held = cc
+known_by all (n ∷ numbers) (s ∷ strings) h bytes held = elim (cases_Bool (bytes_eq s bytes)) [
+  | inl same ↦ at_held all n bytes (number_at all n numbers s strings h ∙ ap Some ((bytes_eq-Decides s bytes).0 same))
+  | inr other ↦ known_by all numbers strings (numbers_behind all n numbers s strings h) bytes (sym (ap (λ b. b || holds strings bytes) other) ∙ held)
+]
+
+within_by : (all : List (List ℕ)) (numbers : List ℕ) (strings : List (List ℕ)) → AreNumbered all numbers strings → (number : ℕ) → list_any (λ k. is_added k number) numbers ≡ true → number < length all
+within_by all [] [] h number member = cc
+within_by all [] (s ∷ strings) h number member = cc
+within_by all (n ∷ numbers) [] h number member = cc
+within_by all (n ∷ numbers) (s ∷ strings) h number member = elim (eqb_tells number n) [
+  | inl equal ↦ (let within = slice_get_within all n s (number_at all n numbers s strings h) in let same = equal.1 in omega arith)
+  | inr apart ↦ (
+      let lacks : is_added n number ≡ false = ap (λ b. b && is_code_point number) apart.0 in
+      within_by all numbers strings (numbers_behind all n numbers s strings h) number (sym (ap (λ b. b || list_any (λ k. is_added k number) numbers) lacks) ∙ member))
+]
+
+-- the set of the numbers of strings has their numbers
+pub numbers_are : (all : List (List ℕ)) (numbers : List ℕ) (strings : List (List ℕ)) (list : List ℕ) → StandOnce all → length all ≤ 0x11_0000 → AreNumbered all numbers strings →
+    ((number : ℕ) → contains list number ≡ list_any (λ k. is_added k number) numbers) → AreNumbersOf all strings list
+numbers_are all numbers strings list once few h is = record {
+  known = known_by all numbers strings h;
+  told = λ number bytes at. is number ∙ told_by all numbers strings once few h number bytes at;
+  within = λ number member. within_by all numbers strings h number (sym (is number) ∙ member);
+}
+
+-- the number of a string is a code point
+pub found_below : (all : List (List ℕ)) (text : List ℕ) (found : Option ℕ) → ((number : ℕ) → found ≡ Some number → IsAt all number text) → length all ≤ 0x11_0000 → IfSome found (λ number. number < 0x11_0000)
+found_below all text None at few = tt
+found_below all text (Some number) at few = let within = slice_get_within all number text (at number refl) in omega arith
+
+-- a string more, by the copies of it that are kept
+pub added : (texts pushed : List (String Global)) (copy key : String Global) (text : List ℕ) (old new : BTreeMap (String Global) ℕ) (number : ℕ) → AreIndexed (map string_bytes texts) old →
+    ((n : ℕ) → IsAt (map string_bytes texts) n text → ⊥) → length (map string_bytes texts) < 0x11_0000 → length (chars text) ≢ 1 → pushed ≡ texts ++ copy ∷ [] →
+    string_bytes copy ≡ text → string_bytes key ≡ text → number ≡ length texts → UpdatesBy string_cmp (λ k. slice_cmp nat_cmp (string_bytes key) (string_bytes k)) old new (Some number) →
+    (map string_bytes pushed ≡ map string_bytes texts ++ text ∷ []) × AreIndexed (map string_bytes pushed) new × IsAt (map string_bytes pushed) number text
+added texts pushed copy key text old new number h absent few one is copied keyed last updates =
+    let all = map string_bytes texts in
+    let more : map string_bytes pushed ≡ all ++ text ∷ [] = ap (map string_bytes) is ∙ (map-append string_bytes texts (copy ∷ []) ∙ ap (λ s. all ++ s ∷ []) copied) in
+    let numbered : number ≡ length all = last ∙ sym (length-map texts string_bytes) in
+    let updated : UpdatesBy string_cmp (λ k. slice_cmp nat_cmp text (string_bytes k)) old new (Some (length all)) =
+    subst (λ n. UpdatesBy string_cmp (λ k. slice_cmp nat_cmp text (string_bytes k)) old new (Some n)) numbered
+    (subst (λ t. UpdatesBy string_cmp (λ k. slice_cmp nat_cmp t (string_bytes k)) old new (Some number)) keyed updates) in (
+      more,
+      subst (λ l. AreIndexed l new) (sym more) (indexed_more all text old new h absent few one updated),
+      subst (λ l. IsAt l number text) (sym more) (subst (λ n. IsAt (all ++ text ∷ []) n text) (sym numbered) (at_last all text)),
+    )
+
+-- where there is no error, all is well
+pub without_error : {T E : Type 0} (r : Result T E) (P : Type 0) → is_err r ≡ false → OnOk r P → P
+without_error (Ok x) P none h = h
+without_error (Err e) P none h = cc

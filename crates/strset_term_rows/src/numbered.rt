@@ -1,0 +1,286 @@
+//! Terms over sets whose strings have numbers, and the numbers themselves.
+ghost use Rattle.std.specs.Prelude.{IfSome};
+ghost use Rattle.cp_strset_terms.specs.Numbers.{AreNumbersOf, KeepsNumbers};
+
+use cp_invlist::{CodePointInversionList, CodePointInversionListBuilder};
+use cp_strset::CodePointInversionListAndStringList;
+use cp_strset_terms::{Leaf, Step, StringNumbers, Way, evaluate};
+use std::alloc::{AllocError, Global};
+use std::process::Abort;
+
+/// The strings `s` with a number behind, so many from the first on, each two further.
+struct Strings {
+    first: u32,
+    count: u32,
+}
+
+const ODD: Strings = Strings {
+    first: 101,
+    count: 300,
+};
+
+const EVEN: Strings = Strings {
+    first: 100,
+    count: 300,
+};
+
+const EVEN_BUT_THE_LAST: Strings = Strings {
+    first: 100,
+    count: 299,
+};
+
+/// Strings without numbers: two of those above, and another.
+const FEW: &[&str] = &["s101", "s102", "x1"];
+
+/// The steps of a term, and the strings of its set. The leaves are the odd and the even ones, the even ones but the last, the
+/// few, and the odd ones again; the last two have no numbers.
+const ROWS: &[(&[Step], &[&str])] = &[
+    (
+        &[Step::Push(1), Step::Push(0), Step::Both(Way::Retain)],
+        &[],
+    ),
+    (
+        &[
+            Step::Push(1),
+            Step::Push(0),
+            Step::Push(3),
+            Step::Both(Way::Join),
+            Step::Both(Way::Retain),
+        ],
+        &["s102"],
+    ),
+    (
+        &[
+            Step::Push(1),
+            Step::Push(3),
+            Step::Both(Way::Join),
+            Step::Push(0),
+            Step::Both(Way::Retain),
+        ],
+        &["s101"],
+    ),
+    (
+        &[Step::Push(1), Step::Push(2), Step::Both(Way::Remove)],
+        &["s698"],
+    ),
+    (
+        &[Step::Push(2), Step::Push(1), Step::Both(Way::RemoveFrom)],
+        &["s698"],
+    ),
+    (
+        &[
+            Step::Push(1),
+            Step::Push(0),
+            Step::Both(Way::Retain),
+            Step::Push(3),
+            Step::Both(Way::Join),
+        ],
+        &["s101", "s102", "x1"],
+    ),
+    // Of leaves without numbers too, each of whose strings is looked up.
+    (
+        &[Step::Push(1), Step::Push(4), Step::Both(Way::Retain)],
+        &[],
+    ),
+    (
+        &[
+            Step::Push(1),
+            Step::Push(2),
+            Step::Both(Way::Remove),
+            Step::Push(0),
+            Step::Push(4),
+            Step::Both(Way::Remove),
+            Step::Both(Way::Join),
+        ],
+        &["s698"],
+    ),
+    (
+        &[
+            Step::Push(1),
+            Step::Push(2),
+            Step::Both(Way::Remove),
+            Step::Push(3),
+            Step::Both(Way::Join),
+            Step::Push(1),
+            Step::Both(Way::Retain),
+        ],
+        &["s102", "s698"],
+    ),
+    // A complement has no strings.
+    (
+        &[
+            Step::Push(1),
+            Step::Complement,
+            Step::Push(0),
+            Step::Both(Way::Retain),
+        ],
+        &[],
+    ),
+];
+
+/// The set of these strings, which has no code points.
+fn set_of(alloc: Global, strings: Vec<String>) -> Option<CodePointInversionListAndStringList> {
+    let none = CodePointInversionListBuilder::new(alloc).build();
+    CodePointInversionListAndStringList::try_from(none, strings).ok()
+}
+
+/// Copies of the texts.
+fn copies(alloc: Global, texts: &[&str]) -> Result<Vec<String>, AllocError> {
+    let mut strings = Vec::new(alloc);
+    for text in texts {
+        strings.push(String::from_str(alloc, text)?)?;
+    }
+    Ok(strings)
+}
+
+/// The strings one behind another.
+fn listed(alloc: Global, strings: &Strings) -> Result<Vec<String>, AllocError> {
+    let mut list = Vec::new(alloc);
+    for index in 0..strings.count {
+        let number = strings.first.saturating_add(index.saturating_mul(2));
+        list.push(format!(in alloc; "s{number}")?)?;
+    }
+    Ok(list)
+}
+
+/// The set of the strings.
+fn set(alloc: Global, strings: &Strings) -> Option<CodePointInversionListAndStringList> {
+    set_of(alloc, listed(alloc, strings).ok()?)
+}
+
+/// The numbers of the strings of the set, each of which has one from now on.
+fn numbers(
+    alloc: Global,
+    all: &mut StringNumbers,
+    set: &CodePointInversionListAndStringList,
+) -> Option<CodePointInversionList>
+    ensures kept { KeepsNumbers all.old all.new }
+    ensures numbers { IfSome result (AreNumbersOf all.new set.now.strings) }
+{
+    all.number(alloc, set).ok()?
+}
+
+/// The set that the steps make of the leaves.
+fn evaluated(alloc: Global, steps: &[Step]) -> Option<CodePointInversionListAndStringList> {
+    let (odd, even) = (set(alloc, &ODD)?, set(alloc, &EVEN)?);
+    let (but_the_last, few) = (
+        set(alloc, &EVEN_BUT_THE_LAST)?,
+        set_of(alloc, copies(alloc, FEW).ok()?)?,
+    );
+    let mut all = StringNumbers::new(alloc);
+    let of_odd = numbers(alloc, &mut all, &odd)?;
+    let of_even = numbers(alloc, &mut all, &even)?;
+    let of_but_the_last = numbers(alloc, &mut all, &but_the_last)?;
+    let leaves = [
+        Leaf::Numbered(&odd, &of_odd),
+        Leaf::Numbered(&even, &of_even),
+        Leaf::Numbered(&but_the_last, &of_but_the_last),
+        Leaf::WithStrings(&few),
+        Leaf::WithStrings(&odd),
+    ];
+    evaluate(alloc, &all, &leaves, steps).ok()
+}
+
+/// Whether the steps make the set of the strings.
+fn is_evaluated(alloc: Global, steps: &[Step], texts: &[&str]) -> Option<bool> {
+    let found = evaluated(alloc, steps)?;
+    let expected = set_of(alloc, copies(alloc, texts).ok()?)?;
+    Some(found == expected)
+}
+
+/// The first row that doesn't hold.
+fn first_wrong(alloc: Global) -> Option<usize> {
+    for (index, (steps, texts)) in ROWS.iter().enumerate() {
+        if is_evaluated(alloc, steps, texts) != Some(true) {
+            return Some(index);
+        }
+    }
+    None
+}
+
+/// Asserts that both are the same. An assertion is proved slowly wherever it stands.
+fn assert_same(rt: &impl Abort, found: Option<usize>, expected: Option<usize>) {
+    assert_eq!(rt; found, expected);
+}
+
+#[test]
+fn terms_over_numbers_are_evaluated(rt: HostRuntime) {
+    assert_same(&rt, first_wrong(rt.alloc()), None);
+}
+
+/// What was told of the numbers of a set.
+#[derive(PartialEq, Debug, Drop)]
+struct Told {
+    /// How many numbers the set has.
+    count: usize,
+    /// How many of its strings have one of them.
+    known: usize,
+    /// Whether the same set has the same numbers again.
+    is_same: bool,
+}
+
+/// How many of the strings have a number that is in the set.
+fn count_known(all: &StringNumbers, list: &CodePointInversionList, strings: &[String]) -> usize {
+    strings
+        .iter()
+        .filter(|string| {
+            all.get(string.as_str())
+                .is_some_and(|number| list.contains32(number))
+        })
+        .count()
+}
+
+/// What is told of the even strings but the last behind the odd ones.
+fn numbered_behind(alloc: Global) -> Option<Told> {
+    let (odd, even) = (set(alloc, &ODD)?, set(alloc, &EVEN_BUT_THE_LAST)?);
+    let mut all = StringNumbers::new(alloc);
+    numbers(alloc, &mut all, &odd)?;
+    let list = numbers(alloc, &mut all, &even)?;
+    let again = numbers(alloc, &mut all, &even)?;
+    Some(Told {
+        count: list.size(),
+        known: count_known(&all, &list, even.strings()),
+        is_same: list == again,
+    })
+}
+
+/// Asserts that what was told is what is expected.
+fn assert_told(rt: &impl Abort, told: Option<Told>, expected: Option<Told>) {
+    assert_eq!(rt; told, expected);
+}
+
+#[test]
+fn strings_keep_their_numbers(rt: HostRuntime) {
+    let expected = Told {
+        count: 299,
+        known: 299,
+        is_same: true,
+    };
+    assert_told(&rt, numbered_behind(rt.alloc()), Some(expected));
+}
+
+/// One string more than there are numbers.
+const TOO_MANY: Strings = Strings {
+    first: 1_000_000,
+    count: 0x11_0001,
+};
+
+/// How many strings of the set have a number, where they were to be given one and are too many.
+fn count_too_many(alloc: Global) -> Option<usize> {
+    let set = set(alloc, &TOO_MANY)?;
+    let mut all = StringNumbers::new(alloc);
+    match all.number(alloc, &set).ok()? {
+        Some(_) => None,
+        None => Some(
+            set.strings()
+                .iter()
+                .filter(|string| all.get(string.as_str()).is_some())
+                .count(),
+        ),
+    }
+}
+
+#[test]
+fn strings_that_are_too_many_have_no_numbers(rt: HostRuntime) {
+    assert_same(&rt, count_too_many(rt.alloc()), Some(0));
+}
