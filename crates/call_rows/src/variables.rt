@@ -1,7 +1,8 @@
 //! Maps of variables.
 use crate::fixtures::{assert_equal, set_of};
+use cp_invlist::{CodePointInversionList, NoMemory};
 use cp_strset::CodePointInversionListAndStringList;
-use std::alloc::Global;
+use std::alloc::{AllocError, Global};
 use std::process::Abort;
 use uset_variables::{InsertError, VariableMap, VariableString, VariableValue};
 
@@ -346,4 +347,146 @@ fn a_copy_of_a_value_is_the_same(rt: HostRuntime) {
 fn a_copy_of_a_string_is_the_same(rt: HostRuntime) {
     let copied = copied_of(rt.alloc(), Kept::String("z"));
     assert_equal(&rt, copied, Some((true, false)));
+}
+
+/// The numbers from the start up to the end, with four digits each.
+fn numerals(alloc: Global, start: u32, end: u32) -> Result<Vec<String>, AllocError> {
+    let mut strings = Vec::new(alloc);
+    for number in start..end {
+        strings.push(format!(in alloc; "{number:04}")?)?;
+    }
+    Ok(strings)
+}
+
+/// The set of these strings.
+fn set_of_numerals(
+    alloc: Global,
+    start: u32,
+    end: u32,
+) -> Option<CodePointInversionListAndStringList> {
+    let code_points = CodePointInversionList::try_from_inversion_list(alloc, &[]).ok()?;
+    let strings = numerals(alloc, start, end).ok()?;
+    CodePointInversionListAndStringList::try_from(code_points, strings).ok()
+}
+
+/// A map in which `many` is 64 strings, `few` is 63 others, and `c` is a character.
+fn many_and_few(alloc: Global) -> Option<VariableMap> {
+    let mut variables = VariableMap::new(alloc);
+    let many = set_of_numerals(alloc, 0, 64)?;
+    variables.insert_set(text(alloc, "many")?, many).ok()?;
+    let few = set_of_numerals(alloc, 100, 163)?;
+    variables.insert_set(text(alloc, "few")?, few).ok()?;
+    variables.insert_char(text(alloc, "c")?, 'x').ok()?;
+    Some(variables)
+}
+
+/// Indexes these names and one that is bound to nothing.
+fn index_all(alloc: Global, variables: &mut VariableMap) -> Result<(), NoMemory> {
+    variables.index(alloc, "many")?;
+    variables.index(alloc, "few")?;
+    variables.index(alloc, "c")?;
+    variables.index(alloc, "nothing")
+}
+
+/// How many numbers the strings of the name have, if they have any.
+fn count_numbers(variables: &VariableMap, name: &str) -> Option<usize> {
+    Some(variables.numbers_of(name)?.size())
+}
+
+/// Whether `many` has so many numbers, and no other name has any.
+fn has_numbers(variables: &VariableMap, expected: Option<usize>) -> bool {
+    count_numbers(variables, "many") == expected
+        && variables.numbers_of("few").is_none()
+        && variables.numbers_of("c").is_none()
+        && variables.numbers_of("nothing").is_none()
+}
+
+/// Whether the string has a number that is one of those of `many`.
+fn is_numbered(variables: &VariableMap, text: &str) -> bool {
+    match (
+        variables.numbers_of("many"),
+        variables.string_numbers().get(text),
+    ) {
+        (Some(numbers), Some(number)) => numbers.contains32(number),
+        _ => false,
+    }
+}
+
+/// Whether the value is a set that is equal to this one.
+fn is_equal_set(
+    value: Option<&VariableValue>,
+    expected: &CodePointInversionListAndStringList,
+) -> bool {
+    match value {
+        Some(VariableValue::UnicodeSet(set)) => set == expected,
+        _ => false,
+    }
+}
+
+/// Whether the names are bound as in `many_and_few`.
+fn are_bound(alloc: Global, variables: &VariableMap) -> Option<bool> {
+    let many = set_of_numerals(alloc, 0, 64)?;
+    let few = set_of_numerals(alloc, 100, 163)?;
+    Some(
+        is_equal_set(variables.get("many"), &many)
+            && is_equal_set(variables.get("few"), &few)
+            && is_kept(variables.get("c"), Kept::Char('x'), &few)
+            && variables.get("nothing").is_none(),
+    )
+}
+
+/// Whether the strings of `many` alone have numbers once the names are indexed, and the names are bound as before.
+fn indexes_many(alloc: Global, variables: &mut VariableMap) -> Option<bool> {
+    let had_numbers = count_numbers(variables, "many").is_some();
+    index_all(alloc, variables).ok()?;
+    Some(
+        !had_numbers
+            && has_numbers(variables, Some(64))
+            && is_numbered(variables, "0000")
+            && is_numbered(variables, "0042")
+            && is_numbered(variables, "0063")
+            && !is_numbered(variables, "0064")
+            && !is_numbered(variables, "0100")
+            && are_bound(alloc, variables)?,
+    )
+}
+
+/// Whether a copy has no numbers, and its names are bound as those of the map.
+fn copies_no_numbers(alloc: Global, variables: &VariableMap) -> Option<bool> {
+    let copied = variables.copy(alloc).ok()?;
+    Some(has_numbers(&copied, None) && are_bound(alloc, &copied)?)
+}
+
+/// Whether `many` has no numbers once it is freed, nor once it is bound anew, and those of its new strings once it is indexed.
+fn frees_numbers(alloc: Global, variables: &mut VariableMap) -> Option<bool> {
+    let was_bound = variables.remove("many").is_some();
+    let is_freed = has_numbers(variables, None);
+    let others = set_of_numerals(alloc, 50, 150)?;
+    variables.insert_set(text(alloc, "many")?, others).ok()?;
+    let is_bound_anew = has_numbers(variables, None);
+    index_all(alloc, variables).ok()?;
+    Some(
+        was_bound
+            && is_freed
+            && is_bound_anew
+            && has_numbers(variables, Some(100))
+            && is_numbered(variables, "0149")
+            && is_numbered(variables, "0050")
+            && !is_numbered(variables, "0049"),
+    )
+}
+
+/// The same of one map, in turn.
+fn numbers_hold(alloc: Global) -> Option<(bool, bool, bool)> {
+    let mut variables = many_and_few(alloc)?;
+    let indexed = indexes_many(alloc, &mut variables)?;
+    let copied = copies_no_numbers(alloc, &variables)?;
+    let freed = frees_numbers(alloc, &mut variables)?;
+    Some((indexed, copied, freed))
+}
+
+#[test]
+fn the_strings_of_a_large_set_have_numbers_once_it_is_indexed(rt: HostRuntime) {
+    let holds = numbers_hold(rt.alloc());
+    assert_equal(&rt, holds, Some((true, true, true)));
 }

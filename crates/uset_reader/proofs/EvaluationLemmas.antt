@@ -31,7 +31,7 @@ use Rattle.uset_steps.specs.Names.{Sets, variable, in_some, in_meant}
 use Rattle.uset_steps.specs.TermSteps.{negated_top}
 use Rattle.uset_steps.specs.NumberedTerms.{put_in, some_put_in, has_at, step_over, steps_over, numbered_in}
 use Rattle.uset_reader.specs.declared.found.FoundSet.{FoundSet}
-use Rattle.uset_reader.specs.declared.found.FoundSet.TheVariants.{Named, Gathered}
+use Rattle.uset_reader.specs.declared.found.FoundSet.TheVariants.{Named, Numbered, Gathered}
 use Rattle.uset_reader.specs.declared.syntax.Syntax.{Syntax}
 use Rattle.uset_reader.specs.Named.{bound_set, sets_of}
 use Rattle.uset_reader.specs.Syntaxes.{language_seen}
@@ -110,12 +110,14 @@ module _ (bytes : List ℕ) (v : ℕ → Bool) where
 -- a set from its lists, which are those of the complement of some
 from_lists : (f : FoundSet) (m : Member) (x : Bool) → is_complement f ≡ x → found_in f m ≡ (if x then negation m (in_set (lists_of_found f) m) else in_set (lists_of_found f) m)
 from_lists (Gathered set) m false h = refl
+from_lists (Numbered set numbers) m false h = refl
 from_lists (Named (Set set)) m false h = refl
 from_lists (Named (CodePoints source)) (point c) false h = refl
 from_lists (Named (CodePoints source)) (string bytes) false h = refl
 from_lists (Named (Complement source)) (point c) true h = refl
 from_lists (Named (Complement source)) (string bytes) true h = refl
 from_lists (Gathered set) m true h = absurd (let e = h in cc)
+from_lists (Numbered set numbers) m true h = absurd (let e = h in cc)
 from_lists (Named (Set set)) m true h = absurd (let e = h in cc)
 from_lists (Named (CodePoints source)) m true h = absurd (let e = h in cc)
 from_lists (Named (Complement source)) m false h = absurd (let e = h in cc)

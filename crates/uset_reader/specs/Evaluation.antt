@@ -1,9 +1,10 @@
 -- Sets of terms, looked up and seen by their lists.
-use Rattle.std.specs.Prelude.{◌≡◌, ℕ, Bool, true, false, List, [], map, Option, Some, None, slice_get}
+use Rattle.std.specs.Prelude.{◌≡◌, ℕ, Bool, true, false, List, [], map, Option, Some, None, slice_get, ⊤}
 use Rattle.cp_strset.specs.StringSet.{StringSet}
 use Rattle.cp_terms.specs.declared.step.Step.{Step}
 use Rattle.cp_terms.specs.declared.step.Step.TheVariants.{Push, Both, Complement as Complemented, Clear}
 use Rattle.cp_strset_terms.specs.Leaves.{code_points_of, strings_of}
+use Rattle.cp_strset_terms.specs.Numbers.{AreNumbersOf}
 use Rattle.cp_strset_terms.specs.declared.leaf.Leaf.{Leaf}
 use Rattle.uset_grammar.specs.Tree.{Member}
 use Rattle.uset_gather.specs.Gathered.{in_set, list_in}
@@ -13,11 +14,7 @@ use Rattle.uset_steps.specs.declared.numbering.TermSet.{TermSet}
 use Rattle.uset_steps.specs.Names.{Sets, named_in}
 use Rattle.uset_steps.specs.NumberedTerms.{put_in, step_over, steps_over}
 use Rattle.uset_reader.specs.declared.found.FoundSet.{FoundSet}
-use Rattle.uset_reader.specs.declared.found.FoundSet.TheVariants.{Named, Gathered}
-
-abbrev pub some_named_in : Option NamedSet → Member → Bool
-some_named_in None m = false
-some_named_in (Some set) m = named_in set m
+use Rattle.uset_reader.specs.declared.found.FoundSet.TheVariants.{Named, Numbered, Gathered}
 
 -- the lists of a set, or of the one whose other code points it has
 abbrev pub lists_of_named : NamedSet → StringSet
@@ -27,7 +24,14 @@ lists_of_named (Complement source) = record { code_points = list_in source; stri
 
 abbrev pub lists_of_found : FoundSet → StringSet
 lists_of_found (Named set) = lists_of_named set
+lists_of_found (Numbered set numbers) = set.now
 lists_of_found (Gathered set) = set
+
+-- where the set has numbers, they are those of its strings
+abbrev pub FoundFits : List (List ℕ) → FoundSet → Type 0
+FoundFits all (Named set) = ⊤
+FoundFits all (Numbered set numbers) = AreNumbersOf all set.now.strings numbers.now
+FoundFits all (Gathered set) = ⊤
 
 abbrev pub lists_of_leaf : Leaf → StringSet
 lists_of_leaf leaf = record { code_points = code_points_of leaf; strings = strings_of leaf }
@@ -40,6 +44,7 @@ complements (Complement source) = true
 
 abbrev pub is_complement : FoundSet → Bool
 is_complement (Named set) = complements set
+is_complement (Numbered set numbers) = false
 is_complement (Gathered set) = false
 
 abbrev pub some_complement : Option FoundSet → Bool
@@ -56,6 +61,7 @@ puts_complement found Clear = false
 -- the set has the member
 abbrev pub found_in : FoundSet → Member → Bool
 found_in (Named set) m = named_in set m
+found_in (Numbered set numbers) m = in_set set.now m
 found_in (Gathered set) m = in_set set m
 
 abbrev pub some_found_in : Option FoundSet → Member → Bool

@@ -1,7 +1,7 @@
 //! The sets of brackets that were left as terms: each name in a term is looked up once.
-ghost use Rattle.std.specs.Prelude.{◌≡◌, All, [], IfOk, OnOk, map};
+ghost use Rattle.std.specs.Prelude.{◌≡◌, ℕ, All, List, [], IfOk, IfSome, OnOk, map};
 ghost use Rattle.cp_invlist.specs.InversionList.{IsInversionList};
-ghost use Rattle.cp_strset_terms.specs.Leaves.{code_points_of};
+ghost use Rattle.cp_strset_terms.specs.Leaves.{code_points_of, FitsNumbers};
 ghost use Rattle.cp_terms.specs.Terms.{top};
 ghost use Rattle.prop_data.specs.Database.{tables_of};
 ghost use Rattle.uset_grammar.specs.Language.{Language};
@@ -12,7 +12,8 @@ ghost use Rattle.uset_gather.specs.Gathered.{in_set};
 ghost use Rattle.uset_steps.specs.Names.{variable, property, name_seen, in_meant};
 ghost use Rattle.uset_steps.specs.NumberedTerms.{put_in, steps_over};
 ghost use Rattle.uset_steps.specs.Terms.{term_in, closed_in};
-ghost use Rattle.uset_reader.specs.Evaluation.{lists_of_leaf, lists_of_found, found_in, some_named_in, puts_complement, AreFound, PushesStep, listed_at, found_at};
+ghost use Rattle.uset_variables.specs.Variables.{numbered_strings};
+ghost use Rattle.uset_reader.specs.Evaluation.{lists_of_leaf, lists_of_found, found_in, some_found_in, FoundFits, puts_complement, AreFound, PushesStep, listed_at, found_at};
 ghost use Rattle.uset_reader.specs.Named.{sets_of};
 ghost use Rattle.uset_reader.specs.Syntaxes.{language_seen, database_seen};
 
@@ -22,59 +23,65 @@ use crate::syntax::Syntax;
 use cp_invlist::NoMemory;
 use cp_invlist::laws::members_are_code_points;
 use cp_strset::CodePointInversionListAndStringList;
-use cp_strset_terms::{Leaf, Step, evaluate};
+use cp_strset_terms::{Leaf, Step, StringNumbers, evaluate};
 use std::alloc::Global;
 use uset_gather::Gathered;
 use uset_read::Query;
 use uset_resolve::Resolver;
 use uset_steps::{Closed, Name, NamedSet, NumberedTerm, Term, TermSet};
 
-/// The set that the variable is bound to, if it is bound to one.
-fn look_up_variable<'v>(syntax: &Syntax<'v>, name: &str) -> Option<NamedSet<'v>>
-    ensures { (m : Member) →
-        some_named_in result m ≡ in_meant (sets_of (language_seen syntax.now)) (variable name.now) m }
+/// The set that the variable is bound to, if it is bound to one, with the numbers of its strings where they are kept.
+fn find_variable<'v>(syntax: &Syntax<'v>, name: &str) -> Option<FoundSet<'v>>
+    ensures members { (m : Member) →
+        some_found_in result m ≡ in_meant (sets_of (language_seen syntax.now)) (variable name.now) m }
+    ensures fits { IfSome result (FoundFits (numbered_strings syntax.now.variables.now)) }
 {
     let Some(value) = syntax.variables.get(name) else {
         return None;
     };
-    match value.as_set() {
-        Some(set) => Some(NamedSet::Set(set)),
-        None => None,
+    let Some(set) = value.as_set() else {
+        return None;
+    };
+    match syntax.variables.numbers_of(name) {
+        Some(numbers) => Some(FoundSet::Numbered(set, numbers)),
+        None => Some(FoundSet::Named(NamedSet::Set(set))),
     }
 }
 
 /// The set that the property asks for, if it resolves.
-fn look_up_property<'v, 'd: 'v>(
+fn find_property<'v, 'd: 'v>(
     alloc: Global,
     resolver: &mut Resolver<'d>,
     query: &Query,
-) -> Result<Option<NamedSet<'v>>, NoMemory>
+) -> Result<Option<FoundSet<'v>>, NoMemory>
     ensures same { resolver.new ≡ resolver.old }
-    ensures set { IfOk result (λ set. (l : Language) → l.resolve ≡ resolve (tables_of resolver.old) → (m : Member) →
-        some_named_in set m ≡ in_meant (sets_of l) (property (query_seen query.now)) m) }
+    ensures set { IfOk result (λ found. (l : Language) → l.resolve ≡ resolve (tables_of resolver.old) → (m : Member) →
+        some_found_in found m ≡ in_meant (sets_of l) (property (query_seen query.now)) m) }
+    ensures fits { IfOk result (λ found. (all : List (List ℕ)) → IfSome found (FoundFits all)) }
 {
     let resolution = resolve_query(alloc, resolver, query)?;
     match set_of(resolution, query.negated) {
-        Ok(set) => Ok(Some(set)),
+        Ok(set) => Ok(Some(FoundSet::Named(set))),
         Err(_) => Ok(None),
     }
 }
 
 /// The set that the name stands for, if it stands for one.
-fn look_up<'v, 'd: 'v>(
+fn find_named<'v, 'd: 'v>(
     alloc: Global,
     syntax: &Syntax<'v>,
     resolver: &mut Resolver<'d>,
     name: &Name,
-) -> Result<Option<NamedSet<'v>>, NoMemory>
+) -> Result<Option<FoundSet<'v>>, NoMemory>
     requires { resolver.old ≡ syntax.now.database.now }
     ensures same { resolver.new ≡ resolver.old }
-    ensures set { IfOk result (λ set. (m : Member) →
-        some_named_in set m ≡ in_meant (sets_of (language_seen syntax.now)) (name_seen name.now) m) }
+    ensures set { IfOk result (λ found. (m : Member) →
+        some_found_in found m ≡ in_meant (sets_of (language_seen syntax.now)) (name_seen name.now) m) }
+    ensures fits { IfOk result (λ found. IfSome found (FoundFits (numbered_strings syntax.now.variables.now))) }
 {
     match name {
-        Name::Variable(name) => Ok(look_up_variable(syntax, name.as_str())),
-        Name::Property(query) => look_up_property(alloc, resolver, query),
+        Name::Variable(name) => Ok(find_variable(syntax, name.as_str())),
+        Name::Property(query) => find_property(alloc, resolver, query),
     }
 }
 
@@ -89,13 +96,14 @@ fn find<'v, 'd: 'v>(
     ensures same { resolver.new ≡ resolver.old }
     ensures set { IfOk result (λ found. (m : Member) →
         found_in found m ≡ put_in (sets_of (language_seen syntax.now)) set m) }
+    ensures fits { IfOk result (FoundFits (numbered_strings syntax.now.variables.now)) }
 {
     let name = match set {
         TermSet::Gathered(set) => return Ok(FoundSet::Gathered(set)),
         TermSet::Named(name) => name,
     };
-    match look_up(alloc, syntax, resolver, &name)? {
-        Some(set) => Ok(FoundSet::Named(set)),
+    match find_named(alloc, syntax, resolver, &name)? {
+        Some(found) => Ok(found),
         None => Ok(FoundSet::Gathered(Gathered::new(alloc).into_set(alloc)?)),
     }
 }
@@ -110,6 +118,7 @@ fn find_all<'v, 'd: 'v>(
     requires { resolver.old ≡ syntax.now.database.now }
     ensures same { resolver.new ≡ resolver.old }
     ensures found { IfOk result (λ found. AreFound (sets_of (language_seen syntax.now)) sets.items found.items) }
+    ensures fits { IfOk result (λ found. All (FoundFits (numbered_strings syntax.now.variables.now)) found.items) }
 {
     let mut found = Vec::with_capacity(alloc, sets.len())?;
     for set in sets {
@@ -122,6 +131,8 @@ fn find_all<'v, 'd: 'v>(
 fn leaves_of<'f>(alloc: Global, found: &'f [FoundSet<'_>]) -> Result<Vec<Leaf<'f>>, NoMemory>
     ensures lists { IfOk result (λ leaves. map lists_of_leaf leaves.items ≡ map lists_of_found found.now) }
     ensures canonical { IfOk result (λ leaves. All (λ leaf. IsInversionList (code_points_of leaf)) leaves.items) }
+    ensures fit { IfOk result (λ leaves. (all : List (List ℕ)) → All (FoundFits all) found.now →
+        All (FitsNumbers all) leaves.items) }
 {
     let mut leaves = Vec::with_capacity(alloc, found.len())?;
     for set in found {
@@ -168,18 +179,20 @@ fn with_complements(
     Ok(all)
 }
 
-/// The set that the steps make of the sets.
+/// The set that the steps make of the sets. Where strings of these have numbers, they are those that `all` gives.
 fn evaluate_steps(
     alloc: Global,
+    all: &StringNumbers,
     steps: &[Step],
     found: &[FoundSet<'_>],
 ) -> Result<CodePointInversionListAndStringList, NoMemory>
+    requires { All (FoundFits all.now) found.now }
     ensures { IfOk result (λ set. (m : Member) → in_set set m ≡ top (steps_over m (found_at found.now m) steps.now [])) }
 {
     let steps = with_complements(alloc, steps, found)?;
     let leaves = leaves_of(alloc, found)?;
     members_are_code_points();
-    evaluate(alloc, &leaves, &steps)
+    evaluate(alloc, all, &leaves, &steps)
 }
 
 /// The set of the term.
@@ -195,7 +208,7 @@ fn evaluate_term<'v, 'd: 'v>(
 {
     let NumberedTerm { sets, steps } = term.into_numbered(alloc)?;
     let found = find_all(alloc, syntax, resolver, sets)?;
-    evaluate_steps(alloc, &steps, &found)
+    evaluate_steps(alloc, syntax.variables.string_numbers(), &steps, &found)
 }
 
 /// The set that was read with this syntax, as lists. Those that are made for properties are kept by the resolver.

@@ -1,5 +1,6 @@
 //! Sets of terms that were looked up.
-ghost use Rattle.std.specs.Prelude.{◌≡◌};
+ghost use Rattle.std.specs.Prelude.{◌≡◌, ℕ, List};
+ghost use Rattle.cp_strset_terms.specs.Leaves.{FitsNumbers};
 ghost use Rattle.uset_reader.specs.Evaluation.{lists_of_leaf, lists_of_named};
 
 use cp_invlist::CodePointInversionList;
@@ -11,6 +12,8 @@ use uset_steps::NamedSet;
 pub(crate) enum FoundSet<'v> {
     /// The set that a name stands for.
     Named(NamedSet<'v>),
+    /// The set of a variable, with the numbers of its strings.
+    Numbered(&'v CodePointInversionListAndStringList, &'v CodePointInversionList),
     /// A set without a name.
     Gathered(CodePointInversionListAndStringList),
 }
@@ -20,6 +23,7 @@ impl Drop for FoundSet<'_> {
     fn drop(self) {
         match self {
             FoundSet::Named(_) => {}
+            FoundSet::Numbered(_, _) => {}
             FoundSet::Gathered(_) => {}
         }
     }
@@ -27,7 +31,8 @@ impl Drop for FoundSet<'_> {
 
 /// The lists of the set, or of the one whose other code points it has.
 fn leaf_of_named<'f>(set: &'f NamedSet<'_>) -> Leaf<'f>
-    ensures { lists_of_leaf result ≡ lists_of_named set.now }
+    ensures lists { lists_of_leaf result ≡ lists_of_named set.now }
+    ensures fits { (all : List (List ℕ)) → FitsNumbers all result }
 {
     match set {
         NamedSet::Set(set) => Leaf::WithStrings(set),
@@ -38,9 +43,10 @@ fn leaf_of_named<'f>(set: &'f NamedSet<'_>) -> Leaf<'f>
 }
 
 impl FoundSet<'_> {
-    ghost use Rattle.std.specs.Prelude.{◌≡◌};
+    ghost use Rattle.std.specs.Prelude.{◌≡◌, ℕ, List};
     ghost use Rattle.cp_invlist.specs.InversionList.{IsInversionList};
-    ghost use Rattle.uset_reader.specs.Evaluation.{lists_of_leaf, lists_of_found, is_complement};
+    ghost use Rattle.cp_strset_terms.specs.Leaves.{FitsNumbers};
+    ghost use Rattle.uset_reader.specs.Evaluation.{lists_of_leaf, lists_of_found, is_complement, FoundFits};
 
     /// The code points of the set, or of the one whose other code points it has.
     fn code_points(&self) -> &CodePointInversionList
@@ -50,6 +56,7 @@ impl FoundSet<'_> {
             FoundSet::Named(NamedSet::Set(set)) => set.code_points(),
             FoundSet::Named(NamedSet::CodePoints(source) | NamedSet::Complement(source)) =>
                 source.list(),
+            FoundSet::Numbered(set, _) => set.code_points(),
             FoundSet::Gathered(set) => set.code_points(),
         }
     }
@@ -58,11 +65,13 @@ impl FoundSet<'_> {
     pub(crate) fn leaf(&self) -> Leaf<'_>
         ensures lists { lists_of_leaf result ≡ lists_of_found self.now }
         ensures canonical { IsInversionList (lists_of_found self.now).code_points }
+        ensures fits { (all : List (List ℕ)) → FoundFits all self.now → FitsNumbers all result }
     {
         // Only the list's own call says that it is canonical.
         let _ = self.code_points().get_inversion_list();
         match self {
             FoundSet::Named(set) => leaf_of_named(set),
+            FoundSet::Numbered(set, numbers) => Leaf::Numbered(set, numbers),
             FoundSet::Gathered(set) => Leaf::WithStrings(set),
         }
     }

@@ -20,7 +20,7 @@ use Rattle.uset_variables.specs.declared.map.VariableMap.{VariableMap}
 use Rattle.uset_variables.specs.declared.value.VariableValue.{VariableValue}
 use Rattle.uset_variables.specs.declared.value.VariableValue.TheVariants.{String as Spelled}
 use Rattle.uset_variables.specs.Values.{value_seen, kept, character_or}
-use Rattle.uset_variables.specs.Variables.{bound, variables_of, no_variables, Binds}
+use Rattle.uset_variables.specs.Variables.{bound, variables_of, no_variables, Binds, IsSame}
 use Rattle.uset_gather.specs.Gathered.{in_set}
 use Rattle.uset_reader.specs.Syntaxes.{language_of}
 use Rattle.uset_parse.specs.Reading.{IsRead, HasTextBehind, IsRefused}
@@ -32,6 +32,10 @@ use Rattle.uset_tool.proofs.AnswerLemmas.{fault_told}
 -- a map that binds no name
 pub nothing_bound : (map : VariableMap) → ((name : List ℕ) → bound map name ≡ None) → variables_of map ≡ no_variables
 nothing_bound map h = fun_ext (λ name. ap (option_map value_seen) (h (encode_utf8_all name)))
+
+-- a map that binds the same names to the same values
+pub same_variables : (old new : VariableMap) → IsSame old new → variables_of new ≡ variables_of old
+same_variables old new h = fun_ext (λ name. ap (option_map value_seen) (h (encode_utf8_all name)))
 
 -- what a name is bound to, by its bytes
 pub bound_name : (map : VariableMap) (name : List ℕ) → IsUtf8 name → variables_of map (chars name) ≡ option_map value_seen (bound map name)

@@ -1,3 +1,4 @@
 pub mod Values
+pub mod Numbered
 pub mod Variables
 pub mod Insertions

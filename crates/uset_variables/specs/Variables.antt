@@ -12,6 +12,10 @@ use Rattle.uset_variables.specs.Values.{value_seen}
 abbrev pub bound : VariableMap → List ℕ → Option VariableValue
 bound map name = option_map (λ kept. kept.value) (get_by_text map.values name)
 
+-- the strings that have numbers, in the order of these
+abbrev pub numbered_strings : VariableMap → List (List ℕ)
+numbered_strings map = map.strings
+
 -- what each name is bound to
 abbrev pub variables_of : VariableMap → Text → Option Value
 variables_of map name = option_map value_seen (bound map (encode_utf8_all name))

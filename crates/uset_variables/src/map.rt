@@ -1,9 +1,17 @@
 //! The variables of a pattern (UTS 35, Unicode Sets).
+ghost use Rattle.std.specs.Prelude.{◌≡◌, Some, IfSome};
+ghost use Rattle.uset_variables.specs.declared.value.VariableValue.TheVariants.{UnicodeSet};
+ghost use Rattle.uset_variables.specs.Numbered.{value_at, AreNumbersOfSets};
+
 use crate::value::{KeptValue, VariableString, VariableValue};
-use cp_invlist::NoMemory;
+use cp_invlist::{CodePointInversionList, NoMemory};
 use cp_strset::CodePointInversionListAndStringList;
+use cp_strset_terms::StringNumbers;
 use std::alloc::Global;
 use std::collections::BTreeMap;
+
+/// A set with fewer strings gets no numbers: they are gathered or looked up as fast without.
+const MANY_STRINGS: usize = 64;
 
 /// Why a name is not bound anew.
 #[derive(Clone, Copy, Drop)]
@@ -14,20 +22,28 @@ pub enum InsertError<'a> {
     NoMemory,
 }
 
-/// A map from the names of variables to their values. A string of exactly one character is kept as that character.
+/// A map from the names of variables to their values. A string of exactly one character is kept as that character. For names
+/// that were asked to be indexed it keeps the numbers of the strings of their sets.
 #[derive(Drop)]
 pub struct VariableMap {
     values: BTreeMap<String, KeptValue>,
+    /// The strings that have numbers.
+    strings: StringNumbers,
+    /// The numbers of the strings of a variable's set, by its name.
+    numbers: BTreeMap<String, CodePointInversionList>,
+    ghost numbered: { AreNumbersOfSets values strings numbers },
 }
 
 impl VariableMap {
-    ghost use Rattle.std.specs.Prelude.{◌≡◌, ℕ, List, None, Some, IfOk, IfSome, OnOk, OnErr, true};
+    ghost use Rattle.std.specs.Prelude.{ℕ, List, None, IfOk, OnOk, OnErr, true};
     ghost use Rattle.std.specs.Borrow.{sem};
     ghost use Rattle.std.specs.Option.{option_copied};
     ghost use Rattle.std.specs.String.{string_bytes};
-    ghost use Rattle.uset_variables.specs.declared.value.VariableValue.TheVariants.{UnicodeSet, Char, String as Spelled};
+    ghost use Rattle.uset_variables.specs.declared.value.VariableValue.TheVariants.{Char, String as Spelled};
     ghost use Rattle.uset_variables.specs.Values.{is_kept, kept};
-    ghost use Rattle.uset_variables.specs.Variables.{bound, Binds, IsSame};
+    ghost use Rattle.cp_strset.specs.StringSet.{StringSet};
+    ghost use Rattle.cp_strset_terms.specs.Numbers.{AreNumbersOf};
+    ghost use Rattle.uset_variables.specs.Variables.{bound, numbered_strings, Binds, IsSame};
     ghost use Rattle.uset_variables.specs.Insertions.{value_present, present_in, EndsInserted};
 
     /// The map that binds no name.
@@ -36,6 +52,8 @@ impl VariableMap {
     {
         VariableMap {
             values: BTreeMap::new(alloc),
+            strings: StringNumbers::new(alloc),
+            numbers: BTreeMap::new(alloc),
         }
     }
 
@@ -111,13 +129,46 @@ impl VariableMap {
         ensures kept { IfSome result (λ v. is_kept v ≡ true) }
         ensures removes { Binds self.old key.now None self.new }
     {
+        let _ = self.numbers.remove(key);
         match self.values.remove(key) {
             Some(kept) => Some(kept.into_value()),
             None => None,
         }
     }
 
-    /// A map that binds the same names to equal values.
+    /// Gives the strings of the set that the name is bound to numbers, where there are at least 64: with these, set expressions
+    /// over the variable needn't go along its strings. A set that the numbers don't suffice for gets none. Names that are bound
+    /// to nothing or to another value stay as they are, and all names are bound as they were, also after a refusal.
+    pub fn index(&mut self, alloc: Global, key: &str) -> Result<(), NoMemory>
+        ensures { IsSame self.old self.new }
+    {
+        if let Some(set) = set_of_many(&self.values, key) {
+            if let Some(mut list) = self.strings.number(alloc, set)? {
+                list.index(alloc)?;
+                let name = String::from_str(alloc, key)?;
+                self.numbers.insert(name, list)?;
+            }
+        }
+        Ok(())
+    }
+
+    /// The strings that have numbers.
+    pub fn string_numbers(&self) -> &StringNumbers
+        ensures { result.now ≡ numbered_strings self.now }
+    {
+        &self.strings
+    }
+
+    /// The numbers of the strings of the set that the name is bound to, where it was indexed and has many strings.
+    pub fn numbers_of(&self, key: &str) -> Option<&CodePointInversionList>
+        ensures { IfSome result (λ numbers. (set : StringSet) →
+            bound self.now key.now ≡ Some (UnicodeSet set) →
+            AreNumbersOf (numbered_strings self.now) set.strings numbers.now) }
+    {
+        self.numbers.get(key)
+    }
+
+    /// A map that binds the same names to equal values. No strings have numbers in it until names are indexed again.
     pub fn copy(&self, alloc: Global) -> Result<VariableMap, NoMemory>
         ensures { IfOk result (λ map. IsSame self.now map) }
     {
@@ -144,7 +195,22 @@ impl VariableMap {
         ensures ok { OnOk result (Binds self.old (string_bytes key) (Some value.value) self.new) }
         ensures err { OnErr result (IsSame self.old self.new) }
     {
+        let _ = self.numbers.remove(key.as_str());
         self.values.insert(key, value)?;
         Ok(())
     }
+}
+
+/// The set that the name is bound to, where it has many strings.
+fn set_of_many<'a>(
+    values: &'a BTreeMap<String, KeptValue>,
+    key: &str,
+) -> Option<&'a CodePointInversionListAndStringList>
+    ensures { IfSome result (λ set. value_at values.now key.now ≡ Some (UnicodeSet set.now)) }
+{
+    let set = values.get(key)?.as_value().as_set()?;
+    if set.strings().len() < MANY_STRINGS {
+        return None;
+    }
+    Some(set)
 }
