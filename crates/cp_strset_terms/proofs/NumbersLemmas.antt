@@ -1,5 +1,5 @@
 -- Strings with numbers.
-use Rattle.std.proofs.Common.{◌≡◌, ◌≢◌, ◌<◌, ◌≤◌, ◌+◌, ◌||◌, ℕ, zero, suc, true, false, ◌&&◌, Option, Some, None, IfSome, OnOk, Result, Ok, Err, List, [], ◌∷◌, ◌++◌, length, map, refl, sym, subst, ap, ap₂, ◌∙◌, append_assoc, append-nil, arith, nat_cmp, inl, inr}
+use Rattle.std.proofs.Common.{◌≡◌, ◌≢◌, ◌<◌, ◌≤◌, ◌||◌, ℕ, zero, suc, true, false, ◌&&◌, Option, Some, None, IfSome, OnOk, Result, Ok, Err, List, [], ◌∷◌, ◌++◌, length, map, refl, sym, subst, ap, ap₂, ◌∙◌, append-nil, arith, nat_cmp, inl, inr}
 use Rattle.std.specs.Prelude.{cond}
 use Rattle.std.proofs.Math.Bool.{or-true, or-false}
 use Rattle.std.proofs.lemmas.Bool.{cases_Bool, cases_lt, cond-true, cond-false, false_from_ne_true}
@@ -120,21 +120,8 @@ keeps_numbers old more new is once strings numbers h = record {
 pub keeps_same : (all : List (List ℕ)) → KeepsNumbers all all
 keeps_same all strings numbers h = h
 
-pub grows_none : (count : ℕ) (all : List (List ℕ)) → Grows count all all
-grows_none count all = record { more = []; is = sym (append-nil all); most = omega arith }
-
-pub grows_weaker : (a b : ℕ) (old new : List (List ℕ)) → a ≤ b → Grows a old new → Grows b old new
-grows_weaker a b old new more h = record { more = h.more; is = h.is; most = (let most = h.most in omega arith) }
-
-pub grows_on : (a b : ℕ) (old between new : List (List ℕ)) → Grows a old between → Grows b between new → Grows (a + b) old new
-grows_on a b old between new h k = record {
-  more = h.more ++ k.more;
-  is = k.is ∙ (ap (λ l. l ++ k.more) h.is ∙ append_assoc old h.more k.more);
-  most = (let first = h.most in let second = k.most in omega (arith, first, second, length-append h.more k.more));
-}
-
-pub grows_length : (a : ℕ) (old new : List (List ℕ)) → Grows a old new → length new ≤ length old + a
-grows_length a old new h = let most = h.most in omega (arith, most, ap length h.is, length-append old h.more)
+pub grows_none : (all : List (List ℕ)) → Grows all all
+grows_none all = record { more = []; is = sym (append-nil all) }
 
 head_same : {X : Type 0} (x y : X) (xs ys : List X) → (x ∷ xs) ≡ (y ∷ ys) → x ≡ y
 head_same x y xs ys e = cc
@@ -157,9 +144,9 @@ numbered_front all more (n ∷ numbers) (s ∷ strings) h =
     ap₂ ◌∷◌ (at_front all more n s (number_at all n numbers s strings h)) (numbered_front all more numbers strings (numbers_behind all n numbers s strings h))
 
 -- one number more
-pub numbered_more : (old new : List (List ℕ)) (count : ℕ) (numbers : List ℕ) (strings : List (List ℕ)) (n : ℕ) (s : List ℕ) → Grows count old new → AreNumbered old numbers strings → IsAt new n s →
+pub numbered_more : (old new : List (List ℕ)) (numbers : List ℕ) (strings : List (List ℕ)) (n : ℕ) (s : List ℕ) → Grows old new → AreNumbered old numbers strings → IsAt new n s →
     AreNumbered new (numbers ++ n ∷ []) (strings ++ s ∷ [])
-numbered_more old new count numbers strings n s grown h at =
+numbered_more old new numbers strings n s grown h at =
     let front : AreNumbered new numbers strings = subst (λ l. AreNumbered l numbers strings) (sym grown.is) (numbered_front old grown.more numbers strings h) in
     map-append (λ number. slice_get new number) numbers (n ∷ [])
     ∙ (ap₂ (λ (a : List (Option (List ℕ))) (b : Option (List ℕ)). a ++ b ∷ []) front at

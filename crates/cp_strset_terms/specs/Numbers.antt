@@ -20,11 +20,10 @@ abbrev pub KeepsNumbers : List (List ℕ) → List (List ℕ) → Type 0
 KeepsNumbers old new = (strings : List (List ℕ)) (numbers : List ℕ) →
     AreNumbersOf old strings numbers → AreNumbersOf new strings numbers
 
--- one list goes on where the other ends, by no more than so many
-pub record Grows (count : ℕ) (old new : List (List ℕ)) : Type 0 where
+-- one list goes on where the other ends
+pub record Grows (old new : List (List ℕ)) : Type 0 where
   pub more : List (List ℕ)
   pub is : new ≡ old ++ more
-  pub most : length more ≤ count
 
 -- no string stands at two places
 abbrev pub StandOnce : List (List ℕ) → Type 0

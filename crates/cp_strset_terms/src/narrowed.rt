@@ -20,7 +20,7 @@ use cp_terms::Step;
 use std::alloc::Global;
 
 /// How many strings of a leaf without numbers are looked up at most.
-const LOOKED_UP: usize = 1024;
+const MOST_LOOKED_UP: usize = 1024;
 
 /// A term has few strings where its candidates have so many times as many.
 const FEW: usize = 16;
@@ -44,7 +44,7 @@ fn is_numbered(leaf: &Leaf<'_>) -> bool
 /// Whether numbers are worth a look: some candidate has them, and each leaf that has none has few strings.
 fn are_worth(leaves: &[Leaf<'_>], candidates: &[Leaf<'_>]) -> bool {
     candidates.iter().any(is_numbered)
-        && leaves.iter().all(|leaf| is_numbered(leaf) || strings(leaf).len() <= LOOKED_UP)
+        && leaves.iter().all(|leaf| is_numbered(leaf) || strings(leaf).len() <= MOST_LOOKED_UP)
 }
 
 /// The leaves without numbers.

@@ -74,7 +74,7 @@ impl StringNumbers {
         requires few { length self.old < 0x11_0000 }
         requires none_of_one { length (chars text.now) ≢ 1 }
         requires unnumbered { (number : ℕ) → IsAt self.old number text.now → ⊥ }
-        ensures grown { Grows 1 self.old self.new }
+        ensures grown { Grows self.old self.new }
         ensures kept { KeepsNumbers self.old self.new }
         ensures number { IfOk result (λ number. IsAt self.new number text.now) }
     {
@@ -88,38 +88,46 @@ impl StringNumbers {
         Ok(number)
     }
 
-    /// The number of the string, which has one from now on.
-    fn number_of(&mut self, alloc: Global, text: &str) -> Result<u32, NoMemory>
-        requires few { length self.old < 0x11_0000 }
-        requires none_of_one { length (chars text.now) ≢ 1 }
-        ensures grown { Grows 1 self.old self.new }
+    /// The number of the string, which has one from now on; none where all numbers are given.
+    fn number_of(&mut self, alloc: Global, text: &str) -> Result<Option<u32>, NoMemory>
+        requires { length (chars text.now) ≢ 1 }
+        ensures grown { Grows self.old self.new }
         ensures kept { KeepsNumbers self.old self.new }
-        ensures number { IfOk result (λ number. IsAt self.new number text.now) }
+        ensures number { IfOk result (λ number. IfSome number (λ n. IsAt self.new n text.now)) }
     {
-        match self.get(text) {
-            Some(number) => Ok(number),
-            None => self.add(alloc, text),
+        if let Some(number) = self.get(text) {
+            return Ok(Some(number));
         }
+        if self.texts.len() >= MOST_STRINGS {
+            return Ok(None);
+        }
+        Ok(Some(self.add(alloc, text)?))
     }
 
-    /// The number of each string, which has one from now on.
-    fn numbers_of(&mut self, alloc: Global, strings: &[String]) -> Result<Vec<u32>, NoMemory>
-        requires few { length self.old + length strings.now ≤ 0x11_0000 }
-        requires none_of_one { All (λ s. length (chars s) ≢ 1) (map string_bytes strings.now) }
-        ensures grown { Grows (length strings.now) self.old self.new }
+    /// The number of each string, which has one from now on; none where too few numbers are left.
+    fn numbers_of(
+        &mut self,
+        alloc: Global,
+        strings: &[String],
+    ) -> Result<Option<Vec<u32>>, NoMemory>
+        requires { All (λ s. length (chars s) ≢ 1) (map string_bytes strings.now) }
         ensures kept { KeepsNumbers self.old self.new }
-        ensures numbers { IfOk result (λ numbers. AreNumbered self.new numbers.items (map string_bytes strings.now)) }
+        ensures numbers { IfOk result (λ numbers.
+            IfSome numbers (λ ns. AreNumbered self.new ns.items (map string_bytes strings.now))) }
     {
         let mut numbers = Vec::with_capacity(alloc, strings.len())?;
         for string in strings {
-            numbers.push(self.number_of(alloc, string.as_str())?)?;
+            let Some(number) = self.number_of(alloc, string.as_str())? else {
+                return Ok(None);
+            };
+            numbers.push(number)?;
         }
-        Ok(numbers)
+        Ok(Some(numbers))
     }
 
-    /// The numbers of the strings of the set, each of which has one from now on; none where so many numbers aren't left. The
-    /// numbers of other sets stay theirs. `NoMemory` says that a request for memory was refused: some of the strings may have
-    /// their numbers then.
+    /// The numbers of the strings of the set, each of which has one from now on; none where too few numbers are left, after
+    /// which some of the strings may have theirs. The numbers of other sets stay theirs. `NoMemory` says that a request for
+    /// memory was refused: some of the strings may have their numbers then too.
     pub fn number(
         &mut self,
         alloc: Global,
@@ -129,11 +137,9 @@ impl StringNumbers {
         ensures numbers { IfOk result
             (λ numbers. IfSome numbers (λ list. AreNumbersOf self.new set.now.strings list)) }
     {
-        let strings = set.strings();
-        if strings.len() > MOST_STRINGS - self.texts.len() {
+        let Some(numbers) = self.numbers_of(alloc, set.strings())? else {
             return Ok(None);
-        }
-        let numbers = self.numbers_of(alloc, strings)?;
+        };
         // Only this call says that each string stands once.
         let _ = self.texts();
         Ok(Some(list_of(alloc, numbers)?))

@@ -6,6 +6,7 @@ use cp_invlist::{CodePointInversionList, CodePointInversionListBuilder};
 use cp_strset::CodePointInversionListAndStringList;
 use cp_strset_terms::{Leaf, Step, StringNumbers, Way, evaluate};
 use std::alloc::{AllocError, Global};
+use std::fmt;
 use std::process::Abort;
 
 /// The strings `s` with a number behind, so many from the first on, each two further.
@@ -198,14 +199,14 @@ fn first_wrong(alloc: Global) -> Option<usize> {
     None
 }
 
-/// Asserts that both are the same. An assertion is proved slowly wherever it stands.
-fn assert_same(rt: &impl Abort, found: Option<usize>, expected: Option<usize>) {
+/// Asserts that both are the same. An assertion is proved slowly wherever it stands, so that the tests share this one.
+fn assert_equal<T: PartialEq + fmt::Debug + Drop>(rt: &impl Abort, found: T, expected: T) {
     assert_eq!(rt; found, expected);
 }
 
 #[test]
 fn terms_over_numbers_are_evaluated(rt: HostRuntime) {
-    assert_same(&rt, first_wrong(rt.alloc()), None);
+    assert_equal(&rt, first_wrong(rt.alloc()), None);
 }
 
 /// What was told of the numbers of a set.
@@ -244,11 +245,6 @@ fn numbered_behind(alloc: Global) -> Option<Told> {
     })
 }
 
-/// Asserts that what was told is what is expected.
-fn assert_told(rt: &impl Abort, told: Option<Told>, expected: Option<Told>) {
-    assert_eq!(rt; told, expected);
-}
-
 #[test]
 fn strings_keep_their_numbers(rt: HostRuntime) {
     let expected = Told {
@@ -256,7 +252,7 @@ fn strings_keep_their_numbers(rt: HostRuntime) {
         known: 299,
         is_same: true,
     };
-    assert_told(&rt, numbered_behind(rt.alloc()), Some(expected));
+    assert_equal(&rt, numbered_behind(rt.alloc()), Some(expected));
 }
 
 /// One string more than there are numbers.
@@ -265,22 +261,29 @@ const TOO_MANY: Strings = Strings {
     count: 0x11_0001,
 };
 
-/// How many strings of the set have a number, where they were to be given one and are too many.
-fn count_too_many(alloc: Global) -> Option<usize> {
-    let set = set(alloc, &TOO_MANY)?;
+/// Some of these.
+const SOME: Strings = Strings {
+    first: 1_000_002,
+    count: 300,
+};
+
+/// How many of strings that are too many have a number, and how many numbers a set of some of them has behind these.
+fn count_too_many(alloc: Global) -> Option<(usize, usize)> {
+    let (too_many, some) = (set(alloc, &TOO_MANY)?, set(alloc, &SOME)?);
     let mut all = StringNumbers::new(alloc);
-    match all.number(alloc, &set).ok()? {
-        Some(_) => None,
-        None => Some(
-            set.strings()
-                .iter()
-                .filter(|string| all.get(string.as_str()).is_some())
-                .count(),
-        ),
+    if all.number(alloc, &too_many).ok()?.is_some() {
+        return None;
     }
+    let list = numbers(alloc, &mut all, &some)?;
+    let known = too_many
+        .strings()
+        .iter()
+        .filter(|string| all.get(string.as_str()).is_some())
+        .count();
+    Some((known, list.size()))
 }
 
 #[test]
 fn strings_that_are_too_many_have_no_numbers(rt: HostRuntime) {
-    assert_same(&rt, count_too_many(rt.alloc()), Some(0));
+    assert_equal(&rt, count_too_many(rt.alloc()), Some((0x11_0000, 300)));
 }

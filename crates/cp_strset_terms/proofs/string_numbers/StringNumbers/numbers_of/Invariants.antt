@@ -1,10 +1,8 @@
-use Rattle.std.proofs.Common.{length, map, take}
+use Rattle.std.proofs.Common.{map, take}
 use Rattle.std.specs.String.{string_bytes}
-use Rattle.cp_strset_terms.specs.Numbers.{KeepsNumbers, AreNumbered, Grows}
+use Rattle.cp_strset_terms.specs.Numbers.{KeepsNumbers, AreNumbered}
 use Rattle.cp_strset_terms.proofs.string_numbers.StringNumbers.numbers_of.Given as goal
 
 abbrev pub invariant-loop-string : goal.invariant-loop-string
 invariant-loop-string l =
-    Grows (length (take l.string-index l.strings)) l.initial.self l.self
-    × KeepsNumbers l.initial.self l.self
-    × AreNumbered l.self l.numbers.items (map string_bytes (take l.string-index l.strings))
+    KeepsNumbers l.initial.self l.self × AreNumbered l.self l.numbers.items (map string_bytes (take l.string-index l.strings))
