@@ -1,5 +1,5 @@
 -- The strings that a term keeps of a list.
-use Rattle.std.proofs.Common.{nat_lt, ◌≡◌, ◌≢◌, ◌<◌, ◌≤◌, ◌+◌, ◌-◌, ◌||◌, ◌&&◌, ℕ, Bool, true, false, true≢false, cond, Bor, Some, List, [], ◌∷◌, ◌++◌, length, map, filter, take, drop, get_or, refl, sym, subst, ap, ap₂, ◌∙◌, append_assoc, append-nil, arith, inl, inr}
+use Rattle.std.proofs.Common.{nat_lt, ◌≡◌, ◌≢◌, ◌<◌, ◌≤◌, ◌+◌, ◌-◌, ◌||◌, ◌&&◌, ◌==◌, ℕ, Bool, true, false, true≢false, cond, Bor, Some, List, [], ◌∷◌, ◌++◌, length, map, filter, take, drop, get_or, refl, sym, subst, ap, ap₂, ◌∙◌, append_assoc, append-nil, arith, inl, inr}
 use Rattle.std.proofs.Math.Seq.{take-add}
 use Rattle.std.proofs.Math.Bool.{or-false}
 use Rattle.std.proofs.lemmas.Bool.{cases_Bool, cases_lt, cond-true, cond-false, eq-eqb, le-leb, lt-ltb, le-ltb}
@@ -88,6 +88,21 @@ is_added-place list added place string text once short at here = elim (cases_Boo
         let there : IsAt list place string = subst (λ k. IsAt list k string) (sym equal.1) at in
         absurd (true≢false (sym (one_text list place string text there here) ∙ other)))
     | inr apart ↦ ap (λ b. b && is_code_point place) apart.0 ∙ ap (λ b. b || false) (sym other)
+  ]
+]
+
+-- a number is that of a string at its only place exactly where its text is the string
+pub same_place : (list : List (List ℕ)) (added place : ℕ) (string text : List ℕ) → ((k : ℕ) → IsAt list k string → k ≡ added) → IsAt list added string →
+    IsAt list place text → (added == place) ≡ (bytes_eq string text || false)
+same_place list added place string text once at here = elim (cases_Bool (bytes_eq string text)) [
+  | inl same ↦ (
+      let there : IsAt list place string = here ∙ ap Some (sym ((bytes_eq-Decides string text).0 same)) in
+      eq-eqb added place (sym (once place there)) ∙ ap (λ b. b || false) (sym same))
+  | inr other ↦ elim (eqb_tells added place) [
+    | inl equal ↦ (
+        let there : IsAt list place string = subst (λ k. IsAt list k string) equal.1 at in
+        absurd (true≢false (sym (one_text list place string text there here) ∙ other)))
+    | inr apart ↦ apart.0 ∙ ap (λ b. b || false) (sym other)
   ]
 ]
 

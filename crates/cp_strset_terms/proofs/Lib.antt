@@ -7,3 +7,4 @@ pub mod CutLemmas
 pub mod CandidatesLemmas
 pub mod NumbersLemmas
 pub mod NarrowedLemmas
+pub mod NumberSetLemmas

@@ -1,10 +1,11 @@
 -- Texts among which are all strings of a term.
-use Rattle.std.proofs.Common.{◌≡◌, ◌≢◌, ◌<◌, ◌≤◌, ◌+◌, ◌-◌, ◌||◌, ℕ, zero, suc, true, false, true≢false, All, List, [], ◌∷◌, ◌++◌, length, map, take, drop, get_or, nat_le, sym, subst, ap, ◌∙◌, arith, inl, inr}
+use Rattle.std.proofs.Common.{◌≡◌, ◌≢◌, ◌<◌, ◌≤◌, ◌+◌, ◌-◌, ◌*◌, ◌/◌, ◌%◌, ◌||◌, ℕ, zero, suc, true, false, true≢false, All, List, [], ◌∷◌, ◌++◌, length, map, take, drop, get_or, nat_le, sym, subst, ap, ◌∙◌, arith, inl, inr}
 use Rattle.std.proofs.Math.Bool.{or-true}
 use Rattle.std.proofs.lemmas.Bool.{cases_Bool, and_parts, leb-true}
 use Rattle.std.proofs.lemmas.List.{take_more, take-map, drop-map}
 use Rattle.std.proofs.lemmas.List.Elements.{All-take, All-drop}
 use Rattle.std.proofs.lemmas.List.Folds.{list_any-append}
+use Rattle.std.proofs.lemmas.Nat.{div-add-mod'}
 use Rattle.std.specs.declared.string.String.{String}
 use Rattle.std.specs.Global.{Global}
 use Rattle.std.specs.List.{flat_map}
@@ -109,3 +110,13 @@ range_pushed old more new text range ranges number is here h = elim (cases_Bool 
         ap (λ b. holds new text || b) left ∙ or-true (holds new text))
   ]
 ]
+
+-- a string with a number of a piece stands at its place behind the strings in front of that piece
+pub at_behind : (strings : List (String Global)) (start number : ℕ) (text : List ℕ) → start ≡ number / 0x11_0000 * 0x11_0000 → IsAt (map string_bytes strings) number text →
+    IsAt (map string_bytes (drop start strings)) (number % 0x11_0000) text
+at_behind strings start number text front at =
+    let whole = div-add-mod' number 0x11_0000 in
+    let from : start ≤ number = omega arith in
+    let place : number - start ≡ number % 0x11_0000 = omega arith in
+    subst (λ l. IsAt l (number % 0x11_0000) text) (drop-map string_bytes start strings)
+    (subst (λ i. IsAt (drop start (map string_bytes strings)) i text) place (at_drop (map string_bytes strings) start number text at from))

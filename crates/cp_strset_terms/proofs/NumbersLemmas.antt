@@ -1,5 +1,5 @@
 -- Strings with numbers.
-use Rattle.std.proofs.Common.{◌≡◌, ◌≢◌, ◌<◌, ◌≤◌, ◌||◌, ℕ, zero, suc, true, false, ◌&&◌, Option, Some, None, IfSome, OnOk, Result, Ok, Err, List, [], ◌∷◌, ◌++◌, length, map, refl, sym, subst, ap, ap₂, ◌∙◌, append-nil, arith, nat_cmp, inl, inr}
+use Rattle.std.proofs.Common.{◌≡◌, ◌≢◌, ◌<◌, ◌≤◌, ◌||◌, ℕ, zero, suc, true, false, ◌==◌, Option, Some, OnOk, Result, Ok, Err, List, [], ◌∷◌, ◌++◌, length, map, refl, sym, subst, ap, ap₂, ◌∙◌, arith, nat_cmp, inl, inr}
 use Rattle.std.specs.Prelude.{cond}
 use Rattle.std.proofs.Math.Bool.{or-true, or-false}
 use Rattle.std.proofs.lemmas.Bool.{cases_Bool, cases_lt, cond-true, cond-false, false_from_ne_true}
@@ -18,11 +18,11 @@ use Rattle.std.specs.List.{list_any, slice_get}
 use Rattle.std.specs.Result.{is_err}
 use Rattle.std.specs.Str.{bytes_eq, chars}
 use Rattle.std.specs.String.{string_bytes, string_cmp}
-use Rattle.cp_invlist.specs.InversionList.{contains, is_code_point, is_added}
 use Rattle.cp_strset.specs.StringList.{holds}
 use Rattle.cp_strset_terms.specs.Numbers.{AreNumbersOf, KeepsNumbers, Grows, AreNumbered, AreIndexed, StandOnce}
+use Rattle.cp_strset_terms.specs.NumberSets.{has_number}
 use Rattle.cp_strset_terms.specs.Places.{IsAt}
-use Rattle.cp_strset_terms.proofs.KeptLemmas.{is_added-place}
+use Rattle.cp_strset_terms.proofs.KeptLemmas.{same_place}
 
 -- a string stands where it stood in a list that goes on
 pub at_front : (xs ys : List (List ℕ)) (i : ℕ) (s : List ℕ) → IsAt xs i s → IsAt (xs ++ ys) i s
@@ -66,11 +66,10 @@ stand_once all indices h i j s at there = same_Some i j (sym ((h.found s i).1 at
 
 -- one string more is found too
 pub indexed_more : (all : List (List ℕ)) (text : List ℕ) (old new : BTreeMap (String Global) ℕ) → AreIndexed all old → ((number : ℕ) → IsAt all number text → ⊥) →
-    length all < 0x11_0000 → length (chars text) ≢ 1 → UpdatesBy string_cmp (λ k. slice_cmp nat_cmp text (string_bytes k)) old new (Some (length all)) →
+    length (chars text) ≢ 1 → UpdatesBy string_cmp (λ k. slice_cmp nat_cmp text (string_bytes k)) old new (Some (length all)) →
     AreIndexed (all ++ text ∷ []) new
-indexed_more all text old new h absent few one updates = record {
+indexed_more all text old new h absent one updates = record {
   found = λ bytes number. (found bytes number, stands bytes number);
-  few = omega (arith, few, length-append all (text ∷ []));
   none_of_one = All-append (λ s. length (chars s) ≢ 1) all (text ∷ []) h.none_of_one (All-cons (λ s. length (chars s) ≢ 1) text [] one (All-nil (λ s. length (chars s) ≢ 1)));
 }
   where
@@ -104,11 +103,11 @@ keeps_numbers old more new is once strings numbers h = record {
   within = λ number member. (let below = h.within number member in omega (arith, below, ap length is, length-append old more));
 }
   where
-    told : (number : ℕ) (bytes : List ℕ) → IsAt new number bytes → contains numbers number ≡ holds strings bytes
+    told : (number : ℕ) (bytes : List ℕ) → IsAt new number bytes → has_number numbers number ≡ holds strings bytes
     told number bytes at = elim (cases_lt number (length old)) [
       | inl before ↦ h.told number bytes (at_before old more number bytes (subst (λ l. IsAt l number bytes) is at) before)
       | inr behind ↦ (
-          let none : contains numbers number ≡ false = false_from_ne_true (contains numbers number) (λ member. (let below = h.within number member in absurd (omega arith))) in
+          let none : has_number numbers number ≡ false = false_from_ne_true (has_number numbers number) (λ member. (let below = h.within number member in absurd (omega arith))) in
           let lacks : holds strings bytes ≡ false = false_from_ne_true (holds strings bytes) (λ held.
           let place = held_at old bytes (h.known bytes held) in
           let below = slice_get_within old place.0 bytes place.1 in
@@ -116,12 +115,6 @@ keeps_numbers old more new is once strings numbers h = record {
           absurd (omega arith)) in
           none ∙ sym lacks)
     ]
-
-pub keeps_same : (all : List (List ℕ)) → KeepsNumbers all all
-keeps_same all strings numbers h = h
-
-pub grows_none : (all : List (List ℕ)) → Grows all all
-grows_none all = record { more = []; is = sym (append-nil all) }
 
 head_same : {X : Type 0} (x y : X) (xs ys : List X) → (x ∷ xs) ≡ (y ∷ ys) → x ≡ y
 head_same x y xs ys e = cc
@@ -152,16 +145,15 @@ numbered_more old new numbers strings n s grown h at =
     ∙ (ap₂ (λ (a : List (Option (List ℕ))) (b : Option (List ℕ)). a ++ b ∷ []) front at
     ∙ sym (map-append (λ (t : List ℕ). Some t) strings (s ∷ [])))
 
-told_by : (all : List (List ℕ)) (numbers : List ℕ) (strings : List (List ℕ)) → StandOnce all → length all ≤ 0x11_0000 → AreNumbered all numbers strings →
-    (number : ℕ) (bytes : List ℕ) → IsAt all number bytes → list_any (λ k. is_added k number) numbers ≡ holds strings bytes
-told_by all [] [] once few h number bytes at = refl
-told_by all [] (s ∷ strings) once few h number bytes at = cc
-told_by all (n ∷ numbers) [] once few h number bytes at = cc
-told_by all (n ∷ numbers) (s ∷ strings) once few h number bytes at =
+told_by : (all : List (List ℕ)) (numbers : List ℕ) (strings : List (List ℕ)) → StandOnce all → AreNumbered all numbers strings →
+    (number : ℕ) (bytes : List ℕ) → IsAt all number bytes → list_any (λ n. n == number) numbers ≡ holds strings bytes
+told_by all [] [] once h number bytes at = refl
+told_by all [] (s ∷ strings) once h number bytes at = cc
+told_by all (n ∷ numbers) [] once h number bytes at = cc
+told_by all (n ∷ numbers) (s ∷ strings) once h number bytes at =
     let here = number_at all n numbers s strings h in
-    let short : n < 0x11_0000 = (let within = slice_get_within all n s here in omega arith) in
-    ap₂ ◌||◌ (is_added-place all n number s bytes (λ k there. once k n s there here) short here at ∙ or-false (bytes_eq s bytes))
-    (told_by all numbers strings once few (numbers_behind all n numbers s strings h) number bytes at)
+    ap₂ ◌||◌ (same_place all n number s bytes (λ k there. once k n s there here) here at ∙ or-false (bytes_eq s bytes))
+    (told_by all numbers strings once (numbers_behind all n numbers s strings h) number bytes at)
 
 known_by : (all : List (List ℕ)) (numbers : List ℕ) (strings : List (List ℕ)) → AreNumbered all numbers strings → (bytes : List ℕ) → holds strings bytes ≡ true → holds all bytes ≡ true
 known_by all [] [] h bytes held = cc
@@ -172,37 +164,30 @@ known_by all (n ∷ numbers) (s ∷ strings) h bytes held = elim (cases_Bool (by
   | inr other ↦ known_by all numbers strings (numbers_behind all n numbers s strings h) bytes (sym (ap (λ b. b || holds strings bytes) other) ∙ held)
 ]
 
-within_by : (all : List (List ℕ)) (numbers : List ℕ) (strings : List (List ℕ)) → AreNumbered all numbers strings → (number : ℕ) → list_any (λ k. is_added k number) numbers ≡ true → number < length all
+within_by : (all : List (List ℕ)) (numbers : List ℕ) (strings : List (List ℕ)) → AreNumbered all numbers strings → (number : ℕ) → list_any (λ n. n == number) numbers ≡ true → number < length all
 within_by all [] [] h number member = cc
 within_by all [] (s ∷ strings) h number member = cc
 within_by all (n ∷ numbers) [] h number member = cc
-within_by all (n ∷ numbers) (s ∷ strings) h number member = elim (eqb_tells number n) [
+within_by all (n ∷ numbers) (s ∷ strings) h number member = elim (eqb_tells n number) [
   | inl equal ↦ (let within = slice_get_within all n s (number_at all n numbers s strings h) in let same = equal.1 in omega arith)
-  | inr apart ↦ (
-      let lacks : is_added n number ≡ false = ap (λ b. b && is_code_point number) apart.0 in
-      within_by all numbers strings (numbers_behind all n numbers s strings h) number (sym (ap (λ b. b || list_any (λ k. is_added k number) numbers) lacks) ∙ member))
+  | inr apart ↦ within_by all numbers strings (numbers_behind all n numbers s strings h) number (sym (ap (λ b. b || list_any (λ k. k == number) numbers) apart.0) ∙ member)
 ]
 
 -- the set of the numbers of strings has their numbers
-pub numbers_are : (all : List (List ℕ)) (numbers : List ℕ) (strings : List (List ℕ)) (list : List ℕ) → StandOnce all → length all ≤ 0x11_0000 → AreNumbered all numbers strings →
-    ((number : ℕ) → contains list number ≡ list_any (λ k. is_added k number) numbers) → AreNumbersOf all strings list
-numbers_are all numbers strings list once few h is = record {
+pub numbers_are : (all : List (List ℕ)) (numbers : List ℕ) (strings set : List (List ℕ)) → StandOnce all → AreNumbered all numbers strings →
+    ((number : ℕ) → has_number set number ≡ list_any (λ n. n == number) numbers) → AreNumbersOf all strings set
+numbers_are all numbers strings set once h is = record {
   known = known_by all numbers strings h;
-  told = λ number bytes at. is number ∙ told_by all numbers strings once few h number bytes at;
+  told = λ number bytes at. is number ∙ told_by all numbers strings once h number bytes at;
   within = λ number member. within_by all numbers strings h number (sym (is number) ∙ member);
 }
 
--- the number of a string is a code point
-pub found_below : (all : List (List ℕ)) (text : List ℕ) (found : Option ℕ) → ((number : ℕ) → found ≡ Some number → IsAt all number text) → length all ≤ 0x11_0000 → IfSome found (λ number. number < 0x11_0000)
-found_below all text None at few = tt
-found_below all text (Some number) at few = let within = slice_get_within all number text (at number refl) in omega arith
-
 -- a string more, by the copies of it that are kept
 pub added : (texts pushed : List (String Global)) (copy key : String Global) (text : List ℕ) (old new : BTreeMap (String Global) ℕ) (number : ℕ) → AreIndexed (map string_bytes texts) old →
-    ((n : ℕ) → IsAt (map string_bytes texts) n text → ⊥) → length (map string_bytes texts) < 0x11_0000 → length (chars text) ≢ 1 → pushed ≡ texts ++ copy ∷ [] →
+    ((n : ℕ) → IsAt (map string_bytes texts) n text → ⊥) → length (chars text) ≢ 1 → pushed ≡ texts ++ copy ∷ [] →
     string_bytes copy ≡ text → string_bytes key ≡ text → number ≡ length texts → UpdatesBy string_cmp (λ k. slice_cmp nat_cmp (string_bytes key) (string_bytes k)) old new (Some number) →
     (map string_bytes pushed ≡ map string_bytes texts ++ text ∷ []) × AreIndexed (map string_bytes pushed) new × IsAt (map string_bytes pushed) number text
-added texts pushed copy key text old new number h absent few one is copied keyed last updates =
+added texts pushed copy key text old new number h absent one is copied keyed last updates =
     let all = map string_bytes texts in
     let more : map string_bytes pushed ≡ all ++ text ∷ [] = ap (map string_bytes) is ∙ (map-append string_bytes texts (copy ∷ []) ∙ ap (λ s. all ++ s ∷ []) copied) in
     let numbered : number ≡ length all = last ∙ sym (length-map texts string_bytes) in
@@ -210,7 +195,7 @@ added texts pushed copy key text old new number h absent few one is copied keyed
     subst (λ n. UpdatesBy string_cmp (λ k. slice_cmp nat_cmp text (string_bytes k)) old new (Some n)) numbered
     (subst (λ t. UpdatesBy string_cmp (λ k. slice_cmp nat_cmp t (string_bytes k)) old new (Some number)) keyed updates) in (
       more,
-      subst (λ l. AreIndexed l new) (sym more) (indexed_more all text old new h absent few one updated),
+      subst (λ l. AreIndexed l new) (sym more) (indexed_more all text old new h absent one updated),
       subst (λ l. IsAt l number text) (sym more) (subst (λ n. IsAt (all ++ text ∷ []) n text) (sym numbered) (at_last all text)),
     )
 

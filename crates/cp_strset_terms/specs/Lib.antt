@@ -4,4 +4,5 @@ pub mod Steps
 pub mod Candidates
 pub mod Cut
 pub mod Numbers
+pub mod NumberSets
 pub mod LeafNumbers

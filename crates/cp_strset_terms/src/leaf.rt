@@ -4,6 +4,7 @@ ghost use Rattle.std.specs.String.{string_bytes};
 ghost use Rattle.cp_strset.specs.StringList.{AreCanonical};
 ghost use Rattle.cp_strset_terms.specs.Leaves.{code_points_of, strings_of};
 
+use crate::number_set::NumberSet;
 use cp_invlist::{CodePointInversionList, NoMemory};
 use cp_strset::CodePointInversionListAndStringList;
 use std::alloc::Global;
@@ -16,7 +17,7 @@ pub enum Leaf<'a> {
     /// Code points and strings.
     WithStrings(&'a CodePointInversionListAndStringList),
     /// The same, with the numbers of the strings.
-    Numbered(&'a CodePointInversionListAndStringList, &'a CodePointInversionList),
+    Numbered(&'a CodePointInversionListAndStringList, &'a NumberSet),
 }
 
 /// The code points of a leaf.

@@ -14,6 +14,7 @@ mod leaf;
 mod leaf_numbers;
 mod members;
 mod narrowed;
+mod number_set;
 mod numbers;
 mod string_numbers;
 mod table;
@@ -25,6 +26,7 @@ pub use cp_terms::{Step, Way};
 pub use leaf::Leaf;
 use leaf::code_point_lists;
 use members::strings_of_term;
+pub use number_set::NumberSet;
 use std::alloc::Global;
 pub use string_numbers::StringNumbers;
 

@@ -11,14 +11,12 @@ ghost use Rattle.cp_strset_terms.specs.Steps.{without_complement, without_comple
 use crate::candidates::candidates;
 use crate::leaf::Leaf;
 use crate::narrowed::table_of_term;
+use crate::number_set::PIECE;
 use crate::numbers::places_of_leaves;
 use crate::string_numbers::StringNumbers;
-use cp_invlist::{CodePointInversionList, LAST_CODE_POINT, NoMemory};
+use cp_invlist::{CodePointInversionList, NoMemory};
 use cp_terms::Step;
 use std::alloc::Global;
-
-/// How many strings are numbered at once, since a set has no numbers but code points.
-const PIECE: usize = LAST_CODE_POINT as usize + 1;
 
 /// The step that makes of strings what the step makes of sets: a complement has none.
 fn complement_free_step(step: Step) -> Step

@@ -1,5 +1,5 @@
 //! Texts among which are all strings of a term: where numbers tell that it has few, these and those of leaves without numbers.
-ghost use Rattle.std.specs.Prelude.{◌≡◌, ◌≢◌, ℕ, true, false, List, All, IfOk, OnOk, length, map};
+ghost use Rattle.std.specs.Prelude.{◌≡◌, ◌≢◌, ◌/◌, ◌%◌, ℕ, true, false, List, All, IfOk, OnOk, length, map};
 ghost use Rattle.std.specs.List.{flat_map};
 ghost use Rattle.std.specs.Str.{chars};
 ghost use Rattle.std.specs.String.{string_bytes};
@@ -8,10 +8,12 @@ ghost use Rattle.cp_invlist.specs.Ranges.{in_range};
 ghost use Rattle.cp_strset.specs.StringList.{AreCanonical, holds};
 ghost use Rattle.cp_terms.specs.Terms.{value_of};
 ghost use Rattle.cp_strset_terms.specs.Leaves.{leaf_holds, strings_of, is_numbered, FitsNumbers};
+ghost use Rattle.cp_strset_terms.specs.NumberSets.{has_number};
 ghost use Rattle.cp_strset_terms.specs.Places.{texts, IsAt};
 
 use crate::leaf::{Leaf, strings};
 use crate::leaf_numbers::numbers_of_term;
+use crate::number_set::{NumberSet, PIECE};
 use crate::string_numbers::StringNumbers;
 use crate::table::{gathered_strings, in_order, push_strings, string_table};
 use cp_invlist::laws::ranges_hold_members;
@@ -74,23 +76,55 @@ fn stretch(strings: &[String], range: CodePointRange) -> &[String]
     &strings[start..end]
 }
 
-/// Puts the strings with these numbers behind the others.
-fn push_numbered<'a>(
+/// Puts the strings at these places behind the others.
+fn push_placed<'a>(
     table: &mut Vec<&'a str>,
     strings: &'a [String],
-    numbers: &CodePointInversionList,
+    places: &CodePointInversionList,
 ) -> Result<(), NoMemory>
     ensures held { OnOk result ((text : List ℕ) →
         holds (texts table.old.items) text ≡ true → holds (texts table.new.items) text ≡ true) }
-    ensures numbered { OnOk result ((number : ℕ) (text : List ℕ) → IsAt (map string_bytes strings.now) number text →
-        contains numbers.now number ≡ true → holds (texts table.new.items) text ≡ true) }
+    ensures placed { OnOk result ((place : ℕ) (text : List ℕ) → IsAt (map string_bytes strings.now) place text →
+        contains places.now place ≡ true → holds (texts table.new.items) text ≡ true) }
     ensures none_of_one { OnOk result (All (λ s. length (chars s) ≢ 1) (texts table.old.items) →
         All (λ s. length (chars s) ≢ 1) (map string_bytes strings.now) →
         All (λ s. length (chars s) ≢ 1) (texts table.new.items)) }
 {
     ranges_hold_members();
-    for range in numbers.iter_ranges() {
+    for range in places.iter_ranges() {
         push_strings(table, stretch(strings, range))?;
+    }
+    Ok(())
+}
+
+/// The strings from the front of the piece with the index on.
+fn strings_from_piece(strings: &[String], index: usize) -> &[String]
+    ensures numbered { (number : ℕ) (text : List ℕ) → number / 0x11_0000 ≡ index →
+        IsAt (map string_bytes strings.now) number text →
+        IsAt (map string_bytes result.now) (number % 0x11_0000) text }
+    ensures none_of_one { All (λ s. length (chars s) ≢ 1) (map string_bytes strings.now) →
+        All (λ s. length (chars s) ≢ 1) (map string_bytes result.now) }
+{
+    let start = index.saturating_mul(PIECE).min(strings.len());
+    &strings[start..]
+}
+
+/// Puts the strings with these numbers behind the others.
+fn push_numbered<'a>(
+    table: &mut Vec<&'a str>,
+    strings: &'a [String],
+    numbers: &NumberSet,
+) -> Result<(), NoMemory>
+    ensures held { OnOk result ((text : List ℕ) →
+        holds (texts table.old.items) text ≡ true → holds (texts table.new.items) text ≡ true) }
+    ensures numbered { OnOk result ((number : ℕ) (text : List ℕ) → IsAt (map string_bytes strings.now) number text →
+        has_number numbers.now number ≡ true → holds (texts table.new.items) text ≡ true) }
+    ensures none_of_one { OnOk result (All (λ s. length (chars s) ≢ 1) (texts table.old.items) →
+        All (λ s. length (chars s) ≢ 1) (map string_bytes strings.now) →
+        All (λ s. length (chars s) ≢ 1) (texts table.new.items)) }
+{
+    for (index, piece) in numbers.pieces().iter().enumerate() {
+        push_placed(table, strings_from_piece(strings, index), piece)?;
     }
     Ok(())
 }

@@ -1,25 +1,19 @@
 //! Numbers of strings.
 ghost use Rattle.std.specs.Prelude.{◌≡◌, ℕ, IfOk};
-ghost use Rattle.std.specs.List.{list_any};
-ghost use Rattle.cp_invlist.specs.InversionList.{contains, is_added};
 
-use cp_invlist::{
-    CodePointInversionList, CodePointInversionListBuilder, LAST_CODE_POINT, NoMemory,
-};
+use crate::number_set::{NumberSet, PIECE};
+use cp_invlist::NoMemory;
 use cp_strset::CodePointInversionListAndStringList;
 use std::alloc::Global;
 use std::collections::BTreeMap;
 use std::marker::Model;
-
-/// How many strings can have a number, since sets of numbers have no members but code points.
-const MOST_STRINGS: usize = LAST_CODE_POINT as usize + 1;
 
 /// Strings with numbers, which they are given in the order in which they come, and keep. A contract sees it as the list of the
 /// strings by their bytes, in which each stands at its number.
 #[derive(Drop)]
 pub struct StringNumbers {
     texts: Vec<String>,
-    indices: BTreeMap<String, u32>,
+    indices: BTreeMap<String, usize>,
 }
 
 impl Model for StringNumbers {
@@ -35,7 +29,7 @@ impl Model for StringNumbers {
 }
 
 impl StringNumbers {
-    ghost use Rattle.std.specs.Prelude.{◌≢◌, ◌<◌, ◌≤◌, ◌+◌, ◌↔◌, List, [], All, Some, IfSome, length, map};
+    ghost use Rattle.std.specs.Prelude.{◌≢◌, ◌<◌, ◌/◌, ◌↔◌, List, [], All, Some, length, map};
     ghost use Rattle.std.specs.Str.{chars};
     ghost use Rattle.std.specs.String.{string_bytes};
     ghost use Rattle.cp_strset_terms.specs.Numbers.{AreNumbersOf, KeepsNumbers, AreNumbered, Grows, StandOnce};
@@ -55,30 +49,34 @@ impl StringNumbers {
     pub(crate) fn texts(&self) -> &[String]
         ensures bytes { map string_bytes result.now ≡ self.now }
         ensures once { StandOnce self.now }
-        ensures few { length self.now ≤ 0x11_0000 }
         ensures none_of_one { All (λ s. length (chars s) ≢ 1) self.now }
     {
         &self.texts
     }
 
     /// The number of the string, if it has one.
-    pub fn get(&self, text: &str) -> Option<u32>
-        ensures number { (number : ℕ) → (result ≡ Some number) ↔ IsAt self.now number text.now }
-        ensures code_point { IfSome result (λ number. number < 0x11_0000) }
+    pub fn get(&self, text: &str) -> Option<usize>
+        ensures { (number : ℕ) → (result ≡ Some number) ↔ IsAt self.now number text.now }
     {
         self.indices.get(text).copied()
     }
 
+    /// How many pieces a set of all numbers takes at most.
+    pub(crate) fn count_pieces(&self) -> usize
+        ensures { (number : ℕ) → number < length self.now → number / 0x11_0000 < result }
+    {
+        self.texts.len() / PIECE + 1
+    }
+
     /// Gives the string, which has none, the next number.
-    fn add(&mut self, alloc: Global, text: &str) -> Result<u32, NoMemory>
-        requires few { length self.old < 0x11_0000 }
+    fn add(&mut self, alloc: Global, text: &str) -> Result<usize, NoMemory>
         requires none_of_one { length (chars text.now) ≢ 1 }
         requires unnumbered { (number : ℕ) → IsAt self.old number text.now → ⊥ }
         ensures grown { Grows self.old self.new }
         ensures kept { KeepsNumbers self.old self.new }
         ensures number { IfOk result (λ number. IsAt self.new number text.now) }
     {
-        let number = self.texts.len() as u32;
+        let number = self.texts.len();
         let key = String::from_str(alloc, text)?;
         self.texts.push(String::from_str(alloc, text)?)?;
         if self.indices.insert(key, number).is_err() {
@@ -88,72 +86,46 @@ impl StringNumbers {
         Ok(number)
     }
 
-    /// The number of the string, which has one from now on; none where all numbers are given.
-    fn number_of(&mut self, alloc: Global, text: &str) -> Result<Option<u32>, NoMemory>
+    /// The number of the string, which has one from now on.
+    fn number_of(&mut self, alloc: Global, text: &str) -> Result<usize, NoMemory>
         requires { length (chars text.now) ≢ 1 }
         ensures grown { Grows self.old self.new }
         ensures kept { KeepsNumbers self.old self.new }
-        ensures number { IfOk result (λ number. IfSome number (λ n. IsAt self.new n text.now)) }
+        ensures number { IfOk result (λ number. IsAt self.new number text.now) }
     {
-        if let Some(number) = self.get(text) {
-            return Ok(Some(number));
+        match self.get(text) {
+            Some(number) => Ok(number),
+            None => self.add(alloc, text),
         }
-        if self.texts.len() >= MOST_STRINGS {
-            return Ok(None);
-        }
-        Ok(Some(self.add(alloc, text)?))
     }
 
-    /// The number of each string, which has one from now on; none where too few numbers are left.
-    fn numbers_of(
-        &mut self,
-        alloc: Global,
-        strings: &[String],
-    ) -> Result<Option<Vec<u32>>, NoMemory>
+    /// The number of each string, which has one from now on.
+    fn numbers_of(&mut self, alloc: Global, strings: &[String]) -> Result<Vec<usize>, NoMemory>
         requires { All (λ s. length (chars s) ≢ 1) (map string_bytes strings.now) }
         ensures kept { KeepsNumbers self.old self.new }
-        ensures numbers { IfOk result (λ numbers.
-            IfSome numbers (λ ns. AreNumbered self.new ns.items (map string_bytes strings.now))) }
+        ensures numbers { IfOk result
+            (λ numbers. AreNumbered self.new numbers.items (map string_bytes strings.now)) }
     {
         let mut numbers = Vec::with_capacity(alloc, strings.len())?;
         for string in strings {
-            let Some(number) = self.number_of(alloc, string.as_str())? else {
-                return Ok(None);
-            };
-            numbers.push(number)?;
+            numbers.push(self.number_of(alloc, string.as_str())?)?;
         }
-        Ok(Some(numbers))
+        Ok(numbers)
     }
 
-    /// The numbers of the strings of the set, each of which has one from now on; none where too few numbers are left, after
-    /// which some of the strings may have theirs. The numbers of other sets stay theirs. `NoMemory` says that a request for
-    /// memory was refused: some of the strings may have their numbers then too.
+    /// The numbers of the strings of the set, each of which has one from now on. The numbers of other sets stay theirs.
+    /// `NoMemory` says that a request for memory was refused: some of the strings may have their numbers then.
     pub fn number(
         &mut self,
         alloc: Global,
         set: &CodePointInversionListAndStringList,
-    ) -> Result<Option<CodePointInversionList>, NoMemory>
+    ) -> Result<NumberSet, NoMemory>
         ensures kept { KeepsNumbers self.old self.new }
-        ensures numbers { IfOk result
-            (λ numbers. IfSome numbers (λ list. AreNumbersOf self.new set.now.strings list)) }
+        ensures numbers { IfOk result (AreNumbersOf self.new set.now.strings) }
     {
-        let Some(numbers) = self.numbers_of(alloc, set.strings())? else {
-            return Ok(None);
-        };
+        let numbers = self.numbers_of(alloc, set.strings())?;
         // Only this call says that each string stands once.
         let _ = self.texts();
-        Ok(Some(list_of(alloc, numbers)?))
+        NumberSet::from_numbers(alloc, numbers)
     }
-}
-
-/// The set of the numbers.
-fn list_of(alloc: Global, mut numbers: Vec<u32>) -> Result<CodePointInversionList, NoMemory>
-    ensures { IfOk result (λ list. (number : ℕ) → contains list number ≡ list_any (λ n. is_added n number) numbers.items) }
-{
-    numbers.sort_unstable();
-    let mut list = CodePointInversionListBuilder::new(alloc);
-    for number in &numbers {
-        list.add32(*number)?;
-    }
-    Ok(list.build())
 }

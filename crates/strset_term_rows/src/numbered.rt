@@ -2,9 +2,9 @@
 ghost use Rattle.std.specs.Prelude.{IfSome};
 ghost use Rattle.cp_strset_terms.specs.Numbers.{AreNumbersOf, KeepsNumbers};
 
-use cp_invlist::{CodePointInversionList, CodePointInversionListBuilder};
+use cp_invlist::CodePointInversionListBuilder;
 use cp_strset::CodePointInversionListAndStringList;
-use cp_strset_terms::{Leaf, Step, StringNumbers, Way, evaluate};
+use cp_strset_terms::{Leaf, NumberSet, Step, StringNumbers, Way, evaluate};
 use std::alloc::{AllocError, Global};
 use std::fmt;
 use std::process::Abort;
@@ -154,11 +154,11 @@ fn numbers(
     alloc: Global,
     all: &mut StringNumbers,
     set: &CodePointInversionListAndStringList,
-) -> Option<CodePointInversionList>
+) -> Option<NumberSet>
     ensures kept { KeepsNumbers all.old all.new }
     ensures numbers { IfSome result (AreNumbersOf all.new set.now.strings) }
 {
-    all.number(alloc, set).ok()?
+    all.number(alloc, set).ok()
 }
 
 /// The set that the steps make of the leaves.
@@ -221,27 +221,32 @@ struct Told {
 }
 
 /// How many of the strings have a number that is in the set.
-fn count_known(all: &StringNumbers, list: &CodePointInversionList, strings: &[String]) -> usize {
+fn count_known(all: &StringNumbers, numbers: &NumberSet, strings: &[String]) -> usize {
     strings
         .iter()
         .filter(|string| {
             all.get(string.as_str())
-                .is_some_and(|number| list.contains32(number))
+                .is_some_and(|number| numbers.contains(number))
         })
         .count()
 }
+
+/// More numbers than the rows give.
+const MORE_THAN_ALL: usize = 1000;
 
 /// What is told of the even strings but the last behind the odd ones.
 fn numbered_behind(alloc: Global) -> Option<Told> {
     let (odd, even) = (set(alloc, &ODD)?, set(alloc, &EVEN_BUT_THE_LAST)?);
     let mut all = StringNumbers::new(alloc);
     numbers(alloc, &mut all, &odd)?;
-    let list = numbers(alloc, &mut all, &even)?;
+    let first = numbers(alloc, &mut all, &even)?;
     let again = numbers(alloc, &mut all, &even)?;
     Some(Told {
-        count: list.size(),
-        known: count_known(&all, &list, even.strings()),
-        is_same: list == again,
+        count: (0..MORE_THAN_ALL)
+            .filter(|number| first.contains(*number))
+            .count(),
+        known: count_known(&all, &first, even.strings()),
+        is_same: (0..MORE_THAN_ALL).all(|number| first.contains(number) == again.contains(number)),
     })
 }
 
@@ -255,35 +260,55 @@ fn strings_keep_their_numbers(rt: HostRuntime) {
     assert_equal(&rt, numbered_behind(rt.alloc()), Some(expected));
 }
 
-/// One string more than there are numbers.
-const TOO_MANY: Strings = Strings {
+/// More strings than there are code points.
+const MANY: Strings = Strings {
     first: 1_000_000,
     count: 0x11_0001,
 };
 
-/// Some of these.
-const SOME: Strings = Strings {
-    first: 1_000_002,
-    count: 300,
+/// The last 300 of these, and 300 further ones.
+const SOME_OF_THEM: Strings = Strings {
+    first: 3_227_626,
+    count: 600,
 };
 
-/// How many of strings that are too many have a number, and how many numbers a set of some of them has behind these.
-fn count_too_many(alloc: Global) -> Option<(usize, usize)> {
-    let (too_many, some) = (set(alloc, &TOO_MANY)?, set(alloc, &SOME)?);
-    let mut all = StringNumbers::new(alloc);
-    if all.number(alloc, &too_many).ok()?.is_some() {
-        return None;
+/// The first and the last string that both have, those that `SOME_OF_THEM` alone has, and of each how many there are.
+const SHARED: (&str, &str, usize) = ("s3227626", "s3228224", 300);
+
+const OTHERS: (&str, &str, usize) = ("s3228226", "s3228824", 300);
+
+/// Whether the set has so many strings, of which these are the first and the last.
+fn has_strings(set: &CodePointInversionListAndStringList, expected: (&str, &str, usize)) -> bool {
+    let strings = set.strings();
+    match (strings.first(), strings.last()) {
+        (Some(first), Some(last)) => {
+            first.as_str() == expected.0
+                && last.as_str() == expected.1
+                && strings.len() == expected.2
+        }
+        _ => false,
     }
-    let list = numbers(alloc, &mut all, &some)?;
-    let known = too_many
-        .strings()
-        .iter()
-        .filter(|string| all.get(string.as_str()).is_some())
-        .count();
-    Some((known, list.size()))
+}
+
+/// Whether the strings past the first 1,114,112 have numbers, and terms over them the strings that they should.
+fn are_numbered_on(alloc: Global) -> Option<bool> {
+    let (many, some) = (set(alloc, &MANY)?, set(alloc, &SOME_OF_THEM)?);
+    let mut all = StringNumbers::new(alloc);
+    let of_many = numbers(alloc, &mut all, &many)?;
+    let of_some = numbers(alloc, &mut all, &some)?;
+    let known = count_known(&all, &of_many, many.strings());
+    let leaves = [
+        Leaf::Numbered(&many, &of_many),
+        Leaf::Numbered(&some, &of_some),
+    ];
+    let both = [Step::Push(0), Step::Push(1), Step::Both(Way::Retain)];
+    let others = [Step::Push(1), Step::Push(0), Step::Both(Way::Remove)];
+    let both = evaluate(alloc, &all, &leaves, &both).ok()?;
+    let others = evaluate(alloc, &all, &leaves, &others).ok()?;
+    Some(known == 0x11_0001 && has_strings(&both, SHARED) && has_strings(&others, OTHERS))
 }
 
 #[test]
-fn strings_that_are_too_many_have_no_numbers(rt: HostRuntime) {
-    assert_equal(&rt, count_too_many(rt.alloc()), Some((0x11_0000, 300)));
+fn more_strings_than_code_points_have_numbers(rt: HostRuntime) {
+    assert_equal(&rt, are_numbered_on(rt.alloc()), Some(true));
 }

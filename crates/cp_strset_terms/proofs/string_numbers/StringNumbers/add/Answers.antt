@@ -1,4 +1,4 @@
-use Rattle.std.proofs.Common.{rules, ◌≡◌, ◌<◌, ℕ, List, [], ◌∷◌, ◌++◌, length, map, sym, subst, ap, ◌∙◌}
+use Rattle.std.proofs.Common.{rules, ◌≡◌, ℕ, List, [], ◌∷◌, ◌++◌, length, map, sym, subst, ap, ◌∙◌}
 use Rattle.std.specs.String.{string_bytes}
 use Rattle.cp_strset_terms.specs.Numbers.{AreIndexed}
 use Rattle.cp_strset_terms.specs.Places.{IsAt}
@@ -12,9 +12,8 @@ one_more : (c : goal.Else-is_err) →
 one_more c =
     let updated = without_error c.insert.result _ (sym c.is_err.ensures.value ∙ c.if-is_err.false) c.insert.ensures.updates in
     let last : c.len-number.result ≡ length c.self.inside.texts.items = search rules in
-    let few : length (map string_bytes c.self.inside.texts.items) < 0x11_0000 = subst (λ (all : List (List ℕ)). length all < 0x11_0000) (sym c.self.view_is) c.requires.few in
     added c.self.inside.texts.items c.push.new.self.items c.in_ok-from_str.field-0 c.in_ok-key.key c.args.text.now c.self.inside.indices c.insert.new.self c.len-number.result c.self.invariant
-    (λ n at. c.requires.unnumbered n (subst (λ all. IsAt all n c.args.text.now) c.self.view_is at)) few c.requires.none_of_one c.in_ok-push.ensures.items
+    (λ n at. c.requires.unnumbered n (subst (λ all. IsAt all n c.args.text.now) c.self.view_is at)) c.requires.none_of_one c.in_ok-push.ensures.items
     c.in_ok-from_str.ensures.ok c.in_ok-key.ensures.ok last updated
 
 pub invariant_of-self-else-is_err : goal.invariant_of-self-else-is_err

@@ -1,4 +1,4 @@
-use Rattle.std.proofs.Common.{◌≢◌, ℕ, Option, Some, IfSome, List, [], ◌∷◌, ◌++◌, length, map, take, sym, subst, ap, ◌∙◌, arith}
+use Rattle.std.proofs.Common.{◌≢◌, ℕ, Some, List, [], ◌∷◌, ◌++◌, length, map, take, sym, subst, ap, ◌∙◌, arith}
 use Rattle.std.proofs.lemmas.List.{get_or-map, length-map, map_more, take_all}
 use Rattle.std.specs.declared.string.String.{String}
 use Rattle.std.specs.Global.{Global}
@@ -6,7 +6,6 @@ use Rattle.std.specs.List.{slice_get}
 use Rattle.std.specs.Str.{chars}
 use Rattle.std.specs.String.{string_bytes}
 use Rattle.cp_strset_terms.specs.Numbers.{AreNumbered}
-use Rattle.cp_strset_terms.specs.Places.{IsAt}
 use Rattle.cp_strset_terms.proofs.NumbersLemmas.{numbered_more}
 use Rattle.cp_strset_terms.proofs.string_numbers.StringNumbers.numbers_of.Goals as goal
 
@@ -25,11 +24,10 @@ loop-string-preserved c =
     let done = map string_bytes (take i strings) in
     let new = c.number_of.new.self in
     let text = c.as_str.ensures.value ∙ ap string_bytes c.string-item.is in
-    let more = map_more string_bytes strings i c.string-item.result c.loop-string-test.true ∙ ap (λ (s : List ℕ). done ++ s ∷ []) (sym text) in
-    let at = subst (λ (found : Option ℕ). IfSome found (λ n. IsAt new n c.as_str.result.now)) c.in-Some.is c.in_ok-number.ensures.number in (
+    let more = map_more string_bytes strings i c.string-item.result c.loop-string-test.true ∙ ap (λ (s : List ℕ). done ++ s ∷ []) (sym text) in (
       λ some numbers h. c.number_of.ensures.kept some numbers (c.loop-string.invariant.0 some numbers h),
       ap (map (λ n. slice_get new n)) c.in_ok-push.ensures.items
-          ∙ (numbered_more c.loop-string.self new c.loop-string.numbers.items done c.in-Some.number c.as_str.result.now c.number_of.ensures.grown c.loop-string.invariant.1 at
+          ∙ (numbered_more c.loop-string.self new c.loop-string.numbers.items done c.in_ok-number_of.field-0 c.as_str.result.now c.number_of.ensures.grown c.loop-string.invariant.1 c.in_ok-number_of.ensures.number
           ∙ ap (map (λ (s : List ℕ). Some s)) (sym more)),
     )
 
