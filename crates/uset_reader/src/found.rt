@@ -5,7 +5,7 @@ ghost use Rattle.uset_reader.specs.Evaluation.{lists_of_leaf, lists_of_named};
 
 use cp_invlist::CodePointInversionList;
 use cp_strset::CodePointInversionListAndStringList;
-use cp_strset_terms::Leaf;
+use cp_strset_terms::{Leaf, NumberSet};
 use uset_steps::NamedSet;
 
 /// A set that a term puts down, once its name was looked up.
@@ -13,7 +13,7 @@ pub(crate) enum FoundSet<'v> {
     /// The set that a name stands for.
     Named(NamedSet<'v>),
     /// The set of a variable, with the numbers of its strings.
-    Numbered(&'v CodePointInversionListAndStringList, &'v CodePointInversionList),
+    Numbered(&'v CodePointInversionListAndStringList, &'v NumberSet),
     /// A set without a name.
     Gathered(CodePointInversionListAndStringList),
 }

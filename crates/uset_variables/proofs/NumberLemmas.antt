@@ -1,6 +1,7 @@
 -- Numbers of strings after a name is bound, freed or indexed.
-use Rattle.std.proofs.Common.{◌≡◌, ℕ, Bool, true, false, List, Option, None, Some, Result, Ok, Err, OnOk, OnErr, cond, option_map, refl, sym, ap, subst, ◌∙◌, nat_cmp, IfSome}
+use Rattle.std.proofs.Common.{◌≡◌, ℕ, ◌&&◌, ◌||◌, Bool, true, false, List, Option, None, Some, Result, Ok, Err, OnOk, OnErr, cond, option_map, refl, sym, ap, subst, ◌∙◌, nat_cmp, IfSome}
 use Rattle.std.specs.Global.{Global}
+use Rattle.std.specs.Prelude.{is_some}
 use Rattle.std.specs.BTreeMap.{BTreeMap, get_by_text, IsUnchanged}
 use Rattle.std.specs.Borrow.{Bor}
 use Rattle.std.specs.Cmp.Lexicographic.{slice_cmp}
@@ -10,6 +11,7 @@ use Rattle.std.specs.Ordering.{is_eq}
 use Rattle.std.specs.Str.{bytes_eq}
 use Rattle.std.specs.String.{string_bytes}
 use Rattle.std.specs.declared.string.String.{String}
+use Rattle.std.proofs.lemmas.Bool.{false_from_ne_true, true≢false}
 use Rattle.std.proofs.lemmas.Slice.Eq.{bytes_eq-Decides}
 use Rattle.cp_strset.specs.StringSet.{StringSet}
 use Rattle.cp_strset_terms.specs.Numbers.{AreNumbersOf, KeepsNumbers}
@@ -22,9 +24,9 @@ use Rattle.uset_variables.proofs.VariableLemmas.{value_among}
 abbrev pub Values : Type 0
 Values = BTreeMap (String Global) KeptValue
 
--- the lists of numbers by name
+-- the sets of numbers by name
 abbrev pub Numbers : Type 0
-Numbers = BTreeMap (String Global) (List ℕ)
+Numbers = BTreeMap (String Global) (List (List ℕ))
 
 -- what holds after success and after a refusal holds in any case
 pub after_either : {T E P Q R : Type 0} (r : Result T E) → OnOk r P → OnErr r Q → (P → R) → (Q → R) → R
@@ -44,6 +46,18 @@ other : {A : Type 0} (b : Bool) (o : Option A) (x : A) → cond b None o ≡ Som
 other true o x found = (cc, cc)
 other false o x found = (refl, found)
 
+-- a name that is bound to nothing has no numbers, so that it may be bound to anything
+module _ (key : List ℕ) (old new : Values) (strings : List (List ℕ)) (numbers : Numbers) where
+  pub numbers_beside : AreNumbersOfSets old strings numbers → value_at old key ≡ None → ((name : List ℕ) → bytes_eq key name ≡ false → value_at new name ≡ value_at old name) → AreNumbersOfSets new strings numbers
+  numbers_beside numbered free keep = record {
+    sets = λ name list found. ap is_a_set (keep name (apart name list found)) ∙ numbered.sets name list found;
+    theirs = λ name list set found bound. numbered.theirs name list set found (sym (keep name (apart name list found)) ∙ bound);
+  }
+    where
+      apart : (name : List ℕ) (list : List (List ℕ)) → get_by_text numbers name ≡ Some list → bytes_eq key name ≡ false
+      apart name list found = false_from_ne_true (bytes_eq key name)
+          (λ same. true≢false (sym (numbered.sets name list found) ∙ ap is_a_set (ap (value_at old) (sym ((bytes_eq-Decides key name).0 same)) ∙ free)))
+
 -- once a name has no numbers, it may be bound to anything
 module _ (key : List ℕ) (old new : Values) (strings : List (List ℕ)) (before after : Numbers) where
   pub numbers_of_others : AreNumbersOfSets old strings before → ((name : List ℕ) → get_by_text after name ≡ cond (bytes_eq key name) None (get_by_text before name)) → ((name : List ℕ) → bytes_eq key name ≡ false → value_at new name ≡ value_at old name) → AreNumbersOfSets new strings after
@@ -56,7 +70,7 @@ module _ (key : List ℕ) (old new : Values) (strings : List (List ℕ)) (before
         numbered.theirs name list set there.1 (sym (keep name there.0) ∙ bound);
   }
     where
-      was_there : (name list : List ℕ) → get_by_text after name ≡ Some list → (bytes_eq key name ≡ false) × (get_by_text before name ≡ Some list)
+      was_there : (name : List ℕ) (list : List (List ℕ)) → get_by_text after name ≡ Some list → (bytes_eq key name ≡ false) × (get_by_text before name ≡ Some list)
       was_there name list found = other (bytes_eq key name) (get_by_text before name) list (sym (freed name) ∙ found)
 
 -- more strings have numbers
@@ -77,7 +91,7 @@ numbers_unchanged values strings before after same numbered = record {
     there name = sym (ap (λ entries. lookup (λ k. is_eq (slice_cmp nat_cmp name (string_bytes k))) entries) same)
 
 -- one more set has numbers
-module _ (key : List ℕ) (values : Values) (strings : List (List ℕ)) (before after : Numbers) (set : StringSet) (list : List ℕ) where
+module _ (key : List ℕ) (values : Values) (strings : List (List ℕ)) (before after : Numbers) (set : StringSet) (list : List (List ℕ)) where
   pub numbers_of_one_more : AreNumbersOfSets values strings before → value_at values key ≡ Some (UnicodeSet set) → AreNumbersOf strings set.strings list → ((name : List ℕ) → get_by_text after name ≡ cond (bytes_eq key name) (Some list) (get_by_text before name)) → AreNumbersOfSets values strings after
   numbers_of_one_more numbered is_bound theirs updates = record {
     sets = λ name l found. is_of_set name l (bytes_eq key name) refl (sym (updates name) ∙ found);
@@ -87,11 +101,11 @@ module _ (key : List ℕ) (values : Values) (strings : List (List ℕ)) (before 
       at_key : (name : List ℕ) → bytes_eq key name ≡ true → value_at values name ≡ Some (UnicodeSet set)
       at_key name same = subst (λ n. value_at values n ≡ Some (UnicodeSet set)) ((bytes_eq-Decides key name).0 same) is_bound
 
-      is_of_set : (name l : List ℕ) (b : Bool) → bytes_eq key name ≡ b → cond b (Some list) (get_by_text before name) ≡ Some l → is_a_set (value_at values name) ≡ true
+      is_of_set : (name : List ℕ) (l : List (List ℕ)) (b : Bool) → bytes_eq key name ≡ b → cond b (Some list) (get_by_text before name) ≡ Some l → is_a_set (value_at values name) ≡ true
       is_of_set name l true same found = ap is_a_set (at_key name same)
       is_of_set name l false differ found = numbered.sets name l found
 
-      has_theirs : (name l : List ℕ) (s : StringSet) (b : Bool) → bytes_eq key name ≡ b → cond b (Some list) (get_by_text before name) ≡ Some l → value_at values name ≡ Some (UnicodeSet s) → AreNumbersOf strings s.strings l
+      has_theirs : (name : List ℕ) (l : List (List ℕ)) (s : StringSet) (b : Bool) → bytes_eq key name ≡ b → cond b (Some list) (get_by_text before name) ≡ Some l → value_at values name ≡ Some (UnicodeSet s) → AreNumbersOf strings s.strings l
       has_theirs name l s true same found bound =
           let same_list : list ≡ l = cc in
           let there : value_at values name ≡ Some (UnicodeSet set) = at_key name same in
@@ -100,6 +114,11 @@ module _ (key : List ℕ) (values : Values) (strings : List (List ℕ)) (before 
       has_theirs name l s false differ found bound = numbered.theirs name l s found bound
 
 -- the numbers that are found at a name are those of the strings of its set
-pub numbers_told : (values : Values) (strings : List (List ℕ)) (numbers : Numbers) (key : List ℕ) (result : Option (Bor (List ℕ))) → AreNumbersOfSets values strings numbers → option_copied result ≡ get_by_text numbers key → IfSome result (λ list. (set : StringSet) → value_at values key ≡ Some (UnicodeSet set) → AreNumbersOf strings set.strings list.now)
+pub numbers_told : (values : Values) (strings : List (List ℕ)) (numbers : Numbers) (key : List ℕ) (result : Option (Bor (List (List ℕ)))) → AreNumbersOfSets values strings numbers → option_copied result ≡ get_by_text numbers key → IfSome result (λ list. (set : StringSet) → value_at values key ≡ Some (UnicodeSet set) → AreNumbersOf strings set.strings list.now)
 numbers_told values strings numbers key None numbered found = tt
 numbers_told values strings numbers key (Some list) numbered found = λ set bound. numbered.theirs key list.now set (sym found) bound
+
+-- where a value is put at a name, some value is there exactly where it is that name or some value was there
+pub is_some-cond : {A : Type 0} (here many : Bool) (x : A) (old : Option A) → many ≡ true → is_some (cond here (Some x) old) ≡ ((here && many) || is_some old)
+is_some-cond true many x old h = sym (ap (λ m. m || is_some old) h)
+is_some-cond false many x old h = refl

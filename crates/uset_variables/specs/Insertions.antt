@@ -7,7 +7,7 @@ use Rattle.uset_variables.specs.declared.map.InsertError.{InsertError}
 use Rattle.uset_variables.specs.declared.map.InsertError.TheVariants.{Present, NoMemory}
 use Rattle.uset_variables.specs.declared.map.VariableMap.{VariableMap}
 use Rattle.uset_variables.specs.declared.value.VariableValue.{VariableValue}
-use Rattle.uset_variables.specs.Variables.{Binds, IsSame}
+use Rattle.uset_variables.specs.Variables.{Binds, IsSame, HasSameNumbers}
 
 -- the value that the name is bound to already
 abbrev pub value_present : InsertError → Option VariableValue
@@ -19,10 +19,11 @@ abbrev pub present_in : Result (Unit {0}) InsertError → Option VariableValue
 present_in (Ok x) = None
 present_in (Err e) = value_present e
 
--- the name is bound to the value and all others as they were, or, after a refusal, all as they were
+-- The name is bound to the value and all others as they were, or, after a refusal, all as they were. The strings of sets
+-- have the numbers that they had.
 abbrev pub Inserts : VariableMap → List ℕ → VariableValue → Result (Unit {0}) InsertError → VariableMap → Type 0
-Inserts old key value (Ok x) new = Binds old key (Some value) new
-Inserts old key value (Err e) new = IsSame old new
+Inserts old key value (Ok x) new = Binds old key (Some value) new × HasSameNumbers old new
+Inserts old key value (Err e) new = IsSame old new × HasSameNumbers old new
 
 -- this holds of the map once the answer isn't used any longer
 abbrev pub EndsInserted : MutBor VariableMap → List ℕ → VariableValue → Result (Unit {0}) InsertError → Fml

@@ -16,6 +16,10 @@ bound map name = option_map (λ kept. kept.value) (get_by_text map.values name)
 abbrev pub numbered_strings : VariableMap → List (List ℕ)
 numbered_strings map = map.strings
 
+-- the numbers of the strings of the set that the name is bound to, where it has them
+abbrev pub numbers_at : VariableMap → List ℕ → Option (List (List ℕ))
+numbers_at map name = get_by_text map.numbers name
+
 -- what each name is bound to
 abbrev pub variables_of : VariableMap → Text → Option Value
 variables_of map name = option_map value_seen (bound map (encode_utf8_all name))
@@ -27,6 +31,11 @@ Binds old key value new = (name : List ℕ) → bound new name ≡ cond (bytes_e
 -- all names are bound as they were
 abbrev pub IsSame : VariableMap → VariableMap → Type 0
 IsSame old new = (name : List ℕ) → bound new name ≡ bound old name
+
+-- the same strings have numbers, and the same names
+pub record HasSameNumbers (old new : VariableMap) : Type 0 where
+  pub strings : numbered_strings new ≡ numbered_strings old
+  pub names : (name : List ℕ) → numbers_at new name ≡ numbers_at old name
 
 -- no name is bound
 abbrev pub no_variables : Text → Option Value

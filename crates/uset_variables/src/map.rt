@@ -1,12 +1,13 @@
 //! The variables of a pattern (UTS 35, Unicode Sets).
-ghost use Rattle.std.specs.Prelude.{◌≡◌, Some, IfSome};
+ghost use Rattle.std.specs.Prelude.{◌≡◌, ℕ, List, Some, IfSome, IfOk, OnOk, cond, is_some};
+ghost use Rattle.std.specs.Str.{bytes_eq};
 ghost use Rattle.uset_variables.specs.declared.value.VariableValue.TheVariants.{UnicodeSet};
-ghost use Rattle.uset_variables.specs.Numbered.{value_at, AreNumbersOfSets};
+ghost use Rattle.uset_variables.specs.Numbered.{value_at, has_many_strings, AreNumbersOfSets};
 
 use crate::value::{KeptValue, VariableString, VariableValue};
-use cp_invlist::{CodePointInversionList, NoMemory};
+use cp_invlist::NoMemory;
 use cp_strset::CodePointInversionListAndStringList;
-use cp_strset_terms::StringNumbers;
+use cp_strset_terms::{NumberSet, StringNumbers};
 use std::alloc::Global;
 use std::collections::BTreeMap;
 
@@ -30,25 +31,26 @@ pub struct VariableMap {
     /// The strings that have numbers.
     strings: StringNumbers,
     /// The numbers of the strings of a variable's set, by its name.
-    numbers: BTreeMap<String, CodePointInversionList>,
+    numbers: BTreeMap<String, NumberSet>,
     ghost numbered: { AreNumbersOfSets values strings numbers },
 }
 
 impl VariableMap {
-    ghost use Rattle.std.specs.Prelude.{ℕ, List, None, IfOk, OnOk, OnErr, true};
+    ghost use Rattle.std.specs.Prelude.{◌&&◌, ◌||◌, None, OnErr, true};
     ghost use Rattle.std.specs.Borrow.{sem};
     ghost use Rattle.std.specs.Option.{option_copied};
     ghost use Rattle.std.specs.String.{string_bytes};
     ghost use Rattle.uset_variables.specs.declared.value.VariableValue.TheVariants.{Char, String as Spelled};
     ghost use Rattle.uset_variables.specs.Values.{is_kept, kept};
     ghost use Rattle.cp_strset.specs.StringSet.{StringSet};
-    ghost use Rattle.cp_strset_terms.specs.Numbers.{AreNumbersOf};
-    ghost use Rattle.uset_variables.specs.Variables.{bound, numbered_strings, Binds, IsSame};
+    ghost use Rattle.cp_strset_terms.specs.Numbers.{AreNumbersOf, KeepsNumbers};
+    ghost use Rattle.uset_variables.specs.Variables.{bound, numbered_strings, numbers_at, Binds, IsSame, HasSameNumbers};
     ghost use Rattle.uset_variables.specs.Insertions.{value_present, present_in, EndsInserted};
 
     /// The map that binds no name.
     pub fn new(alloc: Global) -> VariableMap
-        ensures { (name : List ℕ) → bound result name ≡ None }
+        ensures free { (name : List ℕ) → bound result name ≡ None }
+        ensures unnumbered { (name : List ℕ) → numbers_at result name ≡ None }
     {
         VariableMap {
             values: BTreeMap::new(alloc),
@@ -70,7 +72,7 @@ impl VariableMap {
 
     /// Binds the name to the value, where it is bound to nothing. A string of exactly one character is kept as that
     /// character. A name that is bound already is refused with its value, also where memory is short. After a refusal all
-    /// names are bound as they were.
+    /// names are bound as they were. The strings of sets keep their numbers.
     pub fn insert(&mut self, key: String, value: VariableValue) -> Result<(), InsertError<'_>>
         ensures* ends { sem 𝓛 (EndsInserted self.entry (string_bytes key) (kept value) result) }
         ensures present { present_in result ≡ bound self.old (string_bytes key) }
@@ -128,6 +130,9 @@ impl VariableMap {
         ensures value { result ≡ bound self.old key.now }
         ensures kept { IfSome result (λ v. is_kept v ≡ true) }
         ensures removes { Binds self.old key.now None self.new }
+        ensures numbers { (name : List ℕ) →
+            numbers_at self.new name ≡ cond (bytes_eq key.now name) None (numbers_at self.old name) }
+        ensures strings { numbered_strings self.new ≡ numbered_strings self.old }
     {
         let _ = self.numbers.remove(key);
         match self.values.remove(key) {
@@ -137,17 +142,19 @@ impl VariableMap {
     }
 
     /// Gives the strings of the set that the name is bound to numbers, where there are at least 64: with these, set expressions
-    /// over the variable needn't go along its strings. A set that the numbers don't suffice for gets none. Names that are bound
-    /// to nothing or to another value stay as they are, and all names are bound as they were, also after a refusal.
+    /// over the variable needn't go along its strings. Names that are bound to nothing or to another value get none, and all
+    /// names are bound as they were. After a refusal each name has the numbers that it had.
     pub fn index(&mut self, alloc: Global, key: &str) -> Result<(), NoMemory>
-        ensures { IsSame self.old self.new }
+        ensures same { IsSame self.old self.new }
+        ensures strings { KeepsNumbers (numbered_strings self.old) (numbered_strings self.new) }
+        ensures ok { OnOk result ((name : List ℕ) → is_some (numbers_at self.new name) ≡
+            ((bytes_eq key.now name && has_many_strings (bound self.old key.now)) || is_some (numbers_at self.old name))) }
+        ensures err { OnErr result ((name : List ℕ) → numbers_at self.new name ≡ numbers_at self.old name) }
     {
         if let Some(set) = set_of_many(&self.values, key) {
-            if let Some(mut list) = self.strings.number(alloc, set)? {
-                list.index(alloc)?;
-                let name = String::from_str(alloc, key)?;
-                self.numbers.insert(name, list)?;
-            }
+            let numbers = self.strings.number(alloc, set)?;
+            let name = String::from_str(alloc, key)?;
+            self.numbers.insert(name, numbers)?;
         }
         Ok(())
     }
@@ -160,8 +167,9 @@ impl VariableMap {
     }
 
     /// The numbers of the strings of the set that the name is bound to, where it was indexed and has many strings.
-    pub fn numbers_of(&self, key: &str) -> Option<&CodePointInversionList>
-        ensures { IfSome result (λ numbers. (set : StringSet) →
+    pub fn numbers_of(&self, key: &str) -> Option<&NumberSet>
+        ensures value { option_copied result ≡ numbers_at self.now key.now }
+        ensures theirs { IfSome result (λ numbers. (set : StringSet) →
             bound self.now key.now ≡ Some (UnicodeSet set) →
             AreNumbersOf (numbered_strings self.now) set.strings numbers.now) }
     {
@@ -170,14 +178,14 @@ impl VariableMap {
 
     /// A map that binds the same names to equal values. No strings have numbers in it until names are indexed again.
     pub fn copy(&self, alloc: Global) -> Result<VariableMap, NoMemory>
-        ensures { IfOk result (λ map. IsSame self.now map) }
+        ensures bound { IfOk result (λ map. IsSame self.now map) }
+        ensures unnumbered { IfOk result (λ map. (name : List ℕ) → numbers_at map name ≡ None) }
     {
-        let mut copied = VariableMap::new(alloc);
-        for (key, kept) in &self.values {
-            let name = String::from_str(alloc, key.as_str())?;
-            copied.bind(name, kept.copy(alloc)?)?;
-        }
-        Ok(copied)
+        Ok(VariableMap {
+            values: copied_values(alloc, &self.values)?,
+            strings: StringNumbers::new(alloc),
+            numbers: BTreeMap::new(alloc),
+        })
     }
 
     /// Why the name is not bound: its value, where it is bound already, or else that memory was refused.
@@ -190,15 +198,45 @@ impl VariableMap {
         }
     }
 
-    /// Binds the name to the value, in place of what it was bound to.
+    /// Binds the name, which is bound to nothing, to the value.
     fn bind(&mut self, key: String, value: KeptValue) -> Result<(), NoMemory>
+        requires { bound self.old (string_bytes key) ≡ None }
+        ensures numbers { HasSameNumbers self.old self.new }
         ensures ok { OnOk result (Binds self.old (string_bytes key) (Some value.value) self.new) }
         ensures err { OnErr result (IsSame self.old self.new) }
     {
-        let _ = self.numbers.remove(key.as_str());
         self.values.insert(key, value)?;
         Ok(())
     }
+}
+
+/// Puts an equal value at an equal name.
+fn insert_copy(
+    alloc: Global,
+    values: &mut BTreeMap<String, KeptValue>,
+    key: &str,
+    kept: &KeptValue,
+) -> Result<(), NoMemory>
+    ensures { OnOk result ((name : List ℕ) → value_at values.new name ≡
+        cond (bytes_eq key.now name) (Some kept.now.value) (value_at values.old name)) }
+{
+    let name = String::from_str(alloc, key)?;
+    values.insert(name, kept.copy(alloc)?)?;
+    Ok(())
+}
+
+/// Equal values at equal names.
+fn copied_values(
+    alloc: Global,
+    values: &BTreeMap<String, KeptValue>,
+) -> Result<BTreeMap<String, KeptValue>, NoMemory>
+    ensures { IfOk result (λ copied. (name : List ℕ) → value_at copied name ≡ value_at values.now name) }
+{
+    let mut copied = BTreeMap::new(alloc);
+    for (key, kept) in values {
+        insert_copy(alloc, &mut copied, key.as_str(), kept)?;
+    }
+    Ok(copied)
 }
 
 /// The set that the name is bound to, where it has many strings.
@@ -206,7 +244,8 @@ fn set_of_many<'a>(
     values: &'a BTreeMap<String, KeptValue>,
     key: &str,
 ) -> Option<&'a CodePointInversionListAndStringList>
-    ensures { IfSome result (λ set. value_at values.now key.now ≡ Some (UnicodeSet set.now)) }
+    ensures found { IfSome result (λ set. value_at values.now key.now ≡ Some (UnicodeSet set.now)) }
+    ensures many { is_some result ≡ has_many_strings (value_at values.now key.now) }
 {
     let set = values.get(key)?.as_value().as_set()?;
     if set.strings().len() < MANY_STRINGS {

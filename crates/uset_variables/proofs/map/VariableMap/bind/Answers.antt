@@ -1,23 +1,20 @@
-use Rattle.std.proofs.Common.{None, Some, ap, sym, ◌∙◌, option_map}
+use Rattle.std.proofs.Common.{Some, ap, ◌∙◌, option_map}
 use Rattle.std.specs.BTreeMap.{get_by_text}
 use Rattle.std.specs.Str.{bytes_eq}
 use Rattle.std.specs.String.{string_bytes}
 use Rattle.std.proofs.lemmas.Map.Text.{btree_map_updates_text}
 use Rattle.uset_variables.proofs.VariableLemmas.{option_map-cond}
-use Rattle.uset_variables.proofs.NumberLemmas.{after_either, others_keep, all_keep, numbers_of_others}
+use Rattle.uset_variables.proofs.NumberLemmas.{after_either, others_keep, all_keep, numbers_beside}
 use Rattle.uset_variables.proofs.map.VariableMap.bind.Goals as goal
 
 pub invariant_of-self : goal.invariant_of-self
 invariant_of-self c = record {
   numbered =
-      numbers_of_others c.as_str.result.now c.args.self.now.values c.insert.new.self c.args.self.now.strings c.args.self.now.numbers c.remove.new.self
-      c.args.self.now.numbered
-      (btree_map_updates_text c.as_str.result.now c.args.self.now.numbers c.remove.new.self None c.remove.ensures.updates)
+      numbers_beside (string_bytes c.args.key) c.args.self.now.values c.insert.new.self c.args.self.now.strings c.args.self.now.numbers
+      c.args.self.now.numbered c.requires
       (after_either c.insert.result c.insert.ensures.updates c.insert.ensures.err
-      (λ updates name differ.
-      others_keep (string_bytes c.args.key) c.args.self.now.values c.insert.new.self (Some c.args.value)
-      (btree_map_updates_text (string_bytes c.args.key) c.args.self.now.values c.insert.new.self (Some c.args.value) updates) name
-      (ap (λ text. bytes_eq text name) (sym c.as_str.ensures.value) ∙ differ))
+      (λ updates. others_keep (string_bytes c.args.key) c.args.self.now.values c.insert.new.self (Some c.args.value)
+      (btree_map_updates_text (string_bytes c.args.key) c.args.self.now.values c.insert.new.self (Some c.args.value) updates))
       (λ same name differ. all_keep c.args.self.now.values c.insert.new.self same name));
 }
 

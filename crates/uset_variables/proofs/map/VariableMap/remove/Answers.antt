@@ -20,3 +20,9 @@ pub returns-in-Some-clause-removes : goal.returns-in-Some-clause-removes
 returns-in-Some-clause-removes c = λ name.
     ap (λ kept. option_map (λ k. k.value) kept) (btree_map_updates_text c.args.key.now c.args.self.now.values c.remove-2.new.self None c.remove-2.ensures.updates name)
     ∙ option_map-cond (λ k. k.value) (bytes_eq c.args.key.now name) None (get_by_text c.args.self.now.values name)
+
+pub returns-in-Some-clause-numbers : goal.returns-in-Some-clause-numbers
+returns-in-Some-clause-numbers c = btree_map_updates_text c.args.key.now c.args.self.now.numbers c.remove.new.self None c.remove.ensures.updates
+
+pub returns-in-None-clause-numbers : goal.returns-in-None-clause-numbers
+returns-in-None-clause-numbers c = btree_map_updates_text c.args.key.now c.args.self.now.numbers c.remove.new.self None c.remove.ensures.updates
