@@ -388,9 +388,17 @@ fn index_all(alloc: Global, variables: &mut VariableMap) -> Result<(), NoMemory>
     variables.index(alloc, "nothing")
 }
 
+/// More numbers than the rows give.
+const MORE_THAN_ALL: usize = 1000;
+
 /// How many numbers the strings of the name have, if they have any.
 fn count_numbers(variables: &VariableMap, name: &str) -> Option<usize> {
-    Some(variables.numbers_of(name)?.size())
+    let numbers = variables.numbers_of(name)?;
+    Some(
+        (0..MORE_THAN_ALL)
+            .filter(|number| numbers.contains(*number))
+            .count(),
+    )
 }
 
 /// Whether `many` has so many numbers, and no other name has any.
@@ -407,7 +415,7 @@ fn is_numbered(variables: &VariableMap, text: &str) -> bool {
         variables.numbers_of("many"),
         variables.string_numbers().get(text),
     ) {
-        (Some(numbers), Some(number)) => numbers.contains32(number),
+        (Some(numbers), Some(number)) => numbers.contains(number),
         _ => false,
     }
 }

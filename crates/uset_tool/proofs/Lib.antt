@@ -15,4 +15,5 @@ mod LeftLemmas
 pub mod BindingLemmas
 pub mod LineLemmas
 pub mod CharacterLemmas
+pub mod ErrLines
 mod Examples

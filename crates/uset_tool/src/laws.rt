@@ -1,5 +1,5 @@
 //! The laws of answers and of patterns that numbers tell, each the contract of a function that does nothing.
-ghost use Rattle.uset_tool.specs.Laws.{GeneratedPatternsAreRead, OneAnswer};
+ghost use Rattle.uset_tool.specs.Laws.{ErrLinesBeginWithErr, GeneratedPatternsAreRead, OneAnswer};
 
 use cp_invlist::laws::one_list_of_ranges;
 use cp_strset::laws::one_list;
@@ -28,3 +28,8 @@ pub fn generated()
 {
     brackets();
 }
+
+/// An answer is an `err` line, by which the status is 1, exactly where it begins with `err `.
+pub fn err_lines()
+    ensures { ErrLinesBeginWithErr }
+{}

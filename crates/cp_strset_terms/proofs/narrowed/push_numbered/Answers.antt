@@ -12,7 +12,7 @@ loop-index-preserved c = (
     | inl earlier ↦ c.in_ok-push_placed.ensures.held text (c.loop-index.invariant.1 number text earlier at member)
     | inr behind ↦ (
         let here : number / 0x11_0000 ≡ c.loop-index.index = omega arith in
-        let placed : contains c.piece-item.result (number % 0x11_0000) ≡ true = 
+        let placed : contains c.piece-item.result (number % 0x11_0000) ≡ true =
         ap (λ p. contains p (number % 0x11_0000))
         (c.piece-item.is
         ∙ (get_or_default c.pieces-piece-items.result.now c.loop-index.index c.piece-item.result [] c.loop-index-test.true

@@ -10,6 +10,6 @@ use Rattle.uset_parse.proofs.calls.parse_unstable.Goals as goal
 
 pub returns-clause-read : goal.returns-clause-read
 returns-clause-read c =
-    let none : variables_of c.new.result ≡ no_variables = fun_ext (λ name. ap (option_map value_seen) (c.new.ensures (encode_utf8_all name))) in
+    let none : variables_of c.new.result ≡ no_variables = fun_ext (λ name. ap (option_map value_seen) (c.new.ensures.free (encode_utf8_all name))) in
     IfOk-weaker c.parse_unstable_with_variables.result _ _ (λ p h. subst (λ v. IsRead (language_of v (tables_of c.args.database.now)) c.args.source.now p.0 p.1) none h)
     c.parse_unstable_with_variables.ensures.read

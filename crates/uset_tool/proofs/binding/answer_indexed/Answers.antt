@@ -6,5 +6,5 @@ pub returns : goal.returns
 returns c = record {
   text = c.in_ok-answer.ensures.text;
   err = c.in_ok-answer.ensures.err;
-  bound = same_variables c.answer_value.new.variables c.index.new.self c.index.ensures ∙ c.in_ok-answer.ensures.bound;
+  bound = same_variables c.answer_value.new.variables c.index.new.self c.index.ensures.same ∙ c.in_ok-answer.ensures.bound;
 }

@@ -11,7 +11,7 @@ pub loop-line-init : goal.loop-line-init
 loop-line-init g c = (
   c.utf8.script,
   refl,
-  rw c.new-pending.ensures.items (rw (nothing_bound c.new-variables.result c.new-variables.ensures) (holds_none (tables_of c.args.database.now) no_variables (lines c.args.script.now) (g.K.Sink.written c.args.sink.now))),
+  rw c.new-pending.ensures.items (rw (nothing_bound c.new-variables.result c.new-variables.ensures.free) (holds_none (tables_of c.args.database.now) no_variables (lines c.args.script.now) (g.K.Sink.written c.args.sink.now))),
   c.new-resolver.ensures,
 )
 
