@@ -13,9 +13,9 @@ use std::marker::Model;
 /// How many numbers a piece of a set has room for: as many as there are code points.
 pub(crate) const PIECE: usize = LAST_CODE_POINT as usize + 1;
 
-/// A set of numbers of strings, in pieces of 1,114,112 numbers each, which are sets of code points: the number `n` is in the
-/// set where its piece `n / 1114112` has the code point `n % 1114112`. A contract sees it as the list of the pieces, each by
-/// its inversion list.
+/// A set of numbers of strings, in pieces of 1,114,112 numbers each, which are sets of code points: the number `n` is
+/// in the set where its piece `n / 1114112` has the code point `n % 1114112`. A contract sees it as the list of the
+/// pieces, each by its inversion list.
 #[derive(Drop)]
 pub struct NumberSet {
     pieces: Vec<CodePointInversionList>,

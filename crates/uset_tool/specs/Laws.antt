@@ -29,11 +29,12 @@ GeneratedPatternsAreRead =
     (n : ℕ) (tables : Tables) → AreAllowed tables → (l : Language) → language_of no_variables tables ≡ Some l →
     (rest : Text) → (tree : Tree) × Reads l (chars (pattern_of n) ++ rest) tree rest
 
+-- whether the text begins with `err `
 abbrev pub begins_with_err : List ℕ → Bool
 begins_with_err text = starts_with nat_eq text (codes "err ")
 
--- The answer to a line of a script, and that to a pattern that is measured, is said to be an `err` line exactly where it
--- begins with `err `. By such lines the status tells 1 from 0.
+-- The answer to a line of a script, and that to a pattern that is measured, is said to be an `err` line exactly where
+-- it begins with `err `. By such lines the status tells 1 from 0.
 pub record ErrLinesBeginWithErr : Type 0 where
   pub lines : (tables : Tables) (variables new : Variables) (line : ScriptLine) (text : List ℕ) (err : Bool) →
       LineAnswer tables variables line text err new → err ≡ begins_with_err text

@@ -77,8 +77,8 @@ impl Model for MemorySource {
 impl MemorySource {
     ghost use Rattle.uset_tool.specs.Memory.{Device};
 
-    /// A source of these bytes, of which a read takes at most `piece`, which isn't 0, and whose reads with these numbers fail.
-    /// The first read has the number 0.
+    /// A source of these bytes, of which a read takes at most `piece`, which isn't 0, and whose reads with these numbers
+    /// fail. The first read has the number 0.
     pub fn new(bytes: Vec<u8>, piece: usize, failing: Vec<u64>) -> MemorySource
         requires { 0 < piece }
         ensures { result ≡
@@ -168,8 +168,8 @@ impl MemorySink {
     ghost use Rattle.std.specs.Prelude.{[]};
     ghost use Rattle.uset_tool.specs.Memory.{Device};
 
-    /// A sink with nothing written, of which a write takes at most `piece` bytes, which isn't 0, and whose writes with these
-    /// numbers fail. The first write has the number 0.
+    /// A sink with nothing written, of which a write takes at most `piece` bytes, which isn't 0, and whose writes with
+    /// these numbers fail. The first write has the number 0.
     pub fn new(alloc: Global, piece: usize, failing: Vec<u64>) -> MemorySink
         requires { 0 < piece }
         ensures { result ≡ record { bytes = []; piece = piece; failing = failing.items; calls = 0; faults = 0 } }

@@ -50,8 +50,8 @@ pub trait Sink {
     /// How many writes have failed. The count stands still at 2^64 - 1.
     ghost faults: { Self → ℕ };
 
-    /// Appends the front of the piece, which isn't empty. The answer is the number of its bytes, at least 1. A write that fails is
-    /// counted, no other is, not even one that memory was refused to. A write that is refused appends nothing.
+    /// Appends the front of the piece, which isn't empty. The answer is the number of its bytes, at least 1. A write that
+    /// fails is counted, no other is, not even one that memory was refused to. A write that is refused appends nothing.
     fn write(&mut self, buf: &[u8]) -> Result<usize, WriteError>
         requires { 0 < length buf.now }
         ensures within { IfOk result (λ n. (0 < n) × (n ≤ length buf.now)) }

@@ -19,9 +19,9 @@ pub trait Source {
     /// How many reads have failed. The count stands still at 2^64 - 1.
     ghost faults: { Self → ℕ };
 
-    /// Takes bytes off the front of what is left and puts them at the front of the buffer, which isn't empty. The answer
-    /// is their number, which is 0 only where nothing is left. A read that fails is counted, no other is, and it takes
-    /// nothing.
+    /// Takes bytes off the front of what is left and puts them at the front of the buffer, which isn't empty. The
+    /// answer is their number, which is 0 only where nothing is left. A read that fails is counted, no other is, and it
+    /// takes nothing.
     fn read(&mut self, buf: &mut [u8]) -> Result<usize, Failed>
         requires { 0 < length buf.old }
         ensures within { IfOk result (λ n. n ≤ length buf.old) }

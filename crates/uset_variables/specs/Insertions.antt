@@ -19,8 +19,8 @@ abbrev pub present_in : Result (Unit {0}) InsertError → Option VariableValue
 present_in (Ok x) = None
 present_in (Err e) = value_present e
 
--- The name is bound to the value and all others as they were, or, after a refusal, all as they were. The strings of sets
--- have the numbers that they had.
+-- The name is bound to the value and all others as they were, or, after a refusal, all as they were. The strings of
+-- sets have the numbers that they had.
 abbrev pub Inserts : VariableMap → List ℕ → VariableValue → Result (Unit {0}) InsertError → VariableMap → Type 0
 Inserts old key value (Ok x) new = Binds old key (Some value) new × HasSameNumbers old new
 Inserts old key value (Err e) new = IsSame old new × HasSameNumbers old new

@@ -32,6 +32,9 @@ has_many_strings None = false
 has_many_strings (Some value) = are_many value
 
 -- the numbers are at the names of sets, and those of their strings
-pub record AreNumbersOfSets (values : BTreeMap (String Global) KeptValue) (strings : List (List ℕ)) (numbers : BTreeMap (String Global) (List (List ℕ))) : Type 0 where
-  pub sets : (name : List ℕ) (found : List (List ℕ)) → get_by_text numbers name ≡ Some found → is_a_set (value_at values name) ≡ true
-  pub theirs : (name : List ℕ) (found : List (List ℕ)) (set : StringSet) → get_by_text numbers name ≡ Some found → value_at values name ≡ Some (UnicodeSet set) → AreNumbersOf strings set.strings found
+pub record AreNumbersOfSets (values : BTreeMap (String Global) KeptValue) (strings : List (List ℕ))
+    (numbers : BTreeMap (String Global) (List (List ℕ))) : Type 0 where
+  pub sets : (name : List ℕ) (found : List (List ℕ)) → get_by_text numbers name ≡ Some found →
+      is_a_set (value_at values name) ≡ true
+  pub theirs : (name : List ℕ) (found : List (List ℕ)) (set : StringSet) → get_by_text numbers name ≡ Some found →
+      value_at values name ≡ Some (UnicodeSet set) → AreNumbersOf strings set.strings found

@@ -44,7 +44,8 @@ impl VariableMap {
     ghost use Rattle.uset_variables.specs.Values.{is_kept, kept};
     ghost use Rattle.cp_strset.specs.StringSet.{StringSet};
     ghost use Rattle.cp_strset_terms.specs.Numbers.{AreNumbersOf, KeepsNumbers};
-    ghost use Rattle.uset_variables.specs.Variables.{bound, numbered_strings, numbers_at, Binds, IsSame, HasSameNumbers};
+    ghost use Rattle.uset_variables.specs.Variables.{bound, numbered_strings, numbers_at};
+    ghost use Rattle.uset_variables.specs.Variables.{Binds, IsSame, HasSameNumbers};
     ghost use Rattle.uset_variables.specs.Insertions.{value_present, present_in, EndsInserted};
 
     /// The map that binds no name.
@@ -141,14 +142,15 @@ impl VariableMap {
         }
     }
 
-    /// Gives the strings of the set that the name is bound to numbers, where there are at least 64: with these, set expressions
-    /// over the variable needn't go along its strings. Names that are bound to nothing or to another value get none, and all
-    /// names are bound as they were. After a refusal each name has the numbers that it had.
+    /// Gives the strings of the set that the name is bound to numbers, where there are at least 64: with these, set
+    /// expressions over the variable needn't go along its strings. Names that are bound to nothing or to another value
+    /// get none, and all names are bound as they were. After a refusal each name has the numbers that it had.
     pub fn index(&mut self, alloc: Global, key: &str) -> Result<(), NoMemory>
         ensures same { IsSame self.old self.new }
         ensures strings { KeepsNumbers (numbered_strings self.old) (numbered_strings self.new) }
         ensures ok { OnOk result ((name : List ℕ) → is_some (numbers_at self.new name) ≡
-            ((bytes_eq key.now name && has_many_strings (bound self.old key.now)) || is_some (numbers_at self.old name))) }
+            ((bytes_eq key.now name && has_many_strings (bound self.old key.now))
+            || is_some (numbers_at self.old name))) }
         ensures err { OnErr result ((name : List ℕ) → numbers_at self.new name ≡ numbers_at self.old name) }
     {
         if let Some(set) = set_of_many(&self.values, key) {
