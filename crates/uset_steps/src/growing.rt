@@ -49,7 +49,7 @@ impl Growing {
     ghost use Rattle.std.specs.String.{string_bytes};
     ghost use Rattle.uset_grammar.specs.Tree.{Member, in_range};
     ghost use Rattle.uset_gather.specs.Gathered.{operand_in, is_string};
-    ghost use Rattle.uset_steps.specs.Names.{Sets, IsSetOf};
+    ghost use Rattle.uset_steps.specs.Names.{Sets, IsSetOf, named_in};
     ghost use Rattle.uset_steps.specs.Operations.{operated};
     ghost use Rattle.uset_steps.specs.Steps.{step_done};
     ghost use Rattle.uset_steps.specs.Terms.{term_in, closed_in, growing_in};
@@ -139,6 +139,41 @@ impl Growing {
         }
     }
 
+    /// Gathers the set of another bracket.
+    fn with_closed(
+        self,
+        alloc: Global,
+        operation: Operation,
+        set: Closed,
+    ) -> Result<Growing, NoMemory>
+        ensures { IfOk result (λ new. (sets : Sets) (m : Member) →
+            growing_in sets new m ≡ operated operation (closed_in sets set m) (growing_in sets self m)) }
+    {
+        match set {
+            Closed::Plain(set) => self.with_plain(alloc, operation, Operand::Gathered(set)),
+            Closed::Term(term) => self.with_term(alloc, operation, Box::into_inner(term)),
+        }
+    }
+
+    /// Gathers a set that is kept. With `named` it becomes the leaf of a term.
+    fn with_kept(
+        self,
+        alloc: Global,
+        operation: Operation,
+        set: &Named<'_>,
+        named: bool,
+    ) -> Result<Growing, NoMemory>
+        ensures { IfOk result (λ new. (meant : Sets) → IsSetOf meant set.now → (m : Member) →
+            growing_in meant new m ≡ operated operation (named_in set.now.set m) (growing_in meant self m)) }
+    {
+        if named {
+            let term = Term::of_name(alloc, set.name.copy(alloc)?)?;
+            self.with_term(alloc, operation, term)
+        } else {
+            self.with_plain(alloc, operation, set.set.operand())
+        }
+    }
+
     /// Does the step. With `named` the sets that it names become leaves of a term.
     pub(crate) fn with_step(
         self,
@@ -153,16 +188,9 @@ impl Growing {
         match step {
             Step::Range(span) => self.with_range(alloc, span),
             Step::Text(spelled) => self.with_text(alloc, Box::into_inner(spelled)),
-            Step::Set(operation, set) => match Box::into_inner(set) {
-                Closed::Plain(set) => self.with_plain(alloc, operation, Operand::Gathered(set)),
-                Closed::Term(term) => self.with_term(alloc, operation, Box::into_inner(term)),
-            },
+            Step::Set(operation, set) => self.with_closed(alloc, operation, Box::into_inner(set)),
             Step::Named(operation, place) => match sets.get(place) {
-                Some(set) if named => {
-                    let term = Term::of_name(alloc, set.name.copy(alloc)?)?;
-                    self.with_term(alloc, operation, term)
-                }
-                Some(set) => self.with_plain(alloc, operation, set.set.operand()),
+                Some(set) => self.with_kept(alloc, operation, set, named),
                 None => Ok(self),
             },
         }

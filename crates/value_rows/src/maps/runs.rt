@@ -1,5 +1,6 @@
 //! Runs that make no map, and the maximal runs of maps.
-use crate::fixtures::{assert_equal, map_of, run};
+use crate::fixtures::assert_equal;
+use crate::maps::fixtures::{map_of, run};
 use cp_trie::{CodePointMapRange, CodePointTrie, TrieError};
 use std::alloc::{AllocError, Global};
 

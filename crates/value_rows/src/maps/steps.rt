@@ -1,7 +1,8 @@
 //! Look-ups with a ledger of the caller's.
 ghost use Rattle.std.specs.Prelude.{◌≡◌, ◌+◌, ◌<◌, ◌≤◌};
 
-use crate::fixtures::{assert_equal, map_of};
+use crate::fixtures::assert_equal;
+use crate::maps::fixtures::map_of;
 use cp_invlist::Steps;
 use cp_trie::{CodePointTrie, TrieError};
 use std::alloc::Global;

@@ -1,5 +1,6 @@
 //! Maps whose boundaries stand at the edges of pages and blocks, and maps with pages that are almost the same.
-use crate::fixtures::{assert_equal, assert_values, first_wrong, map_of, run};
+use crate::fixtures::assert_equal;
+use crate::maps::fixtures::{assert_values, first_wrong, map_of, run};
 use cp_trie::{CodePointMapRange, CodePointTrie, TrieError};
 use std::alloc::{AllocError, Global};
 use std::process::Abort;

@@ -1,5 +1,6 @@
 //! What maps answer at numbers, and which numbers have a value.
-use crate::fixtures::{assert_equal, assert_values, first_wrong, map_of};
+use crate::fixtures::assert_equal;
+use crate::maps::fixtures::{assert_values, first_wrong, map_of};
 use cp_trie::{CodePointTrie, TrieError};
 use std::alloc::Global;
 

@@ -1,18 +1,9 @@
 //! Maps by the numbers at which their values begin.
+use crate::fixtures::assert_equal;
 use cp_invlist::CodePointRange;
 use cp_trie::{CodePointMapRange, CodePointTrie, TrieError, TrieValue};
 use std::alloc::{AllocError, Global};
-use std::fmt;
 use std::process::Abort;
-
-/// Asserts that both values are the same. An assertion is proved slowly wherever it stands, so that tests share this one.
-pub(crate) fn assert_equal<T: PartialEq + fmt::Debug + Drop>(
-    rt: &impl Abort,
-    found: T,
-    expected: T,
-) {
-    assert_eq!(rt; found, expected);
-}
 
 pub(crate) fn run<T>(start: u32, end: u32, value: T) -> CodePointMapRange<T> {
     CodePointMapRange {

@@ -1,5 +1,6 @@
 //! Maps that are converted to another type of values.
-use crate::fixtures::{assert_equal, map_of};
+use crate::fixtures::assert_equal;
+use crate::maps::fixtures::map_of;
 use cp_trie::{ConvertError, TrieValue};
 use std::alloc::Global;
 use std::fmt;

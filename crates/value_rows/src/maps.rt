@@ -1,0 +1,9 @@
+//! Tests of maps.
+mod converted;
+mod errors;
+mod fixtures;
+mod numbers;
+mod pages;
+mod runs;
+mod steps;
+mod values;
