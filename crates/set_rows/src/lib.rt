@@ -1,5 +1,6 @@
-//! Tests of sets of code points and of sets with strings, over the crates that declare them: they stand here so that a
-//! change of a test proves no set anew, and the sets are not proved a second time with their tests.
+//! Tests of sets of code points, of sets with strings and of set expressions over both, over the crates that declare them:
+//! they stand here so that a change of a test proves no set and no expression anew, and neither is proved a second time
+//! with tests.
 #![tactic(auto)]
 
 #[cfg(test)]
@@ -11,6 +12,14 @@ mod fixtures;
 #[cfg(test)]
 mod indexed;
 #[cfg(test)]
+mod indexed_terms;
+#[cfg(test)]
 mod lists;
 #[cfg(test)]
+mod numbered_terms;
+#[cfg(test)]
+mod string_terms;
+#[cfg(test)]
 mod strings;
+#[cfg(test)]
+mod terms;

@@ -1,4 +1,5 @@
-//! Whole runs of the program in memory.
+//! Whole runs of the program in memory. The tests of sources, sinks and statuses stand here too, so that the program is
+//! not proved a second time with them.
 #![tactic(auto)]
 
 ghost use Rattle.std.specs.Prelude.{◌≢◌, [], map};
@@ -12,6 +13,8 @@ use uset_tool::{Status, SureSink, SureSource, run};
 mod counts;
 #[cfg(test)]
 mod depth;
+#[cfg(test)]
+mod devices;
 #[cfg(test)]
 mod errors;
 #[cfg(test)]

@@ -2,7 +2,7 @@ use Rattle.std.proofs.Common.{◌≡◌, All, Some, Result, Ok, Err, IfOk, sym, 
 use Rattle.std.proofs.lemmas.Option.{same_Some}
 use Rattle.std.specs.Result.{result_ok}
 use Rattle.cp_strset_terms.specs.Leaves.{FitsNumbers}
-use Rattle.strset_term_rows.proofs.terms.evaluated.Goals as goal
+use Rattle.set_rows.proofs.string_terms.evaluated.Goals as goal
 
 -- what is known of a value that was taken out
 taken_out : {T E : Type 0} (r : Result T E) (x : T) (P : T → Type 0) → Some x ≡ result_ok r → IfOk r P → P x

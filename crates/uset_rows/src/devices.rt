@@ -1,17 +1,11 @@
 //! Tests of the sources and sinks, and of the numbers of the statuses.
+use crate::fixtures::assert_equal;
 use std::alloc::{AllocError, Global};
-use std::fmt;
 use std::io::{self, Cursor, Error, ErrorKind, Read, Write};
-use std::process::Abort;
 use uset_tool::{
     Failed, MemorySink, Sink, Source, Status, StdSink, StdSource, SureSink, SureSource, WriteError,
     run,
 };
-
-/// Asserts that both values are the same. An assertion is proved slowly wherever it stands, so that tests share this one.
-fn assert_equal<T: PartialEq + fmt::Debug + Drop>(rt: &impl Abort, found: T, expected: T) {
-    assert_eq!(rt; found, expected);
-}
 
 /// The tables of the pattern syntax, for ASCII, and a pattern.
 const INPUT: &[u8] =

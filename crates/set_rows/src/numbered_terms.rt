@@ -2,12 +2,11 @@
 ghost use Rattle.std.specs.Prelude.{IfSome};
 ghost use Rattle.cp_strset_terms.specs.Numbers.{AreNumbersOf, KeepsNumbers};
 
+use crate::fixtures::assert_equal;
 use cp_invlist::CodePointInversionListBuilder;
 use cp_strset::CodePointInversionListAndStringList;
 use cp_strset_terms::{Leaf, NumberSet, Step, StringNumbers, Way, evaluate};
 use std::alloc::{AllocError, Global};
-use std::fmt;
-use std::process::Abort;
 
 /// The strings `s` with a number behind, so many from the first on, each two further.
 struct Strings {
@@ -197,11 +196,6 @@ fn first_wrong(alloc: Global) -> Option<usize> {
         }
     }
     None
-}
-
-/// Asserts that both are the same. An assertion is proved slowly wherever it stands, so that the tests share this one.
-fn assert_equal<T: PartialEq + fmt::Debug + Drop>(rt: &impl Abort, found: T, expected: T) {
-    assert_eq!(rt; found, expected);
 }
 
 #[test]

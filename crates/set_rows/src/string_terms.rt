@@ -2,11 +2,11 @@
 ghost use Rattle.std.specs.Prelude.{ℕ, All, List, IfOk};
 ghost use Rattle.cp_strset_terms.specs.Leaves.{FitsNumbers};
 
+use crate::fixtures::assert_equal;
 use cp_invlist::CodePointInversionList;
 use cp_strset::CodePointInversionListAndStringList;
 use cp_strset_terms::{Leaf, Step, StringNumbers, Way, evaluate};
 use std::alloc::{AllocError, Global};
-use std::process::Abort;
 
 /// The letters `a` to `c`.
 const LETTERS: &[u32] = &[0x61, 0x64];
@@ -393,11 +393,6 @@ fn is_evaluated(alloc: Global, steps: &[Step], list: &[u32], texts: &[&str]) -> 
     Some(found == expected)
 }
 
-/// Asserts that both are the same. An assertion is proved slowly wherever it stands.
-fn assert_same(rt: &impl Abort, found: Option<usize>, expected: Option<usize>) {
-    assert_eq!(rt; found, expected);
-}
-
 /// The first row that doesn't hold.
 fn first_wrong(alloc: Global) -> Option<usize> {
     for (index, (steps, list, texts)) in ROWS.iter().enumerate() {
@@ -410,5 +405,5 @@ fn first_wrong(alloc: Global) -> Option<usize> {
 
 #[test]
 fn terms_are_evaluated(rt: HostRuntime) {
-    assert_same(&rt, first_wrong(rt.alloc()), None);
+    assert_equal(&rt, first_wrong(rt.alloc()), None);
 }
