@@ -6,16 +6,12 @@ use Rattle.uset_grammar.specs.Tree.{Member, negation}
 use Rattle.uset_steps.specs.declared.term.TermStep.{TermStep}
 use Rattle.uset_steps.specs.declared.term.TermStep.TheVariants.{Both, Negate}
 use Rattle.uset_steps.specs.Names.{Sets}
-use Rattle.uset_steps.specs.TermSteps.{negated_top, term_step, term_steps, PutsDown, MakesOne}
+use Rattle.uset_steps.specs.TermSteps.{negated_top, term_step, term_steps, MakesOne}
 
 -- steps behind others
 pub steps_append : (sets : Sets) (m : Member) (ss ts : List TermStep) (stack : List Bool) → term_steps sets m (ss ++ ts) stack ≡ term_steps sets m ts (term_steps sets m ss stack)
 steps_append sets m [] ts stack = refl
 steps_append sets m (s ∷ ss) ts stack = steps_append sets m ss ts (term_step sets m s stack)
-
--- a step that puts a set down
-pub one_put_down : (s : TermStep) → PutsDown s → MakesOne (s ∷ [])
-one_put_down s puts sets m stack = puts sets m stack ∙ ap (λ b. b ∷ stack) (sym (ap top (puts sets m [])))
 
 -- what the steps of two terms, and then one that makes one set of two, leave
 pub both_made : (sets : Sets) (m : Member) (way : Way) (ss ts more all : List TermStep) (stack : List Bool) → more ≡ ss ++ ts → all ≡ more ++ Both way ∷ [] → MakesOne ss → MakesOne ts →

@@ -25,10 +25,6 @@ read_ends wanted s (inl is) h = ap is_read_fault is ∙ h
 read_ends wanted s (inr (inl is)) h = ap is_read_fault is
 read_ends wanted s (inr (inr is)) h = ap is_read_fault is
 
--- where nothing more is read, the count stands
-pub unread_after : (s : Status) (old now new : ℕ) → new ≡ now → now ≡ old → is_read_fault s ≡ false → new ≡ count_after (is_read_fault s) old
-unread_after s old now new same before h = same ∙ (before ∙ sym (ap (λ b. count_after b old) h))
-
 -- an input that is text was read
 pub read_of_text : (s : Status) → is_of_text s ≡ true → is_read_fault s ≡ false
 read_of_text Done h = refl

@@ -20,5 +20,5 @@ returns-in-Some c =
     let sets = c.args.sets.now in
     let at : slice_get sets c.in-Named.place ≡ Some c.in-Some.set.now = slice_get-get_or sets c.in-Named.place c.in-Some.set.now lookup.3.0 ∙ ap Some (sym lookup.1) in
     rw c.in-Named.is (IfOk-weaker c.with_kept.result _ _ (λ new made meant are m.
-        made meant (subst (IsSetOf meant) (sym lookup.1) (All-get_or (IsSetOf meant) sets c.in-Named.place c.in-Some.set.now lookup.3.0 are)) m
-        ∙ sym (ap (λ set. with_kept c.in-Named.operation set m (growing_in meant c.args.self m)) at)) c.with_kept.ensures)
+    made meant (subst (IsSetOf meant) (sym lookup.1) (All-get_or (IsSetOf meant) sets c.in-Named.place c.in-Some.set.now lookup.3.0 are)) m
+    ∙ sym (ap (λ set. with_kept c.in-Named.operation set m (growing_in meant c.args.self m)) at)) c.with_kept.ensures)
