@@ -7,11 +7,17 @@ use Rattle.std.proofs.lemmas.Grind.{common_steps}
 use Rattle.cp_invlist.specs.WordLaws.{has_bit-zero}
 use Rattle.cp_terms.specs.declared.block.Block.{Block}
 use Rattle.cp_invlist.specs.Words.{has_bit}
+use Rattle.cp_terms.specs.Terms.{top}
 use Rattle.cp_terms.specs.Blocks.{block_has, block_marks, block_holds}
 
 -- a block on top of others
 pub block_marks-push : (i j : ℕ) (blocks : List Block) (block : Block) → block_marks i j (blocks ++ block ∷ []) ≡ block_has block i j ∷ block_marks i j blocks
 block_marks-push i j blocks block = grind (arith, common_steps)
+
+-- where there are no blocks the one on top has no bits
+pub block_marks-none : (i j : ℕ) (blocks : List Block) → length blocks ≡ 0 → top (block_marks i j blocks) ≡ false
+block_marks-none i j [] none = refl
+block_marks-none i j (block ∷ blocks) none = absurd (omega (arith, none))
 
 -- a block that has no bits stands for the ones that there are not
 pub block_holds-get_or : (blocks : List Block) (empty : Block) (i j index : ℕ) → block_has empty i j ≡ false → block_holds blocks i j index ≡ block_has (get_or blocks index empty) i j

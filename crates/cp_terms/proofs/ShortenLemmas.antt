@@ -1,5 +1,6 @@
 -- What keeps a shortened term in step with the term.
 use Rattle.std.proofs.Common.{◌≡◌, ℕ, ◌+◌, ◌<◌, ◌≤◌, Bool, true, false, not, Option, None, Some, List, [], ◌∷◌, ◌++◌, length, take, reverse, refl, sym, ap, ap₂, ◌∙◌, arith, subst, length-append, get_or, ◌-◌, IfSome, IfNone}
+use Rattle.std.specs.List.{slice_get}
 use Rattle.std.proofs.Math.Bool.{beq}
 use Rattle.std.proofs.lemmas.List.{take-append-le, take-take, take_all, take_more, reverse-append, length-take-le}
 use Rattle.std.proofs.Math.Seq.{take-append_seam}
@@ -9,7 +10,9 @@ use Rattle.cp_terms.specs.declared.step.Step.TheVariants.{Push, Both, Complement
 use Rattle.cp_terms.specs.declared.shorten.Part.{Part}
 use Rattle.cp_terms.specs.declared.shorten.Part.TheVariants.{Empty, Full, Mixed}
 use Rattle.cp_terms.specs.Terms.{combined, both_done, complement_done, steps_done, top, value_of}
-use Rattle.cp_terms.specs.Shorten.{Fits, changed}
+use Rattle.cp_terms.specs.Shorten.{Agree, AgreesAt, Fits, changed}
+use Rattle.cp_invlist.specs.declared.window.Window.{Window}
+use Rattle.cp_invlist.specs.Windows.{is_inside}
 use Rattle.cp_terms.specs.ShortenParts.{constant_of}
 use Rattle.cp_terms.proofs.TermsLemmas.{steps_done-append}
 
@@ -149,3 +152,15 @@ if_constant (Some inside) ss part parts all is are = λ w stack h. fits_top_cons
 pub if_mixed : (o : Option Bool) (ss : List Step) (part : Part) (parts all : List Part) → o ≡ constant_of part → all ≡ part ∷ parts → IfNone o ((w : ℕ → Bool) (stack : List Bool) → Fits w ss all stack → top stack ≡ value_of w ss)
 if_mixed None ss part parts all is are = λ w stack h. fits_top w ss part parts stack (sym is) (subst (λ l. Fits w ss l stack) are h)
 if_mixed (Some inside) ss part parts all is are = tt
+
+-- the first valuation at a set that there is not
+pub agree_at_none : (windows : List Window) (end : ℕ) (v w : ℕ → Bool) (i : ℕ) → slice_get windows i ≡ None → Agree windows end v w → v i ≡ false
+agree_at_none windows end v w i none agree = subst (λ (o : Option Window). AgreesAt o end (v i) (w i)) none (agree.at i)
+
+-- at one that doesn't change before the end
+pub agree_at_constant : (windows : List Window) (end : ℕ) (v w : ℕ → Bool) (i : ℕ) (window : Window) → slice_get windows i ≡ Some window → end ≤ window.next → Agree windows end v w → v i ≡ is_inside window
+agree_at_constant windows end v w i window at late agree = (subst (λ (o : Option Window). AgreesAt o end (v i) (w i)) at (agree.at i)).0 late
+
+-- and at one that does
+pub agree_at_mixed : (windows : List Window) (end : ℕ) (v w : ℕ → Bool) (i : ℕ) (window : Window) → slice_get windows i ≡ Some window → window.next < end → Agree windows end v w → v i ≡ w i
+agree_at_mixed windows end v w i window at early agree = (subst (λ (o : Option Window). AgreesAt o end (v i) (w i)) at (agree.at i)).1 early

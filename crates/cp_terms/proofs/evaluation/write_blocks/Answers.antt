@@ -1,4 +1,5 @@
-use Rattle.std.proofs.Common.{◌+◌, ◌*◌, sym, ap, ◌∙◌, arith}
+use Rattle.std.proofs.Common.{◌+◌, ◌*◌, ◌<◌, AllPairs, refl, sym, ap, ◌∙◌, subst, arith}
+use Rattle.std.proofs.lemmas.Result.{IfOk-from_err}
 use Rattle.cp_terms.specs.Terms.{value_of}
 use Rattle.cp_terms.specs.Blocks.{block_holds}
 use Rattle.cp_terms.proofs.WindowLemmas.{windows_later}
@@ -31,3 +32,43 @@ loop-index-preserved c =
 
 pub returns-clause-windows : goal.returns-clause-windows
 returns-clause-windows c = windows_later c.args.sets.now _ (c.args.start + 0x4000) c.loop-index.windows (omega arith) c.loop-index.invariant.windows
+
+pub returns-in_err-list_mixed-clause-windows : goal.returns-in_err-list_mixed-clause-windows
+returns-in_err-list_mixed-clause-windows c = IfOk-from_err c.from_residual.result _ c.from_residual.ensures.0
+
+pub loop-index-init : goal.loop-index-init
+loop-index-init c = record {
+  windows_each = c.requires.windows_each;
+  blocks_each = c.requires.blocks_each;
+  windows = windows_later c.args.sets.now c.args.start (c.args.start + 0) c.args.windows.now (omega arith) c.requires.windows;
+  term = refl;
+  mixed = c.in_ok-list_mixed.ensures.mixed;
+  ascending = c.in_ok-list_mixed.ensures.ascending;
+  before = before_later c.args.start (c.args.start + 0) c.args.changes.now (omega arith) c.requires.before;
+  members = λ m tell made. tell_at m c.args.changes.now c.args.start (c.args.start + 0) (omega arith) tell;
+}
+
+pub fill_blocks-requires-clause-place : goal.fill_blocks-requires-clause-place
+fill_blocks-requires-clause-place c = omega arith
+
+pub fill_blocks-requires-clause-aligned : goal.fill_blocks-requires-clause-aligned
+fill_blocks-requires-clause-aligned c = omega arith
+
+pub fill_blocks-requires-clause-ascending : goal.fill_blocks-requires-clause-ascending
+fill_blocks-requires-clause-ascending c = subst (AllPairs (λ i j. i < j)) (sym c.deref.ensures.value) c.loop-index.invariant.ascending
+
+pub fill_blocks-requires-clause-windows : goal.fill_blocks-requires-clause-windows
+fill_blocks-requires-clause-windows c = c.loop-index.invariant.windows
+
+pub returns-in_err-block-clause-members : goal.returns-in_err-block-clause-members
+returns-in_err-block-clause-members c = IfOk-from_err c.from_residual-in_err-block.result _ c.from_residual-in_err-block.ensures.0
+
+pub write_block-requires-clause-before : goal.write_block-requires-clause-before
+write_block-requires-clause-before c = c.loop-index.invariant.before
+
+pub returns-clause-before : goal.returns-clause-before
+returns-clause-before c = before_later (c.args.start + 1024 * c.loop-index.index) (c.args.start + 0x4000) c.loop-index.changes (omega arith) c.loop-index.invariant.before
+
+pub returns-clause-members : goal.returns-clause-members
+returns-clause-members c = λ m tell made.
+    tell_at m c.loop-index.changes (c.args.start + 1024 * c.loop-index.index) (c.args.start + 0x4000) (omega arith) (c.loop-index.invariant.members m tell made)

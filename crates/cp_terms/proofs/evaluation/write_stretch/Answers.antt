@@ -1,8 +1,9 @@
 use Rattle.std.proofs.Common.{◌+◌, ap, ◌∙◌, arith}
-use Rattle.std.proofs.lemmas.Result.{on_ok_weaker}
+use Rattle.std.proofs.lemmas.Result.{on_ok_weaker, IfOk-from_err}
 use Rattle.cp_terms.specs.Outcome.{outcome_value}
 use Rattle.cp_terms.specs.Changes.{members_of}
 use Rattle.cp_terms.proofs.WindowLemmas.{windows_later}
+use Rattle.cp_terms.proofs.ChangesLemmas.{before_later}
 use Rattle.cp_terms.proofs.StretchLemmas.{stretch_constant, stretch_of_set, stretch_made}
 use Rattle.cp_terms.proofs.evaluation.write_stretch.Goals as goal
 
@@ -35,3 +36,36 @@ returns-in-Mixed-clause-members c =
     (stretch_made c.args.sets.now c.move_all.new.windows c.args.start c.args.steps.now c.shorten.new.self c.requires.start c.move_all.ensures.one_each c.move_all.ensures.windows (record { fits = c.in_ok-shorten.ensures })
     (λ w stack fits. c.outcome.ensures w stack fits ∙ ap (λ o. outcome_value w o c.shorten.new.self.steps.items) c.in-Mixed.is)))
     c.write_blocks.ensures.members
+
+pub returns-in_err-shorten-clause-members : goal.returns-in_err-shorten-clause-members
+returns-in_err-shorten-clause-members c = IfOk-from_err c.from_residual.result _ c.from_residual.ensures.0
+
+pub outcome-requires : goal.outcome-requires
+outcome-requires c = tt
+
+pub turn-requires-clause-before : goal.turn-requires-clause-before
+turn-requires-clause-before c = c.requires.before
+
+pub write_set-requires-clause-windows : goal.write_set-requires-clause-windows
+write_set-requires-clause-windows c = c.move_all.ensures.windows
+
+pub write_set-requires-clause-ahead : goal.write_set-requires-clause-ahead
+write_set-requires-clause-ahead c = c.move_all.ensures.ahead
+
+pub write_blocks-requires-clause-windows : goal.write_blocks-requires-clause-windows
+write_blocks-requires-clause-windows c = c.move_all.ensures.windows
+
+pub returns-in-Constant-clause-before : goal.returns-in-Constant-clause-before
+returns-in-Constant-clause-before c = on_ok_weaker c.turn.result (before_later (c.args.start + 1) (c.args.start + 0x4000) c.turn.new.self (omega arith)) c.turn.ensures.before
+
+pub returns-in-Set-clause-windows_each : goal.returns-in-Set-clause-windows_each
+returns-in-Set-clause-windows_each c = c.move_all.ensures.one_each
+
+pub returns-in-Set-clause-before : goal.returns-in-Set-clause-before
+returns-in-Set-clause-before c = c.write_set.ensures.before
+
+pub returns-in-Mixed-clause-windows : goal.returns-in-Mixed-clause-windows
+returns-in-Mixed-clause-windows c = c.write_blocks.ensures.windows
+
+pub returns-in-Mixed-clause-before : goal.returns-in-Mixed-clause-before
+returns-in-Mixed-clause-before c = c.write_blocks.ensures.before
