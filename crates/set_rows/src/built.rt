@@ -1,6 +1,6 @@
 //! Sets of code points that are built step by step.
-use crate::fixtures::assert_equal;
-use cp_invlist::{CodePointInversionList, CodePointInversionListBuilder, CodePointRange};
+use crate::fixtures::{Operation, assert_equal};
+use cp_invlist::{CodePointInversionList, CodePointInversionListBuilder, CodePointRange, NoMemory};
 use std::alloc::Global;
 
 /// A step of a builder.
@@ -9,33 +9,43 @@ enum Step {
     Char(char),
     Number(u32),
     Range(CodePointRange),
-    /// The union with the set of this list.
-    Add(&'static [u32]),
-    /// The difference.
-    Remove(&'static [u32]),
-    /// The intersection.
-    Retain(&'static [u32]),
+    /// What is done with the set of this list.
+    With(Operation, &'static [u32]),
     Complement,
 }
 
 impl Step {
     /// Takes the step, if memory is left for it.
-    fn take(self, alloc: Global, builder: &mut CodePointInversionListBuilder) -> Option<()> {
-        let taken = match self {
+    fn take(
+        self,
+        alloc: Global,
+        builder: &mut CodePointInversionListBuilder,
+    ) -> Result<(), NoMemory> {
+        match self {
             Step::Char(ch) => builder.add_char(ch),
             Step::Number(c) => builder.add32(c),
             Step::Range(range) => builder.add_range32(range),
-            Step::Add(list) => builder.add_set(&set_of(alloc, list)?),
-            Step::Remove(list) => builder.remove_set(&set_of(alloc, list)?),
-            Step::Retain(list) => builder.retain_set(&set_of(alloc, list)?),
+            Step::With(operation, list) => combine_with(operation, alloc, builder, list),
             Step::Complement => builder.complement(),
-        };
-        taken.ok()
+        }
     }
 }
 
-fn set_of(alloc: Global, list: &[u32]) -> Option<CodePointInversionList> {
-    CodePointInversionList::try_from_inversion_list(alloc, list).ok()
+/// Combines what was built with the list's set, if memory is left for it.
+fn combine_with(
+    operation: Operation,
+    alloc: Global,
+    builder: &mut CodePointInversionListBuilder,
+    list: &[u32],
+) -> Result<(), NoMemory> {
+    let Ok(set) = CodePointInversionList::try_from_inversion_list(alloc, list) else {
+        return Err(NoMemory);
+    };
+    match operation {
+        Operation::Add => builder.add_set(&set),
+        Operation::Remove => builder.remove_set(&set),
+        Operation::Retain => builder.retain_set(&set),
+    }
 }
 
 /// Steps, and the list behind each.
@@ -59,10 +69,13 @@ const STEPS: &[(Step, &[u32])] = &[
     ),
     (Step::Number(0x11_0000), &[0x61, 0x63, 0x64, 0x67]),
     (Step::Number(0x63), &[0x61, 0x67]),
-    (Step::Remove(&[0x62, 0x64]), &[0x61, 0x62, 0x64, 0x67]),
-    (Step::Retain(&[0x64, 0x7B]), &[0x64, 0x67]),
+    (
+        Step::With(Operation::Remove, &[0x62, 0x64]),
+        &[0x61, 0x62, 0x64, 0x67],
+    ),
+    (Step::With(Operation::Retain, &[0x64, 0x7B]), &[0x64, 0x67]),
     (Step::Complement, &[0, 0x64, 0x67, 0x11_0000]),
-    (Step::Add(&[0x64, 0x67]), &[0, 0x11_0000]),
+    (Step::With(Operation::Add, &[0x64, 0x67]), &[0, 0x11_0000]),
 ];
 
 /// Takes the steps of the rows.
@@ -70,25 +83,23 @@ fn take_all(
     alloc: Global,
     builder: &mut CodePointInversionListBuilder,
     rows: &[(Step, &[u32])],
-) -> Option<()> {
+) -> Result<(), NoMemory> {
     for (step, _) in rows {
         step.take(alloc, builder)?;
     }
-    Some(())
+    Ok(())
 }
 
 /// Whether the steps of the rows build a set with this list.
-fn are_built(alloc: Global, rows: &[(Step, &[u32])], list: &[u32]) -> Option<bool> {
+fn are_built(alloc: Global, rows: &[(Step, &[u32])], list: &[u32]) -> bool {
     let mut builder = CodePointInversionListBuilder::new(alloc);
-    take_all(alloc, &mut builder, rows)?;
-    let set = builder.build();
-    Some(set.get_inversion_list() == list)
+    take_all(alloc, &mut builder, rows).is_ok() && builder.build().get_inversion_list() == list
 }
 
 /// The index of the first row behind which the list is another.
 fn first_wrong(alloc: Global) -> Option<usize> {
     for (index, (_, list)) in STEPS.iter().enumerate() {
-        if are_built(alloc, &STEPS[..=index], list) != Some(true) {
+        if !are_built(alloc, &STEPS[..=index], list) {
             return Some(index);
         }
     }

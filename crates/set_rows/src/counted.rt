@@ -1,31 +1,26 @@
 //! Combinations of sets whose steps are counted.
-ghost use Rattle.std.specs.Prelude.{◌≡◌, ◌+◌, ◌<◌, length, IfOk, OnOk};
+ghost use Rattle.std.specs.Prelude.{◌≡◌, ◌+◌, ◌<◌, length, IfSome, OnOk, IsTrue};
 
-use crate::fixtures::assert_equal;
+use crate::fixtures::{Operation, assert_equal};
 use cp_invlist::laws::same_members;
 use cp_invlist::{CodePointInversionList, CodePointInversionListBuilder, NoMemory, Steps};
 use std::alloc::Global;
 use std::marker::Brand;
 use std::sync::ledger::{Blank, Ledger};
-use std::test::Fail;
 
-/// How two sets are combined.
-#[derive(Clone, Copy)]
-enum Operation {
-    Add,
-    Remove,
-    Retain,
-}
-
-/// A builder that has taken the set of the list alone.
-fn builder_of(alloc: Global, list: &[u32]) -> Result<CodePointInversionListBuilder, Fail>
-    ensures { IfOk result (λ builder. builder ≡ list.now) }
+/// A builder that has taken the set of the list alone, if memory is left for it.
+fn builder_of(alloc: Global, list: &[u32]) -> Option<CodePointInversionListBuilder>
+    ensures { IfSome result (λ builder. builder ≡ list.now) }
 {
-    let set = CodePointInversionList::try_from_inversion_list(alloc, list)?;
+    let Ok(set) = CodePointInversionList::try_from_inversion_list(alloc, list) else {
+        return None;
+    };
     let mut builder = CodePointInversionListBuilder::new(alloc);
-    builder.add_set(&set)?;
+    let Ok(()) = builder.add_set(&set) else {
+        return None;
+    };
     same_members();
-    Ok(builder)
+    Some(builder)
 }
 
 /// Combines what was built with the set: a step for each element of both.
@@ -44,8 +39,8 @@ fn combine<L: Ledger>(
     }
 }
 
-/// Whether the set of the first list, combined with that of the second, has the expected list: a step for each element of
-/// both.
+/// Whether memory is left, and the set of the first list, combined with that of the second, has the expected list: a step
+/// for each element of both.
 fn is_combined<L: Ledger>(
     alloc: Global,
     operation: Operation,
@@ -53,18 +48,22 @@ fn is_combined<L: Ledger>(
     second: &[u32],
     expected: &[u32],
     steps: &mut Steps<L>,
-) -> Result<bool, Fail>
-    ensures { OnOk result (steps.new ≡ steps.old + (length first.now + length second.now)) }
+) -> bool
+    ensures { IsTrue result → steps.new ≡ steps.old + (length first.now + length second.now) }
 {
-    let second = CodePointInversionList::try_from_inversion_list(alloc, second)?;
-    let mut builder = builder_of(alloc, first)?;
-    combine(operation, &mut builder, &second, steps)?;
-    Ok(builder.build().get_inversion_list() == expected)
+    let Ok(second) = CodePointInversionList::try_from_inversion_list(alloc, second) else {
+        return false;
+    };
+    let Some(mut builder) = builder_of(alloc, first) else {
+        return false;
+    };
+    combine(operation, &mut builder, &second, steps).is_ok()
+        && builder.build().get_inversion_list() == expected
 }
 
 /// To 41-5A it adds 61-7A, in 4 steps.
-fn letters<L: Ledger>(alloc: Global, steps: &mut Steps<L>) -> Result<bool, Fail>
-    ensures { OnOk result (steps.new ≡ steps.old + 4) }
+fn letters<L: Ledger>(alloc: Global, steps: &mut Steps<L>) -> bool
+    ensures { IsTrue result → steps.new ≡ steps.old + 4 }
 {
     let expected = &[0x41, 0x5B, 0x61, 0x7B];
     is_combined(
@@ -78,8 +77,8 @@ fn letters<L: Ledger>(alloc: Global, steps: &mut Steps<L>) -> Result<bool, Fail>
 }
 
 /// From those it removes 41-42, in 6 steps.
-fn later_letters<L: Ledger>(alloc: Global, steps: &mut Steps<L>) -> Result<bool, Fail>
-    ensures { OnOk result (steps.new ≡ steps.old + 6) }
+fn later_letters<L: Ledger>(alloc: Global, steps: &mut Steps<L>) -> bool
+    ensures { IsTrue result → steps.new ≡ steps.old + 6 }
 {
     let letters = &[0x41, 0x5B, 0x61, 0x7B];
     let expected = &[0x43, 0x5B, 0x61, 0x7B];
@@ -94,8 +93,8 @@ fn later_letters<L: Ledger>(alloc: Global, steps: &mut Steps<L>) -> Result<bool,
 }
 
 /// Of those it keeps 43-61, in 6 steps.
-fn letters_up_to_a<L: Ledger>(alloc: Global, steps: &mut Steps<L>) -> Result<bool, Fail>
-    ensures { OnOk result (steps.new ≡ steps.old + 6) }
+fn letters_up_to_a<L: Ledger>(alloc: Global, steps: &mut Steps<L>) -> bool
+    ensures { IsTrue result → steps.new ≡ steps.old + 6 }
 {
     let letters = &[0x43, 0x5B, 0x61, 0x7B];
     let expected = &[0x43, 0x5B, 0x61, 0x62];
@@ -110,22 +109,19 @@ fn letters_up_to_a<L: Ledger>(alloc: Global, steps: &mut Steps<L>) -> Result<boo
 }
 
 /// Whether the three have their lists, counted in one ledger of the caller's.
-fn are_combined<L: Ledger>(alloc: Global, blank: Blank) -> Result<bool, Fail>
+fn are_combined<L: Ledger>(alloc: Global, blank: Blank) -> bool
     requires name { blank.name ≡ L.name }
     requires parts { blank.parts ≡ L.parts }
     requires some { 0 < blank.parts }
 {
     let mut steps = Steps::<L>::new(blank);
-    Ok(
-        letters(alloc, &mut steps)?
-            && later_letters(alloc, &mut steps)?
-            && letters_up_to_a(alloc, &mut steps)?,
-    )
+    letters(alloc, &mut steps)
+        && later_letters(alloc, &mut steps)
+        && letters_up_to_a(alloc, &mut steps)
 }
 
 #[test]
-fn counted_calls_take_each_element_once(rt: HostRuntime) -> Result<(), Fail> {
-    let are_combined = are_combined::<Brand>(rt.alloc(), Blank::new(1))?;
+fn counted_calls_take_each_element_once(rt: HostRuntime) {
+    let are_combined = are_combined::<Brand>(rt.alloc(), Blank::new(1));
     assert_equal(&rt, are_combined, true);
-    Ok(())
 }

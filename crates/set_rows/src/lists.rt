@@ -4,8 +4,8 @@ use cp_invlist::laws::{
     faultless, first_fault, members_are_below_the_last, members_are_code_points,
     one_list_of_ranges, ranges_hold_members, same_members,
 };
-use cp_invlist::{CodePointInversionList, CodePointRange, InversionListError};
-use std::alloc::{AllocError, Global};
+use cp_invlist::{CodePointInversionList, CodePointRange, InversionListError, NoMemory};
+use std::alloc::Global;
 
 /// What is expected of a set.
 #[derive(Clone, Copy)]
@@ -19,52 +19,41 @@ enum Expected {
     Char(char, bool),
     Number(u32, bool),
     Empty(bool),
+    /// That a copy equals it.
+    Copied,
 }
 
 impl Expected {
-    fn holds(&self, alloc: Global, set: &CodePointInversionList) -> Result<bool, AllocError> {
-        Ok(match *self {
+    fn holds(&self, alloc: Global, set: &CodePointInversionList) -> bool {
+        match *self {
             Expected::List(list) => set.get_inversion_list() == list,
             Expected::Size(size) => set.size() == size,
-            Expected::Ranges(ranges) => has_ranges(alloc, set, ranges)?,
-            Expected::Gaps(gaps) => has_gaps(alloc, set, gaps)?,
+            Expected::Ranges(ranges) => set.iter_ranges().eq(ranges.iter().copied()),
+            Expected::Gaps(gaps) => set.iter_ranges_complemented().eq(gaps.iter().copied()),
             Expected::Char(ch, is_member) => set.contains(ch) == is_member,
             Expected::Number(c, is_member) => set.contains32(c) == is_member,
             Expected::Empty(is_empty) => set.is_empty() == is_empty,
-        })
+            Expected::Copied => is_copied(alloc, set),
+        }
     }
 }
 
-fn has_ranges(
-    alloc: Global,
-    set: &CodePointInversionList,
-    expected: &[CodePointRange],
-) -> Result<bool, AllocError> {
-    let ranges: Vec<CodePointRange> = set.iter_ranges().collect(alloc)?;
-    Ok(ranges.as_slice() == expected)
-}
-
-fn has_gaps(
-    alloc: Global,
-    set: &CodePointInversionList,
-    expected: &[CodePointRange],
-) -> Result<bool, AllocError> {
-    let gaps: Vec<CodePointRange> = set.iter_ranges_complemented().collect(alloc)?;
-    Ok(gaps.as_slice() == expected)
+/// Whether a copy of the set equals it.
+fn is_copied(alloc: Global, set: &CodePointInversionList) -> bool {
+    let Ok(copy) = set.copy(alloc) else {
+        return false;
+    };
+    copy == *set
 }
 
 /// The index of the first row that does not hold.
-fn first_wrong(
-    alloc: Global,
-    set: &CodePointInversionList,
-    rows: &[Expected],
-) -> Result<Option<usize>, AllocError> {
+fn first_wrong(alloc: Global, set: &CodePointInversionList, rows: &[Expected]) -> Option<usize> {
     for (index, row) in rows.iter().enumerate() {
-        if !row.holds(alloc, set)? {
-            return Ok(Some(index));
+        if !row.holds(alloc, set) {
+            return Some(index);
         }
     }
-    Ok(None)
+    None
 }
 
 /// The index of the first row that does not hold of the list's set.
@@ -74,7 +63,7 @@ fn first_wrong_of(
     rows: &[Expected],
 ) -> Result<Option<usize>, InversionListError> {
     let set = CodePointInversionList::try_from_inversion_list(alloc, list)?;
-    Ok(first_wrong(alloc, &set, rows)?)
+    Ok(first_wrong(alloc, &set, rows))
 }
 
 const LETTERS: &[u32] = &[0x41, 0x5B, 0x61, 0x7B];
@@ -126,16 +115,10 @@ fn the_empty_list_gives_the_empty_set(rt: HostRuntime) {
     assert_equal(&rt, wrong, Ok(None));
 }
 
-/// Whether a copy of the list's set equals it.
-fn is_copied(alloc: Global, list: &[u32]) -> Option<bool> {
-    let set = CodePointInversionList::try_from_inversion_list(alloc, list).ok()?;
-    let copy = set.copy(alloc).ok()?;
-    Some(copy == set)
-}
-
 #[test]
 fn a_copy_equals_its_set(rt: HostRuntime) {
-    assert_equal(&rt, is_copied(rt.alloc(), LETTERS), Some(true));
+    let wrong = first_wrong_of(rt.alloc(), LETTERS, &[Expected::Copied]);
+    assert_equal(&rt, wrong, Ok(None));
 }
 
 /// Lists with a fault at index 1.
@@ -157,14 +140,14 @@ fn a_list_out_of_order_is_refused(rt: HostRuntime) {
 const OF_ALL: &[Expected] = &[Expected::List(&[0, 0x11_0000]), Expected::Size(1_114_112)];
 
 /// The index of the first row that does not hold of the set of all code points.
-fn first_wrong_of_all(alloc: Global) -> Option<Option<usize>> {
-    let all = CodePointInversionList::all(alloc).ok()?;
-    first_wrong(alloc, &all, OF_ALL).ok()
+fn first_wrong_of_all(alloc: Global) -> Result<Option<usize>, NoMemory> {
+    let all = CodePointInversionList::all(alloc)?;
+    Ok(first_wrong(alloc, &all, OF_ALL))
 }
 
 #[test]
 fn all_code_points_are_one_range(rt: HostRuntime) {
-    assert_equal(&rt, first_wrong_of_all(rt.alloc()), Some(None));
+    assert_equal(&rt, first_wrong_of_all(rt.alloc()), Ok(None));
 }
 
 // The laws are proved where they are declared; this calls each, so that none goes missing.

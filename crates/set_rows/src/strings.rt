@@ -1,19 +1,24 @@
 //! Sets of code points together with strings.
-use crate::fixtures::assert_equal;
+use crate::fixtures::{Operation, assert_equal};
 use cp_invlist::CodePointInversionList;
 use cp_strset::laws::{faultless, one_list};
 use cp_strset::{CodePointInversionListAndStringList, StringListError, Strings};
-use std::alloc::{AllocError, Global};
+use std::alloc::Global;
 
 /// The hyphen and the letters `a` to `c`, as an inversion list.
 const LETTERS: &[u32] = &[0x2D, 0x2E, 0x61, 0x64];
 
-fn strings(alloc: Global, texts: &[&str]) -> Result<Vec<String>, AllocError> {
+fn strings(alloc: Global, texts: &[&str]) -> Option<Vec<String>> {
     let mut strings = Vec::new(alloc);
     for text in texts {
-        strings.push(String::from_str(alloc, text)?)?;
+        let Ok(string) = String::from_str(alloc, text) else {
+            return None;
+        };
+        let Ok(()) = strings.push(string) else {
+            return None;
+        };
     }
-    Ok(strings)
+    Some(strings)
 }
 
 /// What becomes of the letters with these strings.
@@ -21,8 +26,12 @@ fn set_of(
     alloc: Global,
     texts: &[&str],
 ) -> Option<Result<CodePointInversionListAndStringList, StringListError>> {
-    let letters = CodePointInversionList::try_from_inversion_list(alloc, LETTERS).ok()?;
-    let strings = strings(alloc, texts).ok()?;
+    let Ok(letters) = CodePointInversionList::try_from_inversion_list(alloc, LETTERS) else {
+        return None;
+    };
+    let Some(strings) = strings(alloc, texts) else {
+        return None;
+    };
     Some(CodePointInversionListAndStringList::try_from(letters, strings))
 }
 
@@ -38,10 +47,14 @@ enum Expected {
     CodePoints(&'static [u32]),
     /// How many strings it has.
     Strings(usize),
+    /// That a copy equals it.
+    Copied,
+    /// How it is written as a pattern.
+    Pattern(&'static str),
 }
 
 impl Expected {
-    fn holds(&self, set: &CodePointInversionListAndStringList) -> bool {
+    fn holds(&self, alloc: Global, set: &CodePointInversionListAndStringList) -> bool {
         match *self {
             Expected::Size(size) => set.size() == size,
             Expected::Text(text, is_member) => set.contains_str(text) == is_member,
@@ -50,8 +63,26 @@ impl Expected {
             Expected::Number(c, is_member) => set.contains32(c) == is_member,
             Expected::CodePoints(list) => set.code_points().get_inversion_list() == list,
             Expected::Strings(count) => set.strings().len() == count,
+            Expected::Copied => is_copied(alloc, set),
+            Expected::Pattern(pattern) => is_written(alloc, set, pattern),
         }
     }
+}
+
+/// Whether a copy of the set equals it.
+fn is_copied(alloc: Global, set: &CodePointInversionListAndStringList) -> bool {
+    let Ok(copy) = set.copy(alloc) else {
+        return false;
+    };
+    copy == *set
+}
+
+/// Whether the set is written so.
+fn is_written(alloc: Global, set: &CodePointInversionListAndStringList, expected: &str) -> bool {
+    let Ok(pattern) = set.to_pattern(alloc) else {
+        return false;
+    };
+    pattern.as_str() == expected
 }
 
 const OF_LETTERS: &[Expected] = &[
@@ -70,56 +101,46 @@ const OF_LETTERS: &[Expected] = &[
 ];
 
 /// The index of the first row that does not hold.
-fn first_wrong(set: &CodePointInversionListAndStringList) -> Option<usize> {
-    for (index, row) in OF_LETTERS.iter().enumerate() {
-        if !row.holds(set) {
+fn first_wrong(
+    alloc: Global,
+    set: &CodePointInversionListAndStringList,
+    rows: &[Expected],
+) -> Option<usize> {
+    for (index, row) in rows.iter().enumerate() {
+        if !row.holds(alloc, set) {
             return Some(index);
         }
     }
     None
 }
 
-/// The letters with two strings.
-fn two_strings(alloc: Global) -> Option<CodePointInversionListAndStringList> {
-    set_of(alloc, &["", "ab"])?.ok()
-}
-
 /// The index of the first row that does not hold of the letters with two strings.
-fn first_wrong_of_two_strings(alloc: Global) -> Option<Option<usize>> {
-    let set = two_strings(alloc)?;
-    Some(first_wrong(&set))
+fn first_wrong_of_two_strings(alloc: Global, rows: &[Expected]) -> Option<Option<usize>> {
+    let Some(Ok(set)) = set_of(alloc, &["", "ab"]) else {
+        return None;
+    };
+    Some(first_wrong(alloc, &set, rows))
 }
 
 #[test]
 fn a_set_holds_code_points_and_strings(rt: HostRuntime) {
-    assert_equal(&rt, first_wrong_of_two_strings(rt.alloc()), Some(None));
-}
-
-/// Whether a copy of the set equals it.
-fn is_copied(alloc: Global) -> Option<bool> {
-    let set = two_strings(alloc)?;
-    let copy = set.copy(alloc).ok()?;
-    Some(copy == set)
+    let wrong = first_wrong_of_two_strings(rt.alloc(), OF_LETTERS);
+    assert_equal(&rt, wrong, Some(None));
 }
 
 #[test]
 fn a_copy_equals_its_set(rt: HostRuntime) {
-    assert_equal(&rt, is_copied(rt.alloc()), Some(true));
+    let wrong = first_wrong_of_two_strings(rt.alloc(), &[Expected::Copied]);
+    assert_equal(&rt, wrong, Some(None));
 }
 
 /// The set as a pattern.
 const PATTERN: &str = "[\\u{2d}\\u{61}-\\u{63}{}{\\u{61}\\u{62}}]";
 
-/// Whether the set is written so.
-fn is_written(alloc: Global) -> Option<bool> {
-    let set = two_strings(alloc)?;
-    let pattern = set.to_pattern(alloc).ok()?;
-    Some(pattern.as_str() == PATTERN)
-}
-
 #[test]
 fn a_set_is_written_as_a_pattern(rt: HostRuntime) {
-    assert_equal(&rt, is_written(rt.alloc()), Some(true));
+    let wrong = first_wrong_of_two_strings(rt.alloc(), &[Expected::Pattern(PATTERN)]);
+    assert_equal(&rt, wrong, Some(None));
 }
 
 /// Lists of strings, and why they are refused.
@@ -141,63 +162,103 @@ fn the_first_faulty_string_is_named(rt: HostRuntime) {
     }
 }
 
-/// What is done to strings with those that are given.
+/// What strings are combined with.
 #[derive(Clone, Copy)]
 enum Change {
-    Append,
-    RemoveAll,
-    KeepOnly,
-    InsertCopies,
-    RemoveListed,
-    KeepListed,
+    /// With a list in the making.
+    Gathered(Operation),
+    /// With the strings of a set.
+    Listed(Operation),
 }
 
 /// What each makes of the empty string, `ab` and `cd`, where `ab` and `ef` are given.
 const CHANGES: &[(Change, &[&str])] = &[
-    (Change::Append, &["", "ab", "cd", "ef"]),
-    (Change::RemoveAll, &["", "cd"]),
-    (Change::KeepOnly, &["ab"]),
-    (Change::InsertCopies, &["", "ab", "cd", "ef"]),
-    (Change::RemoveListed, &["", "cd"]),
-    (Change::KeepListed, &["ab"]),
+    (Change::Gathered(Operation::Add), &["", "ab", "cd", "ef"]),
+    (Change::Gathered(Operation::Remove), &["", "cd"]),
+    (Change::Gathered(Operation::Retain), &["ab"]),
+    (Change::Listed(Operation::Add), &["", "ab", "cd", "ef"]),
+    (Change::Listed(Operation::Remove), &["", "cd"]),
+    (Change::Listed(Operation::Retain), &["ab"]),
 ];
 
 /// The strings of a list in the making.
 fn gathered(alloc: Global, texts: &[&str]) -> Option<Strings> {
-    let set = set_of(alloc, texts)?.ok()?;
+    let Some(Ok(set)) = set_of(alloc, texts) else {
+        return None;
+    };
     let mut gathered = Strings::new(alloc);
-    gathered.insert_copies(alloc, &set).ok()?;
+    let Ok(()) = gathered.insert_copies(alloc, &set) else {
+        return None;
+    };
     Some(gathered)
 }
 
-/// What the change makes of the empty string, `ab` and `cd`.
-fn changed(alloc: Global, change: Change) -> Option<Strings> {
-    let set = set_of(alloc, &["ab", "ef"])?.ok()?;
-    let given = gathered(alloc, &["ab", "ef"])?;
-    let mut strings = gathered(alloc, &["", "ab", "cd"])?;
-    match change {
-        Change::Append => strings.append(given).ok()?,
-        Change::RemoveAll => strings.remove_all(given),
-        Change::KeepOnly => strings.keep_only(given),
-        Change::InsertCopies => strings.insert_copies(alloc, &set).ok()?,
-        Change::RemoveListed => strings.remove_listed(&set),
-        Change::KeepListed => strings.keep_listed(&set),
+/// The strings that are given.
+const GIVEN: &[&str] = &["ab", "ef"];
+
+/// Combines the strings with a list in the making, and tells whether memory was left.
+fn combine_with_gathered(operation: Operation, alloc: Global, strings: &mut Strings) -> bool {
+    let Some(given) = gathered(alloc, GIVEN) else {
+        return false;
+    };
+    match operation {
+        Operation::Add => return strings.append(given).is_ok(),
+        Operation::Remove => strings.remove_all(given),
+        Operation::Retain => strings.keep_only(given),
     }
-    Some(strings)
+    true
 }
 
-/// Whether the set of the letters and of the changed strings is that of the letters and these strings.
-fn is_changed(alloc: Global, change: Change, expected: &[&str]) -> Option<bool> {
-    let letters = CodePointInversionList::try_from_inversion_list(alloc, LETTERS).ok()?;
-    let set = changed(alloc, change)?.into_set(alloc, letters).ok()?;
-    let expected = set_of(alloc, expected)?.ok()?;
-    Some(set == expected)
+/// Combines the strings with those of a set, and tells whether memory was left.
+fn combine_with_listed(operation: Operation, alloc: Global, strings: &mut Strings) -> bool {
+    let Some(Ok(given)) = set_of(alloc, GIVEN) else {
+        return false;
+    };
+    match operation {
+        Operation::Add => return strings.insert_copies(alloc, &given).is_ok(),
+        Operation::Remove => strings.remove_listed(&given),
+        Operation::Retain => strings.keep_listed(&given),
+    }
+    true
+}
+
+/// Changes the strings, and tells whether memory was left.
+fn change_strings(change: Change, alloc: Global, strings: &mut Strings) -> bool {
+    match change {
+        Change::Gathered(operation) => combine_with_gathered(operation, alloc, strings),
+        Change::Listed(operation) => combine_with_listed(operation, alloc, strings),
+    }
+}
+
+/// The letters with what the change makes of the empty string, `ab` and `cd`.
+fn changed(alloc: Global, change: Change) -> Option<CodePointInversionListAndStringList> {
+    let Some(mut strings) = gathered(alloc, &["", "ab", "cd"]) else {
+        return None;
+    };
+    if !change_strings(change, alloc, &mut strings) {
+        return None;
+    }
+    let Ok(letters) = CodePointInversionList::try_from_inversion_list(alloc, LETTERS) else {
+        return None;
+    };
+    strings.into_set(alloc, letters).ok()
+}
+
+/// Whether memory is left, and the set of the letters and of the changed strings is that of the letters and these strings.
+fn is_changed(alloc: Global, change: Change, expected: &[&str]) -> bool {
+    let Some(Ok(expected)) = set_of(alloc, expected) else {
+        return false;
+    };
+    let Some(set) = changed(alloc, change) else {
+        return false;
+    };
+    set == expected
 }
 
 #[test]
 fn strings_are_gathered(rt: HostRuntime) {
     for (change, expected) in CHANGES {
-        assert_equal(&rt, is_changed(rt.alloc(), *change, expected), Some(true));
+        assert_equal(&rt, is_changed(rt.alloc(), *change, expected), true);
     }
 }
 
