@@ -41,7 +41,7 @@ fn shown_kind(alloc: Global, kind: TableErrorKind) -> Result<String, AllocError>
 fn kinds_show_their_names(rt: HostRuntime) {
     for (kind, name) in KINDS {
         let shows = is_text(shown_kind(rt.alloc(), *kind), name);
-        assert!(rt; shows && kind.name() == *name, "{name}");
+        assert_equal(&rt, (kind.name(), shows), (*name, true));
     }
 }
 

@@ -1,5 +1,8 @@
 //! A table text with tables of every kind, and what a table text is refused with.
-use prop_data::{LoadError, MapTable, PropertyDatabase, TableError, TableErrorKind};
+use prop_data::{
+    LoadError, MapTable, PropertyDatabase, PropertyEnumToValueNameLookup, TableError,
+    TableErrorKind,
+};
 use std::alloc::Global;
 use std::fmt;
 use std::process::Abort;
@@ -52,7 +55,7 @@ pub(crate) fn assert_fault(
     text: &str,
     expected: Option<LoadError>,
 ) {
-    assert_eq!(rt; fault_of(alloc, text), expected, "at {text}");
+    assert_equal(rt, (text, fault_of(alloc, text)), (text, expected));
 }
 
 /// Asserts that each text has its fault.
@@ -81,6 +84,30 @@ pub(crate) fn table_of(map: Map) -> MapTable {
         Map::Block => MapTable::BLOCK,
         Map::Glyph => MapTable::BIDI_MIRRORING_GLYPH,
     }
+}
+
+/// The name of the number, if there is a table that has one.
+pub(crate) fn name_in<L: PropertyEnumToValueNameLookup>(
+    table: Option<&L>,
+    number: u32,
+) -> Option<&str> {
+    table?.get(number)
+}
+
+/// Whether the number has the name in a copy of the table.
+pub(crate) fn is_named_in_copy<L: PropertyEnumToValueNameLookup + Drop>(
+    alloc: Global,
+    table: Option<&L>,
+    number: u32,
+    name: &str,
+) -> bool {
+    let Some(table) = table else {
+        return false;
+    };
+    let Ok(copy) = table.copy(alloc) else {
+        return false;
+    };
+    copy.get(number) == Some(name)
 }
 
 /// A question to a database, with the answer that is expected.
@@ -112,5 +139,6 @@ fn first_wrong_of<R: Row>(
 
 /// Asserts that each row holds of the text's database. A failure tells the index of the first that does not.
 pub(crate) fn assert_rows<R: Row>(rt: &impl Abort, alloc: Global, text: &str, rows: &[R]) {
-    assert_eq!(rt; first_wrong_of(alloc, text, rows), Ok(None), "at {text}");
+    let wrong = first_wrong_of(alloc, text, rows);
+    assert_equal(rt, (text, wrong), (text, Ok(None)));
 }

@@ -1,4 +1,5 @@
 //! Lines of a text, the fields of a line, and numbers as fields spell them.
+use crate::fixtures::assert_equal;
 use text_lines::{before_comment, decimal_number, hex, split_behind, split_field, split_line};
 
 /// Texts, their first lines and what stands behind these.
@@ -19,7 +20,7 @@ const LINES: &[(&str, Option<(&str, &str)>)] = &[
 #[test]
 fn the_first_line_is_split(rt: HostRuntime) {
     for (text, parts) in LINES {
-        assert!(rt; split_line(text) == *parts, "at {text}");
+        assert_equal(&rt, (*text, split_line(text)), (*text, *parts));
     }
 }
 
@@ -37,7 +38,7 @@ const FIELDS: &[(&[u8], Option<(&[u8], &[u8])>)] = &[
 #[test]
 fn fields_are_split(rt: HostRuntime) {
     for (line, parts) in FIELDS {
-        assert!(rt; split_field(line) == *parts, "at {line:?}");
+        assert_equal(&rt, (*line, split_field(line)), (*line, *parts));
     }
 }
 
@@ -53,7 +54,7 @@ const COMMENTS: &[(&[u8], &[u8])] = &[
 #[test]
 fn a_comment_is_left_out(rt: HostRuntime) {
     for (line, rest) in COMMENTS {
-        assert!(rt; before_comment(line) == *rest, "at {line:?}");
+        assert_equal(&rt, (*line, before_comment(line)), (*line, *rest));
     }
 }
 
@@ -71,7 +72,7 @@ const PARTS: &[(&str, (&str, &str))] = &[
 #[test]
 fn a_text_is_cut_behind_a_word(rt: HostRuntime) {
     for (text, parts) in PARTS {
-        assert!(rt; split_behind(text, b"end") == *parts, "at {text}");
+        assert_equal(&rt, (*text, split_behind(text, b"end")), (*text, *parts));
     }
 }
 
@@ -94,9 +95,7 @@ const NUMBERS: &[(&[u8], Option<u32>, Option<u64>)] = &[
 #[test]
 fn digits_spell_numbers(rt: HostRuntime) {
     for (digits, hexadecimal, decimal) in NUMBERS {
-        assert!(rt;
-            hex(digits) == *hexadecimal && decimal_number(digits) == *decimal,
-            "at {digits:?}"
-        );
+        let numbers = (*digits, hex(digits), decimal_number(digits));
+        assert_equal(&rt, numbers, (*digits, *hexadecimal, *decimal));
     }
 }

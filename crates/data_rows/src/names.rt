@@ -1,7 +1,7 @@
 //! The tables of the names of a property's values, by the property's type.
-use crate::fixtures::{Row, assert_rows};
+use crate::fixtures::{Row, assert_rows, is_named_in_copy, name_in};
 use cp_trie::TrieValue;
-use prop_data::{NamedEnumeratedProperty, PropertyDatabase, PropertyEnumToValueNameLookup};
+use prop_data::{NamedEnumeratedProperty, PropertyDatabase};
 use prop_values::{BidiClass, CanonicalCombiningClass, GeneralCategory, Script};
 use std::alloc::Global;
 
@@ -12,33 +12,6 @@ const NAMES: &str = "long Script\n17 Han\n25 Latin\nshort Script\n17 hani\n25 LA
     long General_Category\n1 Uppercase_Letter\n2 Lowercase_Letter\n\
     short General_Category\n1 Lu\n2 Ll\n\
     long Bidi_Class\n0 Left_To_Right\n5 Arabic_Number\nshort Bidi_Class\n0 L\n5 AN\nend";
-
-/// The name in the table of long names, if there is one.
-fn long_name<'a, T: NamedEnumeratedProperty + 'a>(
-    database: &'a PropertyDatabase,
-    value: T,
-) -> Option<&'a str> {
-    T::long_table(database)?.get(value.to_u32())
-}
-
-/// The name in the table of short names, if there is one.
-fn short_name<'a, T: NamedEnumeratedProperty + 'a>(
-    database: &'a PropertyDatabase,
-    value: T,
-) -> Option<&'a str> {
-    T::short_table(database)?.get(value.to_u32())
-}
-
-/// Whether the value has the name in a copy of the table of long names.
-fn copied_name<T: NamedEnumeratedProperty>(
-    alloc: Global,
-    database: &PropertyDatabase,
-    value: T,
-    name: &str,
-) -> Option<bool> {
-    let copy = T::long_table(database)?.copy(alloc).ok()?;
-    Some(copy.get(value.to_u32()) == Some(name))
-}
 
 /// Whether the tables of long and of short names are there.
 fn are_there<T: NamedEnumeratedProperty>(
@@ -68,7 +41,9 @@ fn is_named<T: NamedEnumeratedProperty + Copy>(
     long: Option<&str>,
     short: Option<&str>,
 ) -> bool {
-    long_name(database, value) == long && short_name(database, value) == short
+    let number = value.to_u32();
+    name_in(T::long_table(database), number) == long
+        && name_in(T::short_table(database), number) == short
 }
 
 impl Row for Named {
@@ -118,10 +93,12 @@ impl Row for Copied {
     fn holds(&self, database: &PropertyDatabase) -> bool {
         match *self {
             Copied::Class(alloc, value, name) => {
-                copied_name(alloc, database, value, name) == Some(true)
+                let table = CanonicalCombiningClass::long_table(database);
+                is_named_in_copy(alloc, table, value.to_u32(), name)
             }
             Copied::Script(alloc, value, name) => {
-                copied_name(alloc, database, value, name) == Some(true)
+                let table = Script::long_table(database);
+                is_named_in_copy(alloc, table, value.to_u32(), name)
             }
         }
     }

@@ -14,34 +14,45 @@ fn text_and_folding(alloc: Global, name: &[u8]) -> Option<(String, String)>
     if !name.is_ascii() {
         return None;
     }
-    let text = ascii_text(alloc, name).ok()?;
-    let folding = stored_folding(alloc, name).ok()?;
+    let Ok(text) = ascii_text(alloc, name) else {
+        return None;
+    };
+    let Ok(folding) = stored_folding(alloc, name) else {
+        return None;
+    };
     Some((text, folding))
 }
 
-/// Adds a name of ASCII whose folding has no other value, if memory is left for it.
-fn insert(alloc: Global, builder: &mut NamesBuilder, name: &[u8], value: u16) -> Option<()> {
-    let (text, folding) = text_and_folding(alloc, name)?;
-    if builder
-        .value_of_folding(&folding)
-        .is_some_and(|other| other != value)
-    {
-        return None;
+/// Adds a name of ASCII. The answer is whether memory was left for it, and its folding has no other value.
+fn insert(alloc: Global, builder: &mut NamesBuilder, name: &[u8], value: u16) -> bool {
+    let Some((text, folding)) = text_and_folding(alloc, name) else {
+        return false;
+    };
+    match builder.value_of_folding(&folding) {
+        Some(other) if other != value => false,
+        _ => builder.insert(text, folding, value).is_ok(),
     }
-    builder.insert(text, folding, value).ok()
 }
 
-/// Adds three names, of which two have one value.
-fn insert_scripts(alloc: Global, builder: &mut NamesBuilder) -> Option<()> {
-    insert(alloc, builder, b"Old_Italic", 30)?;
-    insert(alloc, builder, b"Latn", 25)?;
-    insert(alloc, builder, b"Ital", 30)
+/// Three names, of which two have one value.
+const SCRIPTS: &[(&[u8], u16)] = &[(b"Old_Italic", 30), (b"Latn", 25), (b"Ital", 30)];
+
+/// Adds the three names.
+fn insert_scripts(alloc: Global, builder: &mut NamesBuilder) -> bool {
+    for (name, value) in SCRIPTS {
+        if !insert(alloc, builder, name, *value) {
+            return false;
+        }
+    }
+    true
 }
 
 /// The table of these names.
 fn scripts(alloc: Global) -> Option<PropertyValueNameToEnumMap> {
     let mut builder = NamesBuilder::new(alloc);
-    insert_scripts(alloc, &mut builder)?;
+    if !insert_scripts(alloc, &mut builder) {
+        return None;
+    }
     builder.build(alloc).ok()
 }
 
@@ -89,32 +100,39 @@ const FOLDINGS: &[(&str, &str)] = &[
 ];
 
 /// Whether the text of the name is the name, and its folding is this.
-fn folds_to(alloc: Global, name: &str, expected: &str) -> Option<bool> {
-    let (text, folding) = text_and_folding(alloc, name.as_bytes())?;
-    Some(text.as_str() == name && folding.as_str() == expected)
+fn folds_to(alloc: Global, name: &str, expected: &str) -> bool {
+    match text_and_folding(alloc, name.as_bytes()) {
+        Some((text, folding)) => text.as_str() == name && folding.as_str() == expected,
+        None => false,
+    }
 }
 
 #[test]
 fn a_name_is_folded_without_low_lines_in_lower_case(rt: HostRuntime) {
     for (name, expected) in FOLDINGS {
         let folds = folds_to(rt.alloc(), name, expected);
-        assert_equal(&rt, (*name, folds), (*name, Some(true)));
+        assert_equal(&rt, (*name, folds), (*name, true));
     }
 }
 
+/// The values of three foldings.
+type Values = (Option<u16>, Option<u16>, Option<u16>);
+
 /// The values of three foldings, of which the first is that of `La_tn`, whose value is 25.
-fn values_of_foldings(alloc: Global) -> Option<[Option<u16>; 3]> {
+fn values_of_foldings(alloc: Global) -> Option<Values> {
     let mut builder = NamesBuilder::new(alloc);
-    insert(alloc, &mut builder, b"La_tn", 25)?;
-    Some([
+    if !insert(alloc, &mut builder, b"La_tn", 25) {
+        return None;
+    }
+    Some((
         builder.value_of_folding("latn"),
         builder.value_of_folding("la_tn"),
         builder.value_of_folding("lat"),
-    ])
+    ))
 }
 
 #[test]
 fn a_folding_has_the_value_of_its_names(rt: HostRuntime) {
     let values = values_of_foldings(rt.alloc());
-    assert_equal(&rt, values, Some([Some(25), None, None]));
+    assert_equal(&rt, values, Some((Some(25), None, None)));
 }

@@ -32,15 +32,21 @@ fn finds(
     names.get_strict_u16(name) == by_spelling && names.get_loose_u16(name) == by_folding
 }
 
-/// The numbers that a copy of the names of scripts has by a spelling and by a folding.
-fn copied(
+/// Whether a copy of the names of scripts has the number by a spelling and by a folding.
+fn finds_in_copy(
     alloc: Global,
     database: &PropertyDatabase,
     spelling: &[u8],
     folding: &[u8],
-) -> Option<(Option<u16>, Option<u16>)> {
-    let copy = database.names(NamesTable::SCRIPT)?.copy(alloc).ok()?;
-    Some((copy.get_strict_u16(spelling), copy.get_loose_u16(folding)))
+    number: u16,
+) -> bool {
+    let Some(names) = database.names(NamesTable::SCRIPT) else {
+        return false;
+    };
+    let Ok(copy) = names.copy(alloc) else {
+        return false;
+    };
+    copy.get_strict_u16(spelling) == Some(number) && copy.get_loose_u16(folding) == Some(number)
 }
 
 impl Row for Expected {
@@ -59,8 +65,7 @@ impl Row for Expected {
             }
             Expected::NoBlocks => database.names(NamesTable::BLOCK).is_none(),
             Expected::Copied(alloc, spelling, folding, number) => {
-                let found = copied(alloc, database, spelling, folding);
-                found == Some((Some(number), Some(number)))
+                finds_in_copy(alloc, database, spelling, folding, number)
             }
         }
     }

@@ -34,23 +34,29 @@ fn have_numbers(scripts: Option<&[Script]>, numbers: &[u16]) -> bool {
     let Some(scripts) = scripts else {
         return false;
     };
+    for (script, number) in scripts.iter().zip(numbers) {
+        if script.to_icu4c_value() != *number {
+            return false;
+        }
+    }
     scripts.len() == numbers.len()
-        && scripts
-            .iter()
-            .zip(numbers)
-            .all(|(script, number)| script.to_icu4c_value() == *number)
 }
 
-/// The number of a code point in a copy of the scripts, and whether the list at 0 has these numbers there.
-fn copied(
+/// Whether a copy of the scripts has this number at the code point, and in its list at 0 these numbers.
+fn has_copied(
     alloc: Global,
     database: &PropertyDatabase,
     code_point: u32,
+    number: u16,
     numbers: &[u16],
-) -> Option<(u16, bool)> {
-    let copy = database.scripts()?.copy(alloc).ok()?;
-    let number = copy.script_trie().get32(code_point).0;
-    Some((number, have_numbers(copy.extensions(0), numbers)))
+) -> bool {
+    let Some(scripts) = database.scripts() else {
+        return false;
+    };
+    let Ok(copy) = scripts.copy(alloc) else {
+        return false;
+    };
+    copy.script_trie().get32(code_point).0 == number && have_numbers(copy.extensions(0), numbers)
 }
 
 impl Row for Expected {
@@ -63,7 +69,7 @@ impl Row for Expected {
             Expected::NoList(index) => list(database, index).is_none(),
             Expected::Absent => database.scripts().is_none(),
             Expected::Copied(alloc, code_point, expected, numbers) => {
-                copied(alloc, database, code_point, numbers) == Some((expected, true))
+                has_copied(alloc, database, code_point, expected, numbers)
             }
         }
     }

@@ -1,6 +1,7 @@
 //! Tables of long and short names: names by their values.
 use crate::fixtures::{
-    EVERY_KIND, Faulty, Map, Row, assert_equal, assert_faults, assert_rows, table_of,
+    EVERY_KIND, Faulty, Map, Row, assert_equal, assert_faults, assert_rows, is_named_in_copy,
+    name_in, table_of,
 };
 use cp_invlist::NoMemory;
 use prop_data::{
@@ -40,11 +41,11 @@ enum Expected {
 /// The name of the value.
 fn name_of(database: &PropertyDatabase, table: Table, number: u32) -> Option<&str> {
     match table {
-        Table::Long(map) => database.long_linear(table_of(map))?.get(number),
-        Table::Short(map) => database.short_linear(table_of(map))?.get(number),
-        Table::LongClasses => database.long_ccc()?.get(number),
-        Table::ShortClasses => database.short_ccc()?.get(number),
-        Table::Subtags => database.short_script()?.get(number),
+        Table::Long(map) => name_in(database.long_linear(table_of(map)), number),
+        Table::Short(map) => name_in(database.short_linear(table_of(map)), number),
+        Table::LongClasses => name_in(database.long_ccc(), number),
+        Table::ShortClasses => name_in(database.short_ccc(), number),
+        Table::Subtags => name_in(database.short_script(), number),
     }
 }
 
@@ -70,39 +71,6 @@ fn has_subtag(database: &PropertyDatabase, number: u32, expected: Option<&str>) 
     }
 }
 
-/// Whether the value has the name in a copy of the names of scripts.
-fn copied_script(
-    alloc: Global,
-    database: &PropertyDatabase,
-    number: u32,
-    name: &str,
-) -> Option<bool> {
-    let copy = database.long_linear(MapTable::SCRIPT)?.copy(alloc).ok()?;
-    Some(copy.get(number) == Some(name))
-}
-
-/// Whether the value has the name in a copy of the names of classes.
-fn copied_class(
-    alloc: Global,
-    database: &PropertyDatabase,
-    number: u32,
-    name: &str,
-) -> Option<bool> {
-    let copy = database.long_ccc()?.copy(alloc).ok()?;
-    Some(copy.get(number) == Some(name))
-}
-
-/// Whether the value has the name in a copy of the subtags.
-fn copied_subtag(
-    alloc: Global,
-    database: &PropertyDatabase,
-    number: u32,
-    name: &str,
-) -> Option<bool> {
-    let copy = database.short_script()?.copy(alloc).ok()?;
-    Some(copy.get(number) == Some(name))
-}
-
 impl Row for Expected {
     fn holds(&self, database: &PropertyDatabase) -> bool {
         match *self {
@@ -111,13 +79,14 @@ impl Row for Expected {
             Expected::Kept(table, is_there) => has_table(database, table) == is_there,
             Expected::Subtag(number, expected) => has_subtag(database, number, expected),
             Expected::CopiedScript(alloc, number, name) => {
-                copied_script(alloc, database, number, name) == Some(true)
+                let table = database.long_linear(MapTable::SCRIPT);
+                is_named_in_copy(alloc, table, number, name)
             }
             Expected::CopiedClass(alloc, number, name) => {
-                copied_class(alloc, database, number, name) == Some(true)
+                is_named_in_copy(alloc, database.long_ccc(), number, name)
             }
             Expected::CopiedSubtag(alloc, number, name) => {
-                copied_subtag(alloc, database, number, name) == Some(true)
+                is_named_in_copy(alloc, database.short_script(), number, name)
             }
         }
     }
