@@ -14,7 +14,7 @@ use Rattle.std.specs.Cmp.Lexicographic.{slice_cmp}
 use Rattle.std.specs.Global.{Global}
 use Rattle.std.specs.List.{AllPairs, AllWithin, slice_get}
 use Rattle.std.specs.List.Sorted.{IsPartitionedBy}
-use Rattle.std.specs.Ordering.{is_lt, is_le, is_eq, ordering_index, ordering_reverse}
+use Rattle.std.specs.Ordering.{is_lt, is_le, is_eq, ordering_index, ordering_reverse, is_ge}
 use Rattle.std.specs.Str.{bytes_eq}
 use Rattle.std.specs.String.{string_bytes}
 use Rattle.cp_strset.specs.StringList.{holds}
@@ -154,3 +154,9 @@ holds-front (s ∷ strings) string text ascending behind front =
           ap₂ ◌||◌ other (first_or_none s strings text ascending (All-head (λ x. is_lt (slice_cmp nat_cmp (string_bytes x) text) ≡ false) s strings behind) (ap (λ x. bytes_eq (string_bytes x) text) same ∙ other))
           ∙ sym other
     ]
+
+-- what is not before is not below
+pub not_below_from_ge : (o : Ordering) → true ≡ is_ge o → is_lt o ≡ false
+not_below_from_ge Less is = cc
+not_below_from_ge Equal is = refl
+not_below_from_ge Greater is = refl

@@ -8,3 +8,4 @@ pub mod CandidatesLemmas
 pub mod NumbersLemmas
 pub mod NarrowedLemmas
 pub mod NumberSetLemmas
+pub mod PushedLemmas

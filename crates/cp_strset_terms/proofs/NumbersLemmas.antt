@@ -1,10 +1,11 @@
 -- Strings with numbers.
-use Rattle.std.proofs.Common.{◌≡◌, ◌≢◌, ◌<◌, ◌≤◌, ◌||◌, ℕ, zero, suc, true, false, ◌==◌, Option, Some, OnOk, Result, Ok, Err, List, [], ◌∷◌, ◌++◌, length, map, refl, sym, subst, ap, ap₂, ◌∙◌, arith, nat_cmp, inl, inr}
-use Rattle.std.specs.Prelude.{cond}
+use Rattle.std.proofs.Common.{◌≡◌, ◌≢◌, ◌<◌, ◌≤◌, ◌||◌, ℕ, zero, suc, true, false, ◌==◌, Option, Some, OnOk, OnErr, Result, Ok, Err, List, [], ◌∷◌, ◌++◌, ◌-◌, length, map, take, refl, sym, subst, ap, ap₂, ◌∙◌, arith, nat_cmp, inl, inr}
+use Rattle.std.specs.Prelude.{cond, ◌↔◌}
 use Rattle.std.proofs.Math.Bool.{or-true, or-false}
+use Rattle.std.proofs.Math.Seq.{take-append_seam}
 use Rattle.std.proofs.lemmas.Bool.{cases_Bool, cases_lt, cond-true, cond-false, false_from_ne_true}
 use Rattle.std.proofs.lemmas.Bool.Decides.{eqb_tells}
-use Rattle.std.proofs.lemmas.List.{length-append, length-map, map-append}
+use Rattle.std.proofs.lemmas.List.{append-nil, length-append, length-map, map-append}
 use Rattle.std.proofs.lemmas.List.Elements.{All-append, All-cons, All-nil}
 use Rattle.std.proofs.lemmas.List.Folds.{list_any-append}
 use Rattle.std.proofs.lemmas.Map.Text.{btree_map_updates_text}
@@ -203,3 +204,34 @@ added texts pushed copy key text old new number h absent one is copied keyed las
 pub without_error : {T E : Type 0} (r : Result T E) (P : Type 0) → is_err r ≡ false → OnOk r P → P
 without_error (Ok x) P none h = h
 without_error (Err e) P none h = cc
+
+-- what is the same has grown by nothing
+pub grows_same : (old new : List (List ℕ)) → new ≡ old → Grows old new
+grows_same old new is = record {
+  more = [];
+  is = is ∙ sym (append-nil old);
+}
+
+-- and keeps its numbers
+pub keeps_same : (old new : List (List ℕ)) → new ≡ old → KeepsNumbers old new
+keeps_same old new is = λ strings numbers are. subst (λ all. AreNumbersOf all strings numbers) (sym is) are
+
+-- what holds on an error holds where there is one
+pub with_error : {T E : Type 0} (r : Result T E) (P : Type 0) → is_err r ≡ true → OnErr r P → P
+with_error (Ok x) P some h = cc
+with_error (Err e) P some h = h
+
+-- what is put down and taken back leaves the list as it was
+pub popped_pushed : {X : Type 0} → (old pushed popped : List X) (x : X) (n : ℕ) → n ≡ length pushed → pushed ≡ old ++ x ∷ [] → popped ≡ take (n - 1) pushed → popped ≡ old
+popped_pushed old pushed popped x n sized is taken =
+    let one : n - 1 ≡ length old = omega (arith, sized, ap length is, length-append old (x ∷ [])) in
+    taken ∙ (ap (λ k. take k pushed) one ∙ (ap (take (length old)) is ∙ take-append_seam old (x ∷ [])))
+
+-- what is found depends on the entries alone
+pub indexed_same : (all : List (List ℕ)) (old new : BTreeMap (String Global) ℕ) → new.entries ≡ old.entries → AreIndexed all old → AreIndexed all new
+indexed_same all old new is indexed = record {
+  found = λ bytes number.
+      let same : get_by_text new bytes ≡ get_by_text old bytes = cc in
+      subst (λ found. (found ≡ Some number) ↔ IsAt all number bytes) (sym same) (indexed.found bytes number);
+  none_of_one = indexed.none_of_one;
+}

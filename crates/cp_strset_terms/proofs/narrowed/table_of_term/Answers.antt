@@ -1,4 +1,6 @@
-use Rattle.std.proofs.Common.{sym, subst, ap, ◌∙◌, inl, inr}
+use Rattle.std.proofs.Common.{◌≢◌, All, length, sym, subst, ap, ◌∙◌, inl, inr}
+use Rattle.std.proofs.lemmas.Result.{IfOk-weaker, IfOk-from_err}
+use Rattle.std.specs.Str.{chars}
 use Rattle.std.proofs.lemmas.Bool.{cases_Bool}
 use Rattle.std.specs.List.{flat_map}
 use Rattle.cp_strset.specs.StringList.{holds}
@@ -22,3 +24,24 @@ returns c =
             ∙ c.in_ok-unnumbered.ensures all text c.requires.candidates unknown held))
       ];
     }
+
+pub returns-then-not-are_worth-clause-canonical : goal.returns-then-not-are_worth-clause-canonical
+returns-then-not-are_worth-clause-canonical c = c.string_table.ensures.canonical
+
+pub returns-then-size-count_strings-clause-complete :
+    goal.returns-then-size-count_strings-clause-complete
+returns-then-size-count_strings-clause-complete c =
+    IfOk-weaker c.string_table-then-size-count_strings.result _ _ (λ table same text valued held. same text ∙ held) c.string_table-then-size-count_strings.ensures.complete
+
+pub returns-in_err-push_numbered-clause-complete :
+    goal.returns-in_err-push_numbered-clause-complete
+returns-in_err-push_numbered-clause-complete c = IfOk-from_err c.from_residual-in_err-push_numbered.result _ c.from_residual-in_err-push_numbered.ensures.0
+
+pub in_order-requires : goal.in_order-requires
+in_order-requires c =
+    c.in_ok-push_numbered.ensures.none_of_one (subst (All (λ s. length (chars s) ≢ 1)) (sym c.in_ok-table.ensures.strings) c.in_ok-table.ensures.none_of_one)
+    (subst (All (λ s. length (chars s) ≢ 1)) (sym c.texts.ensures.bytes) c.texts.ensures.none_of_one)
+
+pub returns-then-not-are_worth-clause-complete : goal.returns-then-not-are_worth-clause-complete
+returns-then-not-are_worth-clause-complete c =
+    IfOk-weaker c.string_table.result _ _ (λ table same text valued held. same text ∙ held) c.string_table.ensures.complete
