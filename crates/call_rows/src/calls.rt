@@ -1,5 +1,5 @@
 //! The four calls that read a source.
-use crate::fixtures::{NO_TABLES, Row, TABLES, assert_rows_of_text, is_set, is_shown};
+use crate::fixtures::{NO_TABLES, Row, TABLES, assert_rows_of_text, is_set, is_shown, string_of};
 use cp_strset::CodePointInversionListAndStringList;
 use prop_data::PropertyDatabase;
 use std::alloc::Global;
@@ -66,14 +66,18 @@ fn ask(
     }
 }
 
-/// A map in which `a` is the character and `v` the string `ab`.
-fn variables(alloc: Global) -> Option<VariableMap> {
-    let mut variables = VariableMap::new(alloc);
-    let a = String::from_str(alloc, "a").ok()?;
-    variables.insert_char(a, 'a').ok()?;
-    let v = String::from_str(alloc, "v").ok()?;
-    variables.insert_str(v, "ab").ok()?;
-    Some(variables)
+/// Binds `a` to the character and `v` to the string `ab`. The answer is whether memory was left.
+fn bind_names(alloc: Global, variables: &mut VariableMap) -> bool {
+    let Some(a) = string_of(alloc, "a") else {
+        return false;
+    };
+    let Ok(()) = variables.insert_char(a, 'a') else {
+        return false;
+    };
+    let Some(v) = string_of(alloc, "v") else {
+        return false;
+    };
+    variables.insert_str(v, "ab").is_ok()
 }
 
 /// The answer of the call where `a` and `v` are bound.
@@ -83,8 +87,19 @@ fn ask_bound(
     source: &str,
     database: &PropertyDatabase,
 ) -> Option<Answer> {
-    let variables = variables(alloc)?;
+    let mut variables = VariableMap::new(alloc);
+    if !bind_names(alloc, &mut variables) {
+        return None;
+    }
     Some(ask(alloc, call, source, &variables, database))
+}
+
+/// Whether the answer is so many bytes and the set of this inversion list and these strings.
+fn is_read(answer: Answer, length: usize, list: &[u32], texts: &[&str]) -> bool {
+    match answer {
+        Ok((set, bytes)) => bytes == length && is_set(&set, list, texts),
+        Err(_) => false,
+    }
 }
 
 /// A call, its source, and how many bytes of that it reads: as the hyphen, the letters `a` to `c`, the empty string and
@@ -95,10 +110,8 @@ impl Row<PropertyDatabase> for Read {
     fn holds(&self, alloc: Global, database: &PropertyDatabase) -> bool {
         let (call, source, length) = *self;
         match ask_bound(alloc, call, source, database) {
-            Some(Ok((set, bytes))) => {
-                bytes == length && is_set(&set, &[0x2D, 0x2E, 0x61, 0x64], &["", "ab"])
-            }
-            _ => false,
+            Some(answer) => is_read(answer, length, &[0x2D, 0x2E, 0x61, 0x64], &["", "ab"]),
+            None => false,
         }
     }
 }
@@ -123,9 +136,9 @@ impl Row<PropertyDatabase> for ReadByEach {
         let (source, length, list) = *self;
         let none = VariableMap::new(alloc);
         for call in CALLS {
-            match ask(alloc, *call, source, &none, database) {
-                Ok((set, bytes)) if bytes == length && is_set(&set, list, &[]) => {}
-                _ => return false,
+            let answer = ask(alloc, *call, source, &none, database);
+            if !is_read(answer, length, list, &[]) {
+                return false;
             }
         }
         true
@@ -144,15 +157,24 @@ type InTurn = &'static [ReadByEach];
 impl Row<PropertyDatabase> for InTurn {
     fn holds(&self, alloc: Global, database: &PropertyDatabase) -> bool {
         let none = VariableMap::new(alloc);
-        let mut resolver = Resolver::new(alloc, database);
-        for (source, length, list) in *self {
-            match parse_with_resolver(alloc, source, &none, &mut resolver) {
-                Ok((set, bytes)) if bytes == *length && is_set(&set, list, &[]) => {}
-                _ => return false,
-            }
-        }
-        true
+        are_read(alloc, &none, &mut Resolver::new(alloc, database), self)
     }
+}
+
+/// Whether the resolver reads each source as its row says.
+fn are_read(
+    alloc: Global,
+    none: &VariableMap,
+    resolver: &mut Resolver<'_>,
+    rows: &[ReadByEach],
+) -> bool {
+    for (source, length, list) in rows {
+        let answer = parse_with_resolver(alloc, source, none, resolver);
+        if !is_read(answer, *length, list, &[]) {
+            return false;
+        }
+    }
+    true
 }
 
 /// Properties of maps, which are asked for again in further patterns.
@@ -192,12 +214,17 @@ impl Row<PropertyDatabase> for ReadWhole {
         let none = VariableMap::new(alloc);
         let mut resolver = Resolver::new(alloc, database);
         let read = parse_whole_with_resolver(alloc, source, &none, &mut resolver);
-        match (read, expected) {
-            (Ok(WholeSource::Pattern(set)), Expected::Pattern(list)) => is_set(&set, list, &[]),
-            (Ok(WholeSource::TextBehind(bytes)), Expected::TextBehind(length)) => bytes == length,
-            (Err(error), Expected::Fault(kind)) => is_fault(Err(error), kind, None),
-            _ => false,
-        }
+        is_expected(read, expected)
+    }
+}
+
+/// Whether the source is what is expected.
+fn is_expected(read: Result<WholeSource, ParseError>, expected: Expected) -> bool {
+    match (read, expected) {
+        (Ok(WholeSource::Pattern(set)), Expected::Pattern(list)) => is_set(&set, list, &[]),
+        (Ok(WholeSource::TextBehind(bytes)), Expected::TextBehind(length)) => bytes == length,
+        (Err(error), Expected::Fault(kind)) => is_fault(Err(error), kind, None),
+        _ => false,
     }
 }
 
@@ -342,16 +369,25 @@ struct Whole(&'static str);
 
 impl Row<PropertyDatabase> for Whole {
     fn holds(&self, alloc: Global, database: &PropertyDatabase) -> bool {
-        let none = VariableMap::new(alloc);
-        let mut front = String::new(alloc);
-        for c in self.0.chars() {
-            let ends = is_fault_of_each(alloc, &front, ParseErrorKind::Eof, None, &none, database);
-            if !ends || front.push(c).is_err() {
-                return false;
-            }
-        }
-        true
+        ends_everywhere(alloc, self.0, &VariableMap::new(alloc), database)
     }
+}
+
+/// Whether each proper front of the source ends where more is due, without a place.
+fn ends_everywhere(
+    alloc: Global,
+    source: &str,
+    none: &VariableMap,
+    database: &PropertyDatabase,
+) -> bool {
+    let mut front = String::new(alloc);
+    for c in source.chars() {
+        let ends = is_fault_of_each(alloc, &front, ParseErrorKind::Eof, None, none, database);
+        if !ends || front.push(c).is_err() {
+            return false;
+        }
+    }
+    true
 }
 
 #[test]

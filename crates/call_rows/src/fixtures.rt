@@ -2,7 +2,7 @@
 use cp_invlist::CodePointInversionList;
 use cp_strset::CodePointInversionListAndStringList;
 use prop_data::{LoadError, PropertyDatabase};
-use std::alloc::{AllocError, Global};
+use std::alloc::Global;
 use std::fmt;
 use std::process::Abort;
 use uset_fault::ParseError;
@@ -64,11 +64,8 @@ pub(crate) fn assert_rows_of_text<R: Row<PropertyDatabase>>(
     text: &str,
     rows: &[R],
 ) {
-    assert_eq!(rt;
-        first_wrong_of_text(alloc, text, rows),
-        Ok(None),
-        "at {text}"
-    );
+    let wrong = first_wrong_of_text(alloc, text, rows);
+    assert_equal(rt, (text, wrong), (text, Ok(None)));
 }
 
 /// The index of the first row that does not hold of the set of an inversion list and strings.
@@ -95,13 +92,23 @@ pub(crate) fn assert_rows_of_set<R: Row<CodePointInversionListAndStringList>>(
     assert_equal(rt, wrong, Some(None));
 }
 
+/// A string of this text.
+pub(crate) fn string_of(alloc: Global, text: &str) -> Option<String> {
+    String::from_str(alloc, text).ok()
+}
+
 /// Strings of these texts.
-fn strings_of(alloc: Global, texts: &[&str]) -> Result<Vec<String>, AllocError> {
+fn strings_of(alloc: Global, texts: &[&str]) -> Option<Vec<String>> {
     let mut strings = Vec::new(alloc);
     for text in texts {
-        strings.push(String::from_str(alloc, text)?)?;
+        let Some(string) = string_of(alloc, text) else {
+            return None;
+        };
+        let Ok(()) = strings.push(string) else {
+            return None;
+        };
     }
-    Ok(strings)
+    Some(strings)
 }
 
 /// A set by its inversion list and its strings.
@@ -110,8 +117,42 @@ pub(crate) fn set_of(
     list: &[u32],
     texts: &[&str],
 ) -> Option<CodePointInversionListAndStringList> {
-    let code_points = CodePointInversionList::try_from_inversion_list(alloc, list).ok()?;
-    let strings = strings_of(alloc, texts).ok()?;
+    let Ok(code_points) = CodePointInversionList::try_from_inversion_list(alloc, list) else {
+        return None;
+    };
+    let Some(strings) = strings_of(alloc, texts) else {
+        return None;
+    };
+    CodePointInversionListAndStringList::try_from(code_points, strings).ok()
+}
+
+/// The numbers from the start up to the end, with four digits each.
+fn numerals(alloc: Global, start: u32, end: u32) -> Option<Vec<String>> {
+    let mut strings = Vec::new(alloc);
+    for number in start..end {
+        let Ok(numeral) = format!(in alloc; "{number:04}") else {
+            return None;
+        };
+        let Ok(()) = strings.push(numeral) else {
+            return None;
+        };
+    }
+    Some(strings)
+}
+
+/// The set of an inversion list and of the numbers from the start up to the end, with four digits each.
+pub(crate) fn set_of_numerals(
+    alloc: Global,
+    list: &[u32],
+    start: u32,
+    end: u32,
+) -> Option<CodePointInversionListAndStringList> {
+    let Ok(code_points) = CodePointInversionList::try_from_inversion_list(alloc, list) else {
+        return None;
+    };
+    let Some(strings) = numerals(alloc, start, end) else {
+        return None;
+    };
     CodePointInversionListAndStringList::try_from(code_points, strings).ok()
 }
 

@@ -49,7 +49,9 @@ fn gathered_of(
     set: &CodePointInversionListAndStringList,
 ) -> Result<Gathered, NoMemory> {
     let mut gathered = Gathered::new(alloc);
-    gathered.join(alloc, Operand::Set(set))?;
+    let Ok(()) = gathered.join(alloc, Operand::Set(set)) else {
+        return Err(NoMemory);
+    };
     Ok(gathered)
 }
 
@@ -108,7 +110,9 @@ fn stepped(
     other: &CodePointInversionListAndStringList,
 ) -> Result<CodePointInversionListAndStringList, NoMemory> {
     let mut gathered = Gathered::new(alloc);
-    gather(alloc, &mut gathered, step, made, other)?;
+    let Ok(()) = gather(alloc, &mut gathered, step, made, other) else {
+        return Err(NoMemory);
+    };
     gathered.into_set(alloc)
 }
 

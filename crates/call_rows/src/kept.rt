@@ -14,7 +14,9 @@ fn asked(alloc: Global, negated: bool, key: &str, value: Option<&str>) -> Result
         Some(value) => Some(String::from_str(alloc, value)?),
         None => None,
     };
-    let key = String::from_str(alloc, key)?;
+    let Ok(key) = String::from_str(alloc, key) else {
+        return Err(NoMemory);
+    };
     Ok(Query {
         negated,
         key,
@@ -56,7 +58,9 @@ fn property_letters(alloc: Global) -> Result<CodePointInversionList, NoMemory> {
 /// The letters from `d` to `f` as those of a property.
 fn property<'a>(alloc: Global) -> Result<Named<'a>, NoMemory> {
     let list = Rc::new(alloc, property_letters(alloc)?)?;
-    let query = asked(alloc, false, "L", None)?;
+    let Ok(query) = asked(alloc, false, "L", None) else {
+        return Err(NoMemory);
+    };
     Ok(Named {
         name: Name::Property(query),
         set: NamedSet::CodePoints(Source::Shared(list)),
@@ -81,10 +85,13 @@ fn join_property(alloc: Global, gathering: &mut Gathering<'_>) -> Result<(), NoM
 /// What a bracket with the letter `b` gathered.
 fn inner(alloc: Global) -> Result<Gathered, NoMemory> {
     let mut gathered = Gathered::new(alloc);
-    gathered.add_range(CodePointRange {
+    let letter = CodePointRange {
         start: 0x62,
         end: 0x62,
-    })?;
+    };
+    let Ok(()) = gathered.add_range(letter) else {
+        return Err(NoMemory);
+    };
     Ok(gathered)
 }
 
@@ -167,7 +174,9 @@ fn closed(
     negated: bool,
 ) -> Result<CodePointInversionListAndStringList, NoMemory> {
     let mut gathering = Gathering::new(alloc);
-    gather_and_remove(alloc, &mut gathering, large)?;
+    let Ok(()) = gather_and_remove(alloc, &mut gathering, large) else {
+        return Err(NoMemory);
+    };
     close(alloc, gathering, negated)
 }
 
@@ -203,7 +212,9 @@ fn place_of(
     value: Option<&str>,
 ) -> Result<Option<Place>, NoMemory> {
     let mut gathering = Gathering::new(alloc);
-    gather_letters(alloc, &mut gathering, large)?;
+    let Ok(()) = gather_letters(alloc, &mut gathering, large) else {
+        return Err(NoMemory);
+    };
     place_in(alloc, &gathering, negated, key, value)
 }
 
@@ -258,7 +269,9 @@ fn joined(
     place: Place,
 ) -> Result<CodePointInversionListAndStringList, NoMemory> {
     let mut gathering = Gathering::new(alloc);
-    gather_again(alloc, &mut gathering, large, has_large, place)?;
+    let Ok(()) = gather_again(alloc, &mut gathering, large, has_large, place) else {
+        return Err(NoMemory);
+    };
     close(alloc, gathering, false)
 }
 
@@ -336,22 +349,13 @@ fn named_set(made: Made, letters: &CodePointInversionListAndStringList) -> Named
     }
 }
 
-/// What the named set that is made of the letters gathers alone.
-fn gathered_alone(
-    alloc: Global,
-    made: Made,
-    letters: &CodePointInversionListAndStringList,
-) -> Result<Gathered, NoMemory> {
-    named_set(made, letters).gathered(alloc)
-}
-
-/// The set of that.
+/// The set of what the named set that is made of the letters gathers alone.
 fn alone(
     alloc: Global,
     made: Made,
     letters: &CodePointInversionListAndStringList,
 ) -> Result<CodePointInversionListAndStringList, NoMemory> {
-    gathered_alone(alloc, made, letters)?.into_set(alloc)
+    named_set(made, letters).gathered(alloc)?.into_set(alloc)
 }
 
 /// A named set, and its inversion list and strings.

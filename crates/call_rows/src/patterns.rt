@@ -1,9 +1,8 @@
 //! Sets written as patterns, and read back.
-use crate::fixtures::{NO_TABLES, Row, TABLES, assert_rows_of_text, set_of};
-use cp_invlist::CodePointInversionList;
+use crate::fixtures::{NO_TABLES, Row, TABLES, assert_rows_of_text, set_of, set_of_numerals};
 use cp_strset::CodePointInversionListAndStringList;
 use prop_data::PropertyDatabase;
-use std::alloc::{AllocError, Global};
+use std::alloc::Global;
 use uset_parse::{ParseError, ParseErrorKind, VariableMap, parse, read_back};
 
 /// Whether the pattern of the set is this text.
@@ -68,31 +67,21 @@ fn a_set_is_written_and_read_back(rt: HostRuntime) {
 }
 
 /// The inversion list of each thousandth code point.
-fn thousandths(alloc: Global) -> Result<Vec<u32>, AllocError> {
+fn thousandths(alloc: Global) -> Option<Vec<u32>> {
     let mut list = Vec::new(alloc);
     for step in 0..1_114u32 {
         let code_point = step.saturating_mul(1_000);
-        list.push(code_point)?;
-        list.push(code_point.saturating_add(1))?;
+        let Ok(()) = list.extend_from_slice(&[code_point, code_point.saturating_add(1)]) else {
+            return None;
+        };
     }
-    Ok(list)
-}
-
-/// The numbers below a thousand, with four digits each.
-fn numerals(alloc: Global) -> Result<Vec<String>, AllocError> {
-    let mut strings = Vec::new(alloc);
-    for number in 0..1_000u32 {
-        strings.push(format!(in alloc; "{number:04}")?)?;
-    }
-    Ok(strings)
+    Some(list)
 }
 
 /// Each thousandth code point, and a thousand strings.
 fn large_set(alloc: Global) -> Option<CodePointInversionListAndStringList> {
-    let list = thousandths(alloc).ok()?;
-    let code_points = CodePointInversionList::try_from_inversion_list(alloc, &list).ok()?;
-    let strings = numerals(alloc).ok()?;
-    CodePointInversionListAndStringList::try_from(code_points, strings).ok()
+    let list = thousandths(alloc)?;
+    set_of_numerals(alloc, &list, 0, 1_000)
 }
 
 /// Whether the pattern of the set has so many bytes.

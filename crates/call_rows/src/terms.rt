@@ -1,4 +1,5 @@
 //! Brackets that name very large sets, as terms.
+use crate::fixtures::assert_equal;
 use cp_invlist::{CodePointInversionListBuilder, CodePointRange, NoMemory};
 use cp_strset::CodePointInversionListAndStringList;
 use std::alloc::Global;
@@ -34,41 +35,73 @@ fn gather<'a>(
     gathering.gather_named(alloc, operation, Named { name, set })
 }
 
+/// What the bracket of the set, as that of a variable with this name, gathered.
+fn bracket<'a>(
+    alloc: Global,
+    name: &str,
+    set: &'a CodePointInversionListAndStringList,
+) -> Result<Gathering<'a>, NoMemory> {
+    let mut gathering = Gathering::new(alloc);
+    let Ok(()) = gather(alloc, &mut gathering, Operation::Join, name, set) else {
+        return Err(NoMemory);
+    };
+    Ok(gathering)
+}
+
+/// That bracket without what the other closed with.
+fn bracket_without(
+    alloc: Global,
+    name: &str,
+    set: &CodePointInversionListAndStringList,
+    other: Closed,
+) -> Result<Closed, NoMemory> {
+    let Ok(mut gathering) = bracket(alloc, name, set) else {
+        return Err(NoMemory);
+    };
+    let Ok(()) = gathering.gather(alloc, Operation::Remove, other) else {
+        return Err(NoMemory);
+    };
+    gathering.close(alloc, false)
+}
+
 /// The bracket `[$v-[$w-[$v]]]`, closed.
 fn closed(alloc: Global, set: &CodePointInversionListAndStringList) -> Result<Closed, NoMemory> {
-    let mut innermost = Gathering::new(alloc);
-    gather(alloc, &mut innermost, Operation::Join, "v", set)?;
-    let mut inner = Gathering::new(alloc);
-    gather(alloc, &mut inner, Operation::Join, "w", set)?;
-    inner.gather(alloc, Operation::Remove, innermost.close(alloc, false)?)?;
-    let mut outer = Gathering::new(alloc);
-    gather(alloc, &mut outer, Operation::Join, "v", set)?;
-    outer.gather(alloc, Operation::Remove, inner.close(alloc, false)?)?;
-    outer.close(alloc, false)
+    let innermost = bracket(alloc, "v", set)?.close(alloc, false)?;
+    let inner = bracket_without(alloc, "w", set, innermost)?;
+    bracket_without(alloc, "v", set, inner)
 }
 
 /// How many of the sets have a name.
 fn count_named(sets: &[TermSet]) -> usize {
-    sets.iter()
-        .filter(|set| matches!(set, TermSet::Named(_)))
-        .count()
+    let mut count = 0usize;
+    for set in sets {
+        if matches!(set, TermSet::Named(_)) {
+            count = count.saturating_add(1);
+        }
+    }
+    count
+}
+
+/// Whether the term has two sets with a name, and more than four steps.
+fn is_numbered(alloc: Global, term: Term) -> bool {
+    match term.into_numbered(alloc) {
+        Ok(NumberedTerm { sets, steps }) => count_named(&sets) == 2 && steps.len() > 4,
+        Err(_) => false,
+    }
 }
 
 /// Whether the bracket is a term of which each name has one number.
-fn has_two_names(alloc: Global) -> Result<bool, NoMemory> {
-    let set = very_large(alloc)?;
-    match closed(alloc, &set)? {
-        Closed::Plain(_) => Ok(false),
-        Closed::Term(term) => {
-            let term: Term = Box::into_inner(term);
-            let NumberedTerm { sets, steps } = term.into_numbered(alloc)?;
-            Ok(count_named(&sets) == 2 && steps.len() > 4)
-        }
+fn has_two_names(alloc: Global) -> bool {
+    let Ok(set) = very_large(alloc) else {
+        return false;
+    };
+    match closed(alloc, &set) {
+        Ok(Closed::Term(term)) => is_numbered(alloc, Box::into_inner(term)),
+        _ => false,
     }
 }
 
 #[test]
 fn each_name_of_a_term_has_one_number(rt: HostRuntime) {
-    let holds = has_two_names(rt.alloc()).unwrap_or(false);
-    assert!(rt; holds);
+    assert_equal(&rt, has_two_names(rt.alloc()), true);
 }

@@ -1,18 +1,14 @@
 //! Maps of variables.
-use crate::fixtures::{assert_equal, set_of};
-use cp_invlist::{CodePointInversionList, NoMemory};
+use crate::fixtures::{assert_equal, set_of, set_of_numerals, string_of};
+use cp_invlist::NoMemory;
 use cp_strset::CodePointInversionListAndStringList;
-use std::alloc::{AllocError, Global};
+use std::alloc::Global;
 use std::process::Abort;
 use uset_variables::{InsertError, VariableMap, VariableString, VariableValue};
 
 /// The hyphen, the letters `a` to `c`, the empty string and the string `ab`.
 fn letters(alloc: Global) -> Option<CodePointInversionListAndStringList> {
     set_of(alloc, &[0x2D, 0x2E, 0x61, 0x64], &["", "ab"])
-}
-
-fn text(alloc: Global, s: &str) -> Option<String> {
-    String::from_str(alloc, s).ok()
 }
 
 /// What a name is to be bound to, and the call that binds it.
@@ -58,7 +54,7 @@ fn is_char(value: &VariableValue, expected: char) -> bool {
 
 /// The value that is a string of this text.
 fn string_value(alloc: Global, s: &str) -> Option<VariableValue> {
-    Some(VariableValue::String(VariableString::new(text(alloc, s)?)))
+    Some(VariableValue::String(VariableString::new(string_of(alloc, s)?)))
 }
 
 /// Frees the name. The answer is whether it was bound to the character, or to nothing where none is expected.
@@ -98,7 +94,33 @@ fn is_inserted(
     }
 }
 
-/// Inserts what is given by its call. The answer is whether that ended as expected.
+/// Inserts what is given by its call, if memory is left for it.
+fn insert<'a>(
+    alloc: Global,
+    variables: &'a mut VariableMap,
+    name: String,
+    given: Given,
+) -> Option<Result<(), InsertError<'a>>> {
+    match given {
+        Given::Value(s) => match string_value(alloc, s) {
+            Some(value) => Some(variables.insert(name, value)),
+            None => None,
+        },
+        Given::CharValue(c) => Some(variables.insert(name, VariableValue::Char(c))),
+        Given::Char(c) => Some(variables.insert_char(name, c)),
+        Given::String(s) => match string_of(alloc, s) {
+            Some(string) => Some(variables.insert_string(name, string)),
+            None => None,
+        },
+        Given::Str(s) => Some(variables.insert_str(name, s)),
+        Given::Letters => match letters(alloc) {
+            Some(set) => Some(variables.insert_set(name, set)),
+            None => None,
+        },
+    }
+}
+
+/// Inserts what is given. The answer is whether that ended as expected.
 fn inserts(
     alloc: Global,
     variables: &mut VariableMap,
@@ -106,17 +128,14 @@ fn inserts(
     name: &str,
     given: Given,
     present: Option<Kept>,
-) -> Option<bool> {
-    let name = text(alloc, name)?;
-    let answer = match given {
-        Given::Value(s) => variables.insert(name, string_value(alloc, s)?),
-        Given::CharValue(c) => variables.insert(name, VariableValue::Char(c)),
-        Given::Char(c) => variables.insert_char(name, c),
-        Given::String(s) => variables.insert_string(name, text(alloc, s)?),
-        Given::Str(s) => variables.insert_str(name, s),
-        Given::Letters => variables.insert_set(name, letters(alloc)?),
+) -> bool {
+    let Some(name) = string_of(alloc, name) else {
+        return false;
     };
-    Some(is_inserted(answer, present, set))
+    match insert(alloc, variables, name, given) {
+        Some(answer) => is_inserted(answer, present, set),
+        None => false,
+    }
 }
 
 /// Whether the step has its answer.
@@ -127,11 +146,9 @@ fn holds(
     step: Step,
 ) -> bool {
     match step {
-        Step::Binds(name, given) => {
-            inserts(alloc, variables, letters, name, given, None) == Some(true)
-        }
+        Step::Binds(name, given) => inserts(alloc, variables, letters, name, given, None),
         Step::Refuses(name, given, kept) => {
-            inserts(alloc, variables, letters, name, given, Some(kept)) == Some(true)
+            inserts(alloc, variables, letters, name, given, Some(kept))
         }
         Step::Frees(name, expected) => frees(variables, name, expected),
         Step::Keeps(name, expected) => is_kept(variables.get(name), expected, letters),
@@ -160,7 +177,9 @@ fn first_wrong_of_copy(
     letters: &CodePointInversionListAndStringList,
     steps: &[Step],
 ) -> Option<Option<usize>> {
-    let mut copied = variables.copy(alloc).ok()?;
+    let Ok(mut copied) = variables.copy(alloc) else {
+        return None;
+    };
     Some(first_wrong(alloc, &mut copied, letters, steps))
 }
 
@@ -323,7 +342,9 @@ fn copied(
     expected: Kept,
     letters: &CodePointInversionListAndStringList,
 ) -> Option<(bool, bool)> {
-    let copied = value.copy(alloc).ok()?;
+    let Ok(copied) = value.copy(alloc) else {
+        return None;
+    };
     Some((
         is_kept(Some(&copied), expected, letters),
         copied.as_set().is_some(),
@@ -333,7 +354,9 @@ fn copied(
 /// The same of a copy of that value.
 fn copied_of(alloc: Global, expected: Kept) -> Option<(bool, bool)> {
     let letters = letters(alloc)?;
-    let value = value_of(alloc, expected)?;
+    let Some(value) = value_of(alloc, expected) else {
+        return None;
+    };
     copied(alloc, &value, expected, &letters)
 }
 
@@ -349,35 +372,31 @@ fn a_copy_of_a_string_is_the_same(rt: HostRuntime) {
     assert_equal(&rt, copied, Some((true, false)));
 }
 
-/// The numbers from the start up to the end, with four digits each.
-fn numerals(alloc: Global, start: u32, end: u32) -> Result<Vec<String>, AllocError> {
-    let mut strings = Vec::new(alloc);
-    for number in start..end {
-        strings.push(format!(in alloc; "{number:04}")?)?;
-    }
-    Ok(strings)
-}
-
-/// The set of these strings.
-fn set_of_numerals(
+/// Binds the name to the numbers from the start up to the end. The answer is whether memory was left, and the name free.
+fn bind_numerals(
     alloc: Global,
+    variables: &mut VariableMap,
+    name: &str,
     start: u32,
     end: u32,
-) -> Option<CodePointInversionListAndStringList> {
-    let code_points = CodePointInversionList::try_from_inversion_list(alloc, &[]).ok()?;
-    let strings = numerals(alloc, start, end).ok()?;
-    CodePointInversionListAndStringList::try_from(code_points, strings).ok()
+) -> bool {
+    let Some(set) = set_of_numerals(alloc, &[], start, end) else {
+        return false;
+    };
+    let Some(name) = string_of(alloc, name) else {
+        return false;
+    };
+    variables.insert_set(name, set).is_ok()
 }
 
-/// A map in which `many` is 64 strings, `few` is 63 others, and `c` is a character.
-fn many_and_few(alloc: Global) -> Option<VariableMap> {
-    let mut variables = VariableMap::new(alloc);
-    let many = set_of_numerals(alloc, 0, 64)?;
-    variables.insert_set(text(alloc, "many")?, many).ok()?;
-    let few = set_of_numerals(alloc, 100, 163)?;
-    variables.insert_set(text(alloc, "few")?, few).ok()?;
-    variables.insert_char(text(alloc, "c")?, 'x').ok()?;
-    Some(variables)
+/// Binds `many` to 64 strings, `few` to 63 others, and `c` to a character. The answer is whether memory was left.
+fn bind_many_and_few(alloc: Global, variables: &mut VariableMap) -> bool {
+    let Some(name) = string_of(alloc, "c") else {
+        return false;
+    };
+    variables.insert_char(name, 'x').is_ok()
+        && bind_numerals(alloc, variables, "many", 0, 64)
+        && bind_numerals(alloc, variables, "few", 100, 163)
 }
 
 /// Indexes these names and one that is bound to nothing.
@@ -394,11 +413,13 @@ const MORE_THAN_ALL: usize = 1000;
 /// How many numbers the strings of the name have, if they have any.
 fn count_numbers(variables: &VariableMap, name: &str) -> Option<usize> {
     let numbers = variables.numbers_of(name)?;
-    Some(
-        (0..MORE_THAN_ALL)
-            .filter(|number| numbers.contains(*number))
-            .count(),
-    )
+    let mut count = 0usize;
+    for number in 0..MORE_THAN_ALL {
+        if numbers.contains(number) {
+            count = count.saturating_add(1);
+        }
+    }
+    Some(count)
 }
 
 /// Whether `many` has so many numbers, and no other name has any.
@@ -420,76 +441,68 @@ fn is_numbered(variables: &VariableMap, text: &str) -> bool {
     }
 }
 
-/// Whether the value is a set that is equal to this one.
-fn is_equal_set(
-    value: Option<&VariableValue>,
-    expected: &CodePointInversionListAndStringList,
-) -> bool {
-    match value {
-        Some(VariableValue::UnicodeSet(set)) => set == expected,
-        _ => false,
-    }
+/// Whether the name is bound to the numbers from the start up to the end.
+fn is_numerals(alloc: Global, variables: &VariableMap, name: &str, start: u32, end: u32) -> bool {
+    let Some(expected) = set_of_numerals(alloc, &[], start, end) else {
+        return false;
+    };
+    is_kept(variables.get(name), Kept::Letters, &expected)
 }
 
-/// Whether the names are bound as in `many_and_few`.
-fn are_bound(alloc: Global, variables: &VariableMap) -> Option<bool> {
-    let many = set_of_numerals(alloc, 0, 64)?;
-    let few = set_of_numerals(alloc, 100, 163)?;
-    Some(
-        is_equal_set(variables.get("many"), &many)
-            && is_equal_set(variables.get("few"), &few)
-            && is_kept(variables.get("c"), Kept::Char('x'), &few)
-            && variables.get("nothing").is_none(),
-    )
+/// Whether the names are bound as by `bind_many_and_few`.
+fn are_bound(alloc: Global, variables: &VariableMap) -> bool {
+    let Some(c) = variables.get("c") else {
+        return false;
+    };
+    is_char(c, 'x')
+        && is_numerals(alloc, variables, "many", 0, 64)
+        && is_numerals(alloc, variables, "few", 100, 163)
+        && variables.get("nothing").is_none()
 }
 
 /// Whether the strings of `many` alone have numbers once the names are indexed, and the names are bound as before.
-fn indexes_many(alloc: Global, variables: &mut VariableMap) -> Option<bool> {
-    let had_numbers = count_numbers(variables, "many").is_some();
-    index_all(alloc, variables).ok()?;
-    Some(
-        !had_numbers
-            && has_numbers(variables, Some(64))
-            && is_numbered(variables, "0000")
-            && is_numbered(variables, "0042")
-            && is_numbered(variables, "0063")
-            && !is_numbered(variables, "0064")
-            && !is_numbered(variables, "0100")
-            && are_bound(alloc, variables)?,
-    )
+fn indexes_many(alloc: Global, variables: &mut VariableMap) -> bool {
+    count_numbers(variables, "many").is_none()
+        && index_all(alloc, variables).is_ok()
+        && has_numbers(variables, Some(64))
+        && is_numbered(variables, "0000")
+        && is_numbered(variables, "0042")
+        && is_numbered(variables, "0063")
+        && !is_numbered(variables, "0064")
+        && !is_numbered(variables, "0100")
+        && are_bound(alloc, variables)
 }
 
 /// Whether a copy has no numbers, and its names are bound as those of the map.
-fn copies_no_numbers(alloc: Global, variables: &VariableMap) -> Option<bool> {
-    let copied = variables.copy(alloc).ok()?;
-    Some(has_numbers(&copied, None) && are_bound(alloc, &copied)?)
+fn copies_no_numbers(alloc: Global, variables: &VariableMap) -> bool {
+    let Ok(copied) = variables.copy(alloc) else {
+        return false;
+    };
+    has_numbers(&copied, None) && are_bound(alloc, &copied)
 }
 
 /// Whether `many` has no numbers once it is freed, nor once it is bound anew, and those of its new strings once it is indexed.
-fn frees_numbers(alloc: Global, variables: &mut VariableMap) -> Option<bool> {
-    let was_bound = variables.remove("many").is_some();
-    let is_freed = has_numbers(variables, None);
-    let others = set_of_numerals(alloc, 50, 150)?;
-    variables.insert_set(text(alloc, "many")?, others).ok()?;
-    let is_bound_anew = has_numbers(variables, None);
-    index_all(alloc, variables).ok()?;
-    Some(
-        was_bound
-            && is_freed
-            && is_bound_anew
-            && has_numbers(variables, Some(100))
-            && is_numbered(variables, "0149")
-            && is_numbered(variables, "0050")
-            && !is_numbered(variables, "0049"),
-    )
+fn frees_numbers(alloc: Global, variables: &mut VariableMap) -> bool {
+    variables.remove("many").is_some()
+        && has_numbers(variables, None)
+        && bind_numerals(alloc, variables, "many", 50, 150)
+        && has_numbers(variables, None)
+        && index_all(alloc, variables).is_ok()
+        && has_numbers(variables, Some(100))
+        && is_numbered(variables, "0149")
+        && is_numbered(variables, "0050")
+        && !is_numbered(variables, "0049")
 }
 
 /// The same of one map, in turn.
 fn numbers_hold(alloc: Global) -> Option<(bool, bool, bool)> {
-    let mut variables = many_and_few(alloc)?;
-    let indexed = indexes_many(alloc, &mut variables)?;
-    let copied = copies_no_numbers(alloc, &variables)?;
-    let freed = frees_numbers(alloc, &mut variables)?;
+    let mut variables = VariableMap::new(alloc);
+    if !bind_many_and_few(alloc, &mut variables) {
+        return None;
+    }
+    let indexed = indexes_many(alloc, &mut variables);
+    let copied = copies_no_numbers(alloc, &variables);
+    let freed = frees_numbers(alloc, &mut variables);
     Some((indexed, copied, freed))
 }
 
