@@ -49,9 +49,7 @@ fn gathered_of(
     set: &CodePointInversionListAndStringList,
 ) -> Result<Gathered, NoMemory> {
     let mut gathered = Gathered::new(alloc);
-    let Ok(()) = gathered.join(alloc, Operand::Set(set)) else {
-        return Err(NoMemory);
-    };
+    gathered.join(alloc, Operand::Set(set))?;
     Ok(gathered)
 }
 
@@ -110,9 +108,7 @@ fn stepped(
     other: &CodePointInversionListAndStringList,
 ) -> Result<CodePointInversionListAndStringList, NoMemory> {
     let mut gathered = Gathered::new(alloc);
-    let Ok(()) = gather(alloc, &mut gathered, step, made, other) else {
-        return Err(NoMemory);
-    };
+    gather(alloc, &mut gathered, step, made, other)?;
     gathered.into_set(alloc)
 }
 

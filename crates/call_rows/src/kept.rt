@@ -14,9 +14,7 @@ fn asked(alloc: Global, negated: bool, key: &str, value: Option<&str>) -> Result
         Some(value) => Some(String::from_str(alloc, value)?),
         None => None,
     };
-    let Ok(key) = String::from_str(alloc, key) else {
-        return Err(NoMemory);
-    };
+    let key = String::from_str(alloc, key)?;
     Ok(Query {
         negated,
         key,
@@ -58,9 +56,7 @@ fn property_letters(alloc: Global) -> Result<CodePointInversionList, NoMemory> {
 /// The letters from `d` to `f` as those of a property.
 fn property<'a>(alloc: Global) -> Result<Named<'a>, NoMemory> {
     let list = Rc::new(alloc, property_letters(alloc)?)?;
-    let Ok(query) = asked(alloc, false, "L", None) else {
-        return Err(NoMemory);
-    };
+    let query = asked(alloc, false, "L", None)?;
     Ok(Named {
         name: Name::Property(query),
         set: NamedSet::CodePoints(Source::Shared(list)),
@@ -89,9 +85,7 @@ fn inner(alloc: Global) -> Result<Gathered, NoMemory> {
         start: 0x62,
         end: 0x62,
     };
-    let Ok(()) = gathered.add_range(letter) else {
-        return Err(NoMemory);
-    };
+    gathered.add_range(letter)?;
     Ok(gathered)
 }
 
@@ -174,9 +168,7 @@ fn closed(
     negated: bool,
 ) -> Result<CodePointInversionListAndStringList, NoMemory> {
     let mut gathering = Gathering::new(alloc);
-    let Ok(()) = gather_and_remove(alloc, &mut gathering, large) else {
-        return Err(NoMemory);
-    };
+    gather_and_remove(alloc, &mut gathering, large)?;
     close(alloc, gathering, negated)
 }
 
@@ -212,9 +204,7 @@ fn place_of(
     value: Option<&str>,
 ) -> Result<Option<Place>, NoMemory> {
     let mut gathering = Gathering::new(alloc);
-    let Ok(()) = gather_letters(alloc, &mut gathering, large) else {
-        return Err(NoMemory);
-    };
+    gather_letters(alloc, &mut gathering, large)?;
     place_in(alloc, &gathering, negated, key, value)
 }
 
@@ -269,9 +259,7 @@ fn joined(
     place: Place,
 ) -> Result<CodePointInversionListAndStringList, NoMemory> {
     let mut gathering = Gathering::new(alloc);
-    let Ok(()) = gather_again(alloc, &mut gathering, large, has_large, place) else {
-        return Err(NoMemory);
-    };
+    gather_again(alloc, &mut gathering, large, has_large, place)?;
     close(alloc, gathering, false)
 }
 

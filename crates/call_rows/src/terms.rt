@@ -42,9 +42,7 @@ fn bracket<'a>(
     set: &'a CodePointInversionListAndStringList,
 ) -> Result<Gathering<'a>, NoMemory> {
     let mut gathering = Gathering::new(alloc);
-    let Ok(()) = gather(alloc, &mut gathering, Operation::Join, name, set) else {
-        return Err(NoMemory);
-    };
+    gather(alloc, &mut gathering, Operation::Join, name, set)?;
     Ok(gathering)
 }
 
@@ -55,12 +53,8 @@ fn bracket_without(
     set: &CodePointInversionListAndStringList,
     other: Closed,
 ) -> Result<Closed, NoMemory> {
-    let Ok(mut gathering) = bracket(alloc, name, set) else {
-        return Err(NoMemory);
-    };
-    let Ok(()) = gathering.gather(alloc, Operation::Remove, other) else {
-        return Err(NoMemory);
-    };
+    let mut gathering = bracket(alloc, name, set)?;
+    gathering.gather(alloc, Operation::Remove, other)?;
     gathering.close(alloc, false)
 }
 
@@ -73,13 +67,9 @@ fn closed(alloc: Global, set: &CodePointInversionListAndStringList) -> Result<Cl
 
 /// How many of the sets have a name.
 fn count_named(sets: &[TermSet]) -> usize {
-    let mut count = 0usize;
-    for set in sets {
-        if matches!(set, TermSet::Named(_)) {
-            count = count.saturating_add(1);
-        }
-    }
-    count
+    sets.iter()
+        .filter(|set| matches!(set, TermSet::Named(_)))
+        .count()
 }
 
 /// Whether the term has two sets with a name, and more than four steps.

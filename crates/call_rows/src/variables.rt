@@ -28,7 +28,8 @@ enum Kept {
     Nothing,
     Char(char),
     String(&'static str),
-    Letters,
+    /// The set that is given beside it.
+    Set,
 }
 
 /// What is done with a map or asked of it, and the answer that is expected.
@@ -76,7 +77,7 @@ fn is_kept(
         (None, Kept::Nothing) => true,
         (Some(VariableValue::Char(c)), Kept::Char(expected)) => *c == expected,
         (Some(VariableValue::String(s)), Kept::String(expected)) => s.as_str() == expected,
-        (Some(VariableValue::UnicodeSet(set)), Kept::Letters) => set == letters,
+        (Some(VariableValue::UnicodeSet(set)), Kept::Set) => set == letters,
         _ => false,
     }
 }
@@ -225,7 +226,7 @@ const BOUND: &[Step] = &[
     Step::Keeps("b", Kept::Char('é')),
     Step::Keeps("ab", Kept::String("éé")),
     Step::Keeps("", Kept::String("")),
-    Step::Keeps("é", Kept::Letters),
+    Step::Keeps("é", Kept::Set),
     Step::Keeps("c", Kept::Nothing),
 ];
 
@@ -288,7 +289,7 @@ const COPIED: &[Step] = &[
 
 const OF_COPY: &[Step] = &[
     Step::Keeps("b", Kept::String("yy")),
-    Step::Keeps("c", Kept::Letters),
+    Step::Keeps("c", Kept::Set),
     Step::Keeps("d", Kept::Nothing),
     Step::Frees("a", Some('x')),
 ];
@@ -311,13 +312,13 @@ const BOUND_ANEW: &[Step] = &[
     Step::Binds("a", Given::CharValue('b')),
     Step::Binds("s", Given::Str("xy")),
     Step::Binds("t", Given::Letters),
-    Step::Refuses("t", Given::Letters, Kept::Letters),
+    Step::Refuses("t", Given::Letters, Kept::Set),
 ];
 
 const OF_ITS_COPY: &[Step] = &[
     Step::Keeps("a", Kept::Char('b')),
     Step::Keeps("s", Kept::String("xy")),
-    Step::Keeps("t", Kept::Letters),
+    Step::Keeps("t", Kept::Set),
 ];
 
 #[test]
@@ -331,7 +332,7 @@ fn value_of(alloc: Global, kept: Kept) -> Option<VariableValue> {
         Kept::Nothing => None,
         Kept::Char(c) => Some(VariableValue::Char(c)),
         Kept::String(s) => string_value(alloc, s),
-        Kept::Letters => Some(VariableValue::UnicodeSet(letters(alloc)?)),
+        Kept::Set => Some(VariableValue::UnicodeSet(letters(alloc)?)),
     }
 }
 
@@ -362,7 +363,7 @@ fn copied_of(alloc: Global, expected: Kept) -> Option<(bool, bool)> {
 
 #[test]
 fn a_copy_of_a_value_is_the_same(rt: HostRuntime) {
-    let copied = copied_of(rt.alloc(), Kept::Letters);
+    let copied = copied_of(rt.alloc(), Kept::Set);
     assert_equal(&rt, copied, Some((true, true)));
 }
 
@@ -413,13 +414,11 @@ const MORE_THAN_ALL: usize = 1000;
 /// How many numbers the strings of the name have, if they have any.
 fn count_numbers(variables: &VariableMap, name: &str) -> Option<usize> {
     let numbers = variables.numbers_of(name)?;
-    let mut count = 0usize;
-    for number in 0..MORE_THAN_ALL {
-        if numbers.contains(number) {
-            count = count.saturating_add(1);
-        }
-    }
-    Some(count)
+    Some(
+        (0..MORE_THAN_ALL)
+            .filter(|number| numbers.contains(*number))
+            .count(),
+    )
 }
 
 /// Whether `many` has so many numbers, and no other name has any.
@@ -446,7 +445,7 @@ fn is_numerals(alloc: Global, variables: &VariableMap, name: &str, start: u32, e
     let Some(expected) = set_of_numerals(alloc, &[], start, end) else {
         return false;
     };
-    is_kept(variables.get(name), Kept::Letters, &expected)
+    is_kept(variables.get(name), Kept::Set, &expected)
 }
 
 /// Whether the names are bound as by `bind_many_and_few`.
