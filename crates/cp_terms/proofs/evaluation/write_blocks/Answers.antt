@@ -72,3 +72,57 @@ returns-clause-before c = before_later (c.args.start + 1024 * c.loop-index.index
 pub returns-clause-members : goal.returns-clause-members
 returns-clause-members c = λ m tell made.
     tell_at m c.loop-index.changes (c.args.start + 1024 * c.loop-index.index) (c.args.start + 0x4000) (omega arith) (c.loop-index.invariant.members m tell made)
+
+pub fill_blocks-requires-clause-windows_each : goal.fill_blocks-requires-clause-windows_each
+fill_blocks-requires-clause-windows_each c = c.loop-index.invariant.windows_each
+
+pub fill_blocks-requires-clause-blocks_each : goal.fill_blocks-requires-clause-blocks_each
+fill_blocks-requires-clause-blocks_each c = c.loop-index.invariant.blocks_each
+
+pub write_block-requires-clause-place : goal.write_block-requires-clause-place
+write_block-requires-clause-place c = omega (arith, c.requires.start, c.loop-index-test.true)
+
+pub returns-in_err-list_mixed-clause-windows_each : goal.returns-in_err-list_mixed-clause-windows_each
+returns-in_err-list_mixed-clause-windows_each c = c.requires.windows_each
+
+pub returns-in_err-list_mixed-clause-blocks_each : goal.returns-in_err-list_mixed-clause-blocks_each
+returns-in_err-list_mixed-clause-blocks_each c = c.requires.blocks_each
+
+pub returns-in_err-list_mixed-clause-before : goal.returns-in_err-list_mixed-clause-before
+returns-in_err-list_mixed-clause-before c = IfOk-from_err c.from_residual.result _ c.from_residual.ensures.0
+
+pub returns-in_err-list_mixed-clause-members : goal.returns-in_err-list_mixed-clause-members
+returns-in_err-list_mixed-clause-members c = IfOk-from_err c.from_residual.result _ c.from_residual.ensures.0
+
+pub returns-in_err-block-clause-windows_each : goal.returns-in_err-block-clause-windows_each
+returns-in_err-block-clause-windows_each c = c.fill_blocks.ensures.windows_each
+
+pub returns-in_err-block-clause-blocks_each : goal.returns-in_err-block-clause-blocks_each
+returns-in_err-block-clause-blocks_each c = c.fill_blocks.ensures.blocks_each
+
+pub returns-in_err-block-clause-windows : goal.returns-in_err-block-clause-windows
+returns-in_err-block-clause-windows c = IfOk-from_err c.from_residual-in_err-block.result _ c.from_residual-in_err-block.ensures.0
+
+pub returns-in_err-block-clause-before : goal.returns-in_err-block-clause-before
+returns-in_err-block-clause-before c = IfOk-from_err c.from_residual-in_err-block.result _ c.from_residual-in_err-block.ensures.0
+
+pub returns-in_err-write_block-clause-windows_each : goal.returns-in_err-write_block-clause-windows_each
+returns-in_err-write_block-clause-windows_each c = c.fill_blocks.ensures.windows_each
+
+pub returns-in_err-write_block-clause-blocks_each : goal.returns-in_err-write_block-clause-blocks_each
+returns-in_err-write_block-clause-blocks_each c = c.fill_blocks.ensures.blocks_each
+
+pub returns-in_err-write_block-clause-windows : goal.returns-in_err-write_block-clause-windows
+returns-in_err-write_block-clause-windows c = IfOk-from_err c.from_residual-in_err-write_block.result _ c.from_residual-in_err-write_block.ensures.0
+
+pub returns-in_err-write_block-clause-before : goal.returns-in_err-write_block-clause-before
+returns-in_err-write_block-clause-before c = IfOk-from_err c.from_residual-in_err-write_block.result _ c.from_residual-in_err-write_block.ensures.0
+
+pub returns-in_err-write_block-clause-members : goal.returns-in_err-write_block-clause-members
+returns-in_err-write_block-clause-members c = IfOk-from_err c.from_residual-in_err-write_block.result _ c.from_residual-in_err-write_block.ensures.0
+
+pub returns-clause-windows_each : goal.returns-clause-windows_each
+returns-clause-windows_each c = c.loop-index.invariant.windows_each
+
+pub returns-clause-blocks_each : goal.returns-clause-blocks_each
+returns-clause-blocks_each c = c.loop-index.invariant.blocks_each

@@ -69,3 +69,66 @@ returns-in-Mixed-clause-windows c = c.write_blocks.ensures.windows
 
 pub returns-in-Mixed-clause-before : goal.returns-in-Mixed-clause-before
 returns-in-Mixed-clause-before c = c.write_blocks.ensures.before
+
+pub move_all-requires-clause-place : goal.move_all-requires-clause-place
+move_all-requires-clause-place c = omega (arith, c.requires.start)
+
+pub move_all-requires-clause-one_each : goal.move_all-requires-clause-one_each
+move_all-requires-clause-one_each c = c.requires.windows_each
+
+pub move_all-requires-clause-windows : goal.move_all-requires-clause-windows
+move_all-requires-clause-windows c = c.requires.windows
+
+pub returns-in_err-shorten-clause-windows_each : goal.returns-in_err-shorten-clause-windows_each
+returns-in_err-shorten-clause-windows_each c = c.move_all.ensures.one_each
+
+pub returns-in_err-shorten-clause-blocks_each : goal.returns-in_err-shorten-clause-blocks_each
+returns-in_err-shorten-clause-blocks_each c = c.requires.blocks_each
+
+pub returns-in_err-shorten-clause-windows : goal.returns-in_err-shorten-clause-windows
+returns-in_err-shorten-clause-windows c = IfOk-from_err c.from_residual.result _ c.from_residual.ensures.0
+
+pub returns-in_err-shorten-clause-before : goal.returns-in_err-shorten-clause-before
+returns-in_err-shorten-clause-before c = IfOk-from_err c.from_residual.result _ c.from_residual.ensures.0
+
+pub turn-requires-clause-place : goal.turn-requires-clause-place
+turn-requires-clause-place c = omega (arith, c.requires.start)
+
+pub write_set-requires-clause-start : goal.write_set-requires-clause-start
+write_set-requires-clause-start c = c.requires.start
+
+pub write_set-requires-clause-windows_each : goal.write_set-requires-clause-windows_each
+write_set-requires-clause-windows_each c = c.move_all.ensures.one_each
+
+pub write_set-requires-clause-before : goal.write_set-requires-clause-before
+write_set-requires-clause-before c = c.requires.before
+
+pub write_blocks-requires-clause-start : goal.write_blocks-requires-clause-start
+write_blocks-requires-clause-start c = c.requires.start
+
+pub write_blocks-requires-clause-aligned : goal.write_blocks-requires-clause-aligned
+write_blocks-requires-clause-aligned c = c.requires.aligned
+
+pub write_blocks-requires-clause-windows_each : goal.write_blocks-requires-clause-windows_each
+write_blocks-requires-clause-windows_each c = c.move_all.ensures.one_each
+
+pub write_blocks-requires-clause-blocks_each : goal.write_blocks-requires-clause-blocks_each
+write_blocks-requires-clause-blocks_each c = c.requires.blocks_each
+
+pub write_blocks-requires-clause-before : goal.write_blocks-requires-clause-before
+write_blocks-requires-clause-before c = c.requires.before
+
+pub returns-in-Constant-clause-windows_each : goal.returns-in-Constant-clause-windows_each
+returns-in-Constant-clause-windows_each c = c.move_all.ensures.one_each
+
+pub returns-in-Constant-clause-blocks_each : goal.returns-in-Constant-clause-blocks_each
+returns-in-Constant-clause-blocks_each c = c.requires.blocks_each
+
+pub returns-in-Set-clause-blocks_each : goal.returns-in-Set-clause-blocks_each
+returns-in-Set-clause-blocks_each c = c.requires.blocks_each
+
+pub returns-in-Mixed-clause-windows_each : goal.returns-in-Mixed-clause-windows_each
+returns-in-Mixed-clause-windows_each c = c.write_blocks.ensures.windows_each
+
+pub returns-in-Mixed-clause-blocks_each : goal.returns-in-Mixed-clause-blocks_each
+returns-in-Mixed-clause-blocks_each c = c.write_blocks.ensures.blocks_each

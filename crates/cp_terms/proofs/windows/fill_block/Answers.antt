@@ -67,3 +67,45 @@ pub moved-window-requires-clause-window : goal.moved-window-requires-clause-wind
 moved-window-requires-clause-window c = c.requires.window c.in-Some.set.now _
     (slice_get_read c.args.sets.now (length c.args.sets.now) c.args.index c.in-Some.set.now refl c.in-Some.ensures.lookup.3.0 c.in-Some.ensures.lookup.1)
     (slice_get-get_or c.args.windows.now c.args.index _ (omega (arith, c.in-Some.ensures.lookup.3.0)))
+
+pub returns-in_default-clause-windows_each : goal.returns-in_default-clause-windows_each
+returns-in_default-clause-windows_each c = c.requires.windows_each
+
+pub returns-in_default-clause-blocks_each : goal.returns-in_default-clause-blocks_each
+returns-in_default-clause-blocks_each c = c.requires.blocks_each
+
+pub returns-in_default-clause-other_windows : goal.returns-in_default-clause-other_windows
+returns-in_default-clause-other_windows c = λ i other. refl
+
+pub returns-in_default-clause-other_blocks : goal.returns-in_default-clause-other_blocks
+returns-in_default-clause-other_blocks c = λ i was. was
+
+pub returns-in-Some-indexed_words-clause-windows_each : goal.returns-in-Some-indexed_words-clause-windows_each
+returns-in-Some-indexed_words-clause-windows_each c = c.requires.windows_each
+
+pub indexed_words-requires : goal.indexed_words-requires
+indexed_words-requires c = c.requires.aligned
+
+pub block_at-requires-clause-place : goal.block_at-requires-clause-place
+block_at-requires-clause-place c = c.requires.place
+
+pub block_at-requires-clause-window : goal.block_at-requires-clause-window
+block_at-requires-clause-window c = c.moved-window.ensures.window
+
+pub block_at-requires-clause-ahead : goal.block_at-requires-clause-ahead
+block_at-requires-clause-ahead c = omega (arith, c.moved-window.ensures.ahead)
+
+pub moved-window-requires-clause-place : goal.moved-window-requires-clause-place
+moved-window-requires-clause-place c = omega (arith, c.requires.place)
+
+pub bounds-blocks-index : goal.bounds-blocks-index
+bounds-blocks-index c = omega (arith, c.in-Some.ensures.lookup.3.0)
+
+pub bounds-blocks-index-2 : goal.bounds-blocks-index-2
+bounds-blocks-index-2 c = omega (arith, c.in-Some.ensures.lookup.3.0)
+
+pub bounds-windows-index : goal.bounds-windows-index
+bounds-windows-index c = omega (arith, c.in-Some.ensures.lookup.3.0)
+
+pub slice_copy_out-moved : goal.slice_copy_out-moved
+slice_copy_out-moved c = omega (arith, c.in-Some.ensures.lookup.3.0)
