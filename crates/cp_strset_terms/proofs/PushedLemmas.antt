@@ -8,6 +8,7 @@ use Rattle.std.proofs.lemmas.Grind.{flat_map-append}
 pub map_more : {A Y : Type 0} (g : A → Y) (xs : List A) (k : ℕ) (d : A) → k < length xs → map g (take (k + 1) xs) ≡ map g (take k xs) ++ g (get_or xs k d) ∷ []
 map_more g xs k d lt = ap (map g) (take_more xs k d lt) ∙ map-append g (take k xs) (get_or xs k d ∷ [])
 
+-- the same where several things are made of each
 pub flat_map_more : {A Y : Type 0} (g : A → List Y) (xs : List A) (k : ℕ) (d : A) → k < length xs → flat_map g (take (k + 1) xs) ≡ flat_map g (take k xs) ++ g (get_or xs k d)
 flat_map_more g xs k d lt =
     ap (flat_map g) (take_more xs k d lt) ∙ (flat_map-append g (take k xs) (get_or xs k d ∷ []) ∙ ap (λ ys. flat_map g (take k xs) ++ ys) (append-nil (g (get_or xs k d))))
@@ -27,6 +28,7 @@ pub seen_pushed : {A X Y : Type 0} (f : X → Y) (g : A → Y) (old new : List X
     k < length xs → new ≡ old ++ x ∷ [] → f x ≡ g (get_or xs k d) → map f old ≡ map g (take k xs) → map f new ≡ map g (take (k + 1) xs)
 seen_pushed f g old new x xs k d lt is same before = list_pushed g (map f old) (map f new) (f x) xs k d lt (ap (map f) is ∙ map-append f old (x ∷ [])) same before
 
+-- and behind a list that was there before
 pub seen_pushed_behind : {A X Y : Type 0} (f : X → Y) (g : A → Y) (first : List Y) (old new : List X) (x : X) (xs : List A) (k : ℕ) (d : A) →
     k < length xs → new ≡ old ++ x ∷ [] → f x ≡ g (get_or xs k d) → map f old ≡ first ++ map g (take k xs) → map f new ≡ first ++ map g (take (k + 1) xs)
 seen_pushed_behind f g first old new x xs k d lt is same before =

@@ -27,10 +27,11 @@ below_pushed k old new is below = subst (All (λ i. i < k + 1)) (sym is) (All-pu
 pub ascending_pushed : (k : ℕ) (old new : List ℕ) → new ≡ old ++ k ∷ [] → All (λ i. i < k) old → AllPairs (λ i j. i < j) old → AllPairs (λ i j. i < j) new
 ascending_pushed k old new is below ascending = subst (AllPairs (λ i j. i < j)) (sym is) (all_pairs_push (λ i j. i < j) old k ascending below)
 
--- the list with an index more has the index and those before
+-- the list with an index more has the index
 pub pushed_listed : (k : ℕ) (old new : List ℕ) → new ≡ old ++ k ∷ [] → Contains new k
 pushed_listed k old new is = subst (λ (l : List ℕ). Contains l k) (sym is) (Contains-push old k)
 
+-- and those that were listed stay
 pub listed_kept : (k : ℕ) (old new : List ℕ) → new ≡ old ++ k ∷ [] → (i : ℕ) → Contains old i → Contains new i
 listed_kept k old new is i was = subst (λ (l : List ℕ). Contains l i) (sym is) (Contains-append_left old (k ∷ []) i was)
 
