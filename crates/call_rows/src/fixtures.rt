@@ -101,9 +101,7 @@ pub(crate) fn string_of(alloc: Global, text: &str) -> Option<String> {
 fn strings_of(alloc: Global, texts: &[&str]) -> Option<Vec<String>> {
     let mut strings = Vec::new(alloc);
     for text in texts {
-        let Some(string) = string_of(alloc, text) else {
-            return None;
-        };
+        let string = string_of(alloc, text)?;
         let Ok(()) = strings.push(string) else {
             return None;
         };
@@ -120,9 +118,7 @@ pub(crate) fn set_of(
     let Ok(code_points) = CodePointInversionList::try_from_inversion_list(alloc, list) else {
         return None;
     };
-    let Some(strings) = strings_of(alloc, texts) else {
-        return None;
-    };
+    let strings = strings_of(alloc, texts)?;
     CodePointInversionListAndStringList::try_from(code_points, strings).ok()
 }
 
@@ -150,9 +146,7 @@ pub(crate) fn set_of_numerals(
     let Ok(code_points) = CodePointInversionList::try_from_inversion_list(alloc, list) else {
         return None;
     };
-    let Some(strings) = numerals(alloc, start, end) else {
-        return None;
-    };
+    let strings = numerals(alloc, start, end)?;
     CodePointInversionListAndStringList::try_from(code_points, strings).ok()
 }
 

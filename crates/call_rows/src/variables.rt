@@ -102,23 +102,14 @@ fn insert<'a>(
     name: String,
     given: Given,
 ) -> Option<Result<(), InsertError<'a>>> {
-    match given {
-        Given::Value(s) => match string_value(alloc, s) {
-            Some(value) => Some(variables.insert(name, value)),
-            None => None,
-        },
-        Given::CharValue(c) => Some(variables.insert(name, VariableValue::Char(c))),
-        Given::Char(c) => Some(variables.insert_char(name, c)),
-        Given::String(s) => match string_of(alloc, s) {
-            Some(string) => Some(variables.insert_string(name, string)),
-            None => None,
-        },
-        Given::Str(s) => Some(variables.insert_str(name, s)),
-        Given::Letters => match letters(alloc) {
-            Some(set) => Some(variables.insert_set(name, set)),
-            None => None,
-        },
-    }
+    Some(match given {
+        Given::Value(s) => variables.insert(name, string_value(alloc, s)?),
+        Given::CharValue(c) => variables.insert(name, VariableValue::Char(c)),
+        Given::Char(c) => variables.insert_char(name, c),
+        Given::String(s) => variables.insert_string(name, string_of(alloc, s)?),
+        Given::Str(s) => variables.insert_str(name, s),
+        Given::Letters => variables.insert_set(name, letters(alloc)?),
+    })
 }
 
 /// Inserts what is given. The answer is whether that ended as expected.
@@ -355,9 +346,7 @@ fn copied(
 /// The same of a copy of that value.
 fn copied_of(alloc: Global, expected: Kept) -> Option<(bool, bool)> {
     let letters = letters(alloc)?;
-    let Some(value) = value_of(alloc, expected) else {
-        return None;
-    };
+    let value = value_of(alloc, expected)?;
     copied(alloc, &value, expected, &letters)
 }
 

@@ -1,12 +1,13 @@
 //! Terms over sets whose strings have numbers, and the numbers themselves.
-ghost use Rattle.std.specs.Prelude.{IfSome};
+ghost use Rattle.std.specs.Prelude.{All, IfSome};
+ghost use Rattle.cp_strset_terms.specs.Leaves.{FitsNumbers};
 ghost use Rattle.cp_strset_terms.specs.Numbers.{AreNumbersOf, KeepsNumbers};
 
 use crate::fixtures::assert_equal;
 use cp_invlist::CodePointInversionListBuilder;
 use cp_strset::CodePointInversionListAndStringList;
 use cp_strset_terms::{Leaf, NumberSet, Step, StringNumbers, Way, evaluate};
-use std::alloc::{AllocError, Global};
+use std::alloc::Global;
 
 /// The strings `s` with a number behind, so many from the first on, each two further.
 struct Strings {
@@ -125,27 +126,32 @@ fn set_of(alloc: Global, strings: Vec<String>) -> Option<CodePointInversionListA
 }
 
 /// Copies of the texts.
-fn copies(alloc: Global, texts: &[&str]) -> Result<Vec<String>, AllocError> {
+fn copies(alloc: Global, texts: &[&str]) -> Option<Vec<String>> {
     let mut strings = Vec::new(alloc);
     for text in texts {
-        strings.push(String::from_str(alloc, text)?)?;
+        strings.push(String::from_str(alloc, text).ok()?).ok()?;
     }
-    Ok(strings)
+    Some(strings)
 }
 
 /// The strings one behind another.
-fn listed(alloc: Global, strings: &Strings) -> Result<Vec<String>, AllocError> {
+fn listed(alloc: Global, strings: &Strings) -> Option<Vec<String>> {
     let mut list = Vec::new(alloc);
     for index in 0..strings.count {
         let number = strings.first.saturating_add(index.saturating_mul(2));
-        list.push(format!(in alloc; "s{number}")?)?;
+        let Ok(string) = format!(in alloc; "s{number}") else {
+            return None;
+        };
+        let Ok(()) = list.push(string) else {
+            return None;
+        };
     }
-    Ok(list)
+    Some(list)
 }
 
 /// The set of the strings.
 fn set(alloc: Global, strings: &Strings) -> Option<CodePointInversionListAndStringList> {
-    set_of(alloc, listed(alloc, strings).ok()?)
+    set_of(alloc, listed(alloc, strings)?)
 }
 
 /// The numbers of the strings of the set, each of which has one from now on.
@@ -160,12 +166,46 @@ fn numbers(
     all.number(alloc, set).ok()
 }
 
-/// The set that the steps make of the leaves.
-fn evaluated(alloc: Global, steps: &[Step]) -> Option<CodePointInversionListAndStringList> {
+/// Whether the steps make the set of the strings of the leaves.
+fn is_evaluated(
+    alloc: Global,
+    all: &StringNumbers,
+    leaves: &[Leaf<'_>],
+    steps: &[Step],
+    texts: &[&str],
+) -> bool
+    requires { All (FitsNumbers all.now) leaves.now }
+{
+    let Ok(found) = evaluate(alloc, all, leaves, steps) else {
+        return false;
+    };
+    let Some(strings) = copies(alloc, texts) else {
+        return false;
+    };
+    match set_of(alloc, strings) {
+        Some(expected) => found == expected,
+        None => false,
+    }
+}
+
+/// The first row that doesn't hold of the leaves.
+fn first_wrong(alloc: Global, all: &StringNumbers, leaves: &[Leaf<'_>]) -> Option<usize>
+    requires { All (FitsNumbers all.now) leaves.now }
+{
+    for (index, (steps, texts)) in ROWS.iter().enumerate() {
+        if !is_evaluated(alloc, all, leaves, steps, texts) {
+            return Some(index);
+        }
+    }
+    None
+}
+
+/// The first row that doesn't hold, if memory is left for the leaves.
+fn first_wrong_row(alloc: Global) -> Option<Option<usize>> {
     let (odd, even) = (set(alloc, &ODD)?, set(alloc, &EVEN)?);
     let (but_the_last, few) = (
         set(alloc, &EVEN_BUT_THE_LAST)?,
-        set_of(alloc, copies(alloc, FEW).ok()?)?,
+        set_of(alloc, copies(alloc, FEW)?)?,
     );
     let mut all = StringNumbers::new(alloc);
     let of_odd = numbers(alloc, &mut all, &odd)?;
@@ -178,29 +218,12 @@ fn evaluated(alloc: Global, steps: &[Step]) -> Option<CodePointInversionListAndS
         Leaf::WithStrings(&few),
         Leaf::WithStrings(&odd),
     ];
-    evaluate(alloc, &all, &leaves, steps).ok()
-}
-
-/// Whether the steps make the set of the strings.
-fn is_evaluated(alloc: Global, steps: &[Step], texts: &[&str]) -> Option<bool> {
-    let found = evaluated(alloc, steps)?;
-    let expected = set_of(alloc, copies(alloc, texts).ok()?)?;
-    Some(found == expected)
-}
-
-/// The first row that doesn't hold.
-fn first_wrong(alloc: Global) -> Option<usize> {
-    for (index, (steps, texts)) in ROWS.iter().enumerate() {
-        if is_evaluated(alloc, steps, texts) != Some(true) {
-            return Some(index);
-        }
-    }
-    None
+    Some(first_wrong(alloc, &all, &leaves))
 }
 
 #[test]
 fn terms_over_numbers_are_evaluated(rt: HostRuntime) {
-    assert_equal(&rt, first_wrong(rt.alloc()), None);
+    assert_equal(&rt, first_wrong_row(rt.alloc()), Some(None));
 }
 
 /// What was told of the numbers of a set.
@@ -228,13 +251,16 @@ fn count_known(all: &StringNumbers, numbers: &NumberSet, strings: &[String]) -> 
 /// More numbers than the rows give.
 const MORE_THAN_ALL: usize = 1000;
 
-/// What is told of the even strings but the last behind the odd ones.
-fn numbered_behind(alloc: Global) -> Option<Told> {
-    let (odd, even) = (set(alloc, &ODD)?, set(alloc, &EVEN_BUT_THE_LAST)?);
+/// What is told of the even strings behind the odd ones.
+fn told_behind(
+    alloc: Global,
+    odd: &CodePointInversionListAndStringList,
+    even: &CodePointInversionListAndStringList,
+) -> Option<Told> {
     let mut all = StringNumbers::new(alloc);
-    numbers(alloc, &mut all, &odd)?;
-    let first = numbers(alloc, &mut all, &even)?;
-    let again = numbers(alloc, &mut all, &even)?;
+    numbers(alloc, &mut all, odd)?;
+    let first = numbers(alloc, &mut all, even)?;
+    let again = numbers(alloc, &mut all, even)?;
     Some(Told {
         count: (0..MORE_THAN_ALL)
             .filter(|number| first.contains(*number))
@@ -242,6 +268,12 @@ fn numbered_behind(alloc: Global) -> Option<Told> {
         known: count_known(&all, &first, even.strings()),
         is_same: (0..MORE_THAN_ALL).all(|number| first.contains(number) == again.contains(number)),
     })
+}
+
+/// What is told of the even strings but the last behind the odd ones.
+fn numbered_behind(alloc: Global) -> Option<Told> {
+    let (odd, even) = (set(alloc, &ODD)?, set(alloc, &EVEN_BUT_THE_LAST)?);
+    told_behind(alloc, &odd, &even)
 }
 
 #[test]
@@ -284,22 +316,42 @@ fn has_strings(set: &CodePointInversionListAndStringList, expected: (&str, &str,
     }
 }
 
+/// Whether the steps make a set with these strings of the leaves.
+fn makes(
+    alloc: Global,
+    all: &StringNumbers,
+    leaves: &[Leaf<'_>],
+    steps: &[Step],
+    expected: (&str, &str, usize),
+) -> bool
+    requires { All (FitsNumbers all.now) leaves.now }
+{
+    match evaluate(alloc, all, leaves, steps) {
+        Ok(set) => has_strings(&set, expected),
+        Err(_) => false,
+    }
+}
+
+/// The steps of what both sets have, and of what the second alone has.
+const BOTH: &[Step] = &[Step::Push(0), Step::Push(1), Step::Both(Way::Retain)];
+
+const SECOND_ALONE: &[Step] = &[Step::Push(1), Step::Push(0), Step::Both(Way::Remove)];
+
 /// Whether the strings past the first 1,114,112 have numbers, and terms over them the strings that they should.
 fn are_numbered_on(alloc: Global) -> Option<bool> {
     let (many, some) = (set(alloc, &MANY)?, set(alloc, &SOME_OF_THEM)?);
     let mut all = StringNumbers::new(alloc);
     let of_many = numbers(alloc, &mut all, &many)?;
     let of_some = numbers(alloc, &mut all, &some)?;
-    let known = count_known(&all, &of_many, many.strings());
     let leaves = [
         Leaf::Numbered(&many, &of_many),
         Leaf::Numbered(&some, &of_some),
     ];
-    let both = [Step::Push(0), Step::Push(1), Step::Both(Way::Retain)];
-    let others = [Step::Push(1), Step::Push(0), Step::Both(Way::Remove)];
-    let both = evaluate(alloc, &all, &leaves, &both).ok()?;
-    let others = evaluate(alloc, &all, &leaves, &others).ok()?;
-    Some(known == 0x11_0001 && has_strings(&both, SHARED) && has_strings(&others, OTHERS))
+    Some(
+        count_known(&all, &of_many, many.strings()) == 0x11_0001
+            && makes(alloc, &all, &leaves, BOTH, SHARED)
+            && makes(alloc, &all, &leaves, SECOND_ALONE, OTHERS),
+    )
 }
 
 #[test]

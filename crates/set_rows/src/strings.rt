@@ -29,9 +29,7 @@ fn set_of(
     let Ok(letters) = CodePointInversionList::try_from_inversion_list(alloc, LETTERS) else {
         return None;
     };
-    let Some(strings) = strings(alloc, texts) else {
-        return None;
-    };
+    let strings = strings(alloc, texts)?;
     Some(CodePointInversionListAndStringList::try_from(letters, strings))
 }
 
@@ -232,9 +230,7 @@ fn change_strings(change: Change, alloc: Global, strings: &mut Strings) -> bool 
 
 /// The letters with what the change makes of the empty string, `ab` and `cd`.
 fn changed(alloc: Global, change: Change) -> Option<CodePointInversionListAndStringList> {
-    let Some(mut strings) = gathered(alloc, &["", "ab", "cd"]) else {
-        return None;
-    };
+    let mut strings = gathered(alloc, &["", "ab", "cd"])?;
     if !change_strings(change, alloc, &mut strings) {
         return None;
     }
