@@ -9,6 +9,7 @@ pub mod Once
 pub mod GeneratedPatterns
 pub mod Existence
 pub mod RunLemmas
+mod WordsLemmas
 pub mod GeneratedLemmas
 pub mod Complete
 mod LeftLemmas
