@@ -13,6 +13,7 @@ ends_unread wanted result (inl h) plain = ap is_read_fault h ∙ plain
 ends_unread wanted result (inr (inl h)) plain = ap is_read_fault h
 ends_unread wanted result (inr (inr h)) plain = ap is_read_fault h
 
+-- so it is not the status of one
 pub no_read_fault : (result : Status) → is_read_fault result ≡ false → result ≡ ReadFault → ⊥
 no_read_fault result plain is = false≢true (sym plain ∙ ap is_read_fault is)
 
