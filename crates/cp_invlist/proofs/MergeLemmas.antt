@@ -136,15 +136,6 @@ turned : (e : Bool) → differ (not e) true ≡ e
 turned true = refl
 turned false = refl
 
-kept_parity : (e b : Bool) → not e ≡ b → differ e b ≡ true
-kept_parity true b h = ap not (sym h)
-kept_parity false b h = sym h
-
-turned_parity : (e b : Bool) → not e ≡ not b → differ e b ≡ false
-turned_parity true b h = sym h
-turned_parity false true h = h
-turned_parity false false h = refl
-
 -- what the merged list has up to the next element of either list
 pub record Between (first second : List ℕ) (a b a' b' : Bool) (n x : ℕ) : Type 0 where
   pub low : n ≤ x

@@ -1,11 +1,13 @@
 -- What operations on words do to their bits.
-use Rattle.std.proofs.Common.{◌≡◌, ℕ, zero, suc, ◌+◌, ◌*◌, ◌-◌, ◌^◌, ◌%◌, ◌<◌, true, not, ◌==◌, nat_le, refl, sym, ap, ◌∙◌, arith, inl, inr}
+use Rattle.std.proofs.Common.{◌≡◌, ℕ, zero, suc, ◌+◌, ◌*◌, ◌-◌, ◌^◌, ◌%◌, ◌<◌, true, not, ◌==◌, nat_le, List, [], ◌∷◌, ◌++◌, length, length-append, get_or, subst, refl, sym, ap, ◌∙◌, arith, inl, inr}
 use Rattle.std.specs.Int.{bit_at}
 use Rattle.std.specs.Int.RustNames.{bit_xor}
 use Rattle.std.proofs.lemmas.Bool.{cases_lt, le-leb, lt-leb}
+use Rattle.std.proofs.lemmas.List.{get_or_append_left, get_or_push}
+use Rattle.std.proofs.lemmas.Option.{get_or_from_slice_get, slice_get-get_or, slice_get_within}
 use Rattle.std.proofs.lemmas.Nat.Bits.{bit_at_xor, bit_at_ones, bit_at-lt, bit_at_mask_inside, bit_at_mask_below, ones_shl}
 use Rattle.cp_invlist.specs.InversionList.{differ}
-use Rattle.cp_invlist.specs.Words.{has_bit}
+use Rattle.cp_invlist.specs.Words.{has_bit, AreWords, IsWord}
 
 turned_of : (x : ℕ) → x < 2 → ((x + 1) % 2 == 1) ≡ not (x == 1)
 turned_of zero hx = refl
@@ -35,3 +37,15 @@ has_bit-turned a k j hk hj =
 
 pub has_bit-ones : (j : ℕ) → j < 64 → has_bit 18446744073709551615 j ≡ true
 has_bit-ones j hj = ap (λ n. n == 1) (bit_at_ones 64 j hj)
+
+-- a word more, of the 64 numbers behind those of the others
+pub words_more : (xs words : List ℕ) (word index : ℕ) → length words ≡ index → AreWords xs words → IsWord xs (64 * index) word → AreWords xs (words ++ word ∷ [])
+words_more xs words word index sized all last i w at =
+    let within : i < length (words ++ word ∷ []) = slice_get_within (words ++ word ∷ []) i w at in
+    let is : get_or (words ++ word ∷ []) i 0 ≡ w = get_or_from_slice_get (words ++ word ∷ []) i w 0 at in
+    elim (cases_lt i (length words)) [
+      | inl below ↦ subst (IsWord xs (64 * i)) (sym (get_or_append_left words (word ∷ []) 0 i below) ∙ is) (all i (get_or words i 0) (slice_get-get_or words i 0 below))
+      | inr behind ↦
+          let same : length words ≡ i = omega (arith, behind, within, length-append words (word ∷ [])) in
+          subst (IsWord xs (64 * i)) (sym (get_or_push words word 0 i same) ∙ is) (subst (λ k. IsWord xs (64 * k) word) (sym sized ∙ same) last)
+    ]

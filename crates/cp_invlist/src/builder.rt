@@ -214,7 +214,7 @@ impl CodePointInversionListBuilder {
     /// The set that was built.
     pub fn build(self) -> CodePointInversionList
         ensures list { result ≡ self }
-        ensures canonical { IsInversionList self }
+        ensures canonical { IsInversionList result }
     {
         CodePointInversionList::from_elements(self.elements)
     }
