@@ -1,5 +1,5 @@
 -- Sets in the making that put a step off.
-use Rattle.std.proofs.Common.{◌≡◌, Bool, false, ◌||◌, is_some, Option, Some, None, Result, Ok, Err, OnOk, IfNone, Box, refl, sym, ap, ◌∙◌, subst}
+use Rattle.std.proofs.Common.{◌≡◌, Bool, false, ◌||◌, Option, Some, None, Result, Ok, Err, OnOk, IfNone, Box, refl, sym, ap, ◌∙◌, subst}
 use Rattle.std.specs.Global.{Global}
 use Rattle.uset_grammar.specs.Tree.{Member}
 use Rattle.uset_gather.specs.Gathered.{gathered_in}
@@ -79,11 +79,6 @@ put_off_named sets operation set old new before after was is fits g = record {
   has = λ m. is m ∙ (g.members m (gathered_in old.gathered m) ∙ ap (operated operation (set m)) (sym (was m (gathered_in old.gathered m))));
   fits = fits g.fits;
 }
-
--- nothing was put off
-pub none_behind : (sets : Sets) (o : Option (Box Later Global)) → is_some o ≡ false → (m : Member) (b : Bool) → behind sets o m b ≡ b
-none_behind sets None h m b = refl
-none_behind sets (Some later) h m b = absurd (let e = h in cc)
 
 -- a set was gathered behind what was settled
 pub then_with : (sets : Sets) (operation : Operation) (set : Member → Bool) (old between new : Gathering) → BecomesWith sets between (gathering_in sets old) → BecomesWith sets new (λ m. operated operation (set m) (gathering_in sets between m)) →
