@@ -1,4 +1,7 @@
 //! What tests of several subjects share.
+use cp_invlist::CodePointInversionList;
+use cp_strset::{CodePointInversionListAndStringList, StringListError};
+use std::alloc::{AllocError, Global};
 use std::fmt;
 use std::process::Abort;
 
@@ -20,4 +23,37 @@ pub(crate) fn assert_equal<T: PartialEq + fmt::Debug + Drop>(
     expected: T,
 ) {
     assert_eq!(rt; found, expected);
+}
+
+/// Copies of the texts.
+fn strings(alloc: Global, texts: &[&str]) -> Result<Vec<String>, AllocError> {
+    let mut strings = Vec::new(alloc);
+    for text in texts {
+        strings.push(String::from_str(alloc, text)?)?;
+    }
+    Ok(strings)
+}
+
+/// What becomes of the inversion list with these strings.
+pub(crate) fn try_set_of(
+    alloc: Global,
+    list: &[u32],
+    texts: &[&str],
+) -> Option<Result<CodePointInversionListAndStringList, StringListError>> {
+    let Ok(list) = CodePointInversionList::try_from_inversion_list(alloc, list) else {
+        return None;
+    };
+    let Ok(strings) = strings(alloc, texts) else {
+        return None;
+    };
+    Some(CodePointInversionListAndStringList::try_from(list, strings))
+}
+
+/// The set of the inversion list and of the strings.
+pub(crate) fn set_of(
+    alloc: Global,
+    list: &[u32],
+    texts: &[&str],
+) -> Option<CodePointInversionListAndStringList> {
+    try_set_of(alloc, list, texts)?.ok()
 }

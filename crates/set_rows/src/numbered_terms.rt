@@ -3,7 +3,7 @@ ghost use Rattle.std.specs.Prelude.{All, IfSome};
 ghost use Rattle.cp_strset_terms.specs.Leaves.{FitsNumbers};
 ghost use Rattle.cp_strset_terms.specs.Numbers.{AreNumbersOf, KeepsNumbers};
 
-use crate::fixtures::assert_equal;
+use crate::fixtures::{assert_equal, set_of};
 use cp_invlist::CodePointInversionListBuilder;
 use cp_strset::CodePointInversionListAndStringList;
 use cp_strset_terms::{Leaf, NumberSet, Step, StringNumbers, Way, evaluate};
@@ -119,21 +119,6 @@ const ROWS: &[(&[Step], &[&str])] = &[
     ),
 ];
 
-/// The set of these strings, which has no code points.
-fn set_of(alloc: Global, strings: Vec<String>) -> Option<CodePointInversionListAndStringList> {
-    let none = CodePointInversionListBuilder::new(alloc).build();
-    CodePointInversionListAndStringList::try_from(none, strings).ok()
-}
-
-/// Copies of the texts.
-fn copies(alloc: Global, texts: &[&str]) -> Option<Vec<String>> {
-    let mut strings = Vec::new(alloc);
-    for text in texts {
-        strings.push(String::from_str(alloc, text).ok()?).ok()?;
-    }
-    Some(strings)
-}
-
 /// The strings one behind another.
 fn listed(alloc: Global, strings: &Strings) -> Option<Vec<String>> {
     let mut list = Vec::new(alloc);
@@ -149,9 +134,11 @@ fn listed(alloc: Global, strings: &Strings) -> Option<Vec<String>> {
     Some(list)
 }
 
-/// The set of the strings.
+/// The set of the strings, which has no code points.
 fn set(alloc: Global, strings: &Strings) -> Option<CodePointInversionListAndStringList> {
-    set_of(alloc, listed(alloc, strings)?)
+    let strings = listed(alloc, strings)?;
+    let none = CodePointInversionListBuilder::new(alloc).build();
+    CodePointInversionListAndStringList::try_from(none, strings).ok()
 }
 
 /// The numbers of the strings of the set, each of which has one from now on.
@@ -179,10 +166,7 @@ fn is_evaluated(
     let Ok(found) = evaluate(alloc, all, leaves, steps) else {
         return false;
     };
-    let Some(strings) = copies(alloc, texts) else {
-        return false;
-    };
-    match set_of(alloc, strings) {
+    match set_of(alloc, &[], texts) {
         Some(expected) => found == expected,
         None => false,
     }
@@ -203,10 +187,7 @@ fn first_wrong(alloc: Global, all: &StringNumbers, leaves: &[Leaf<'_>]) -> Optio
 /// The first row that doesn't hold, if memory is left for the leaves.
 fn first_wrong_row(alloc: Global) -> Option<Option<usize>> {
     let (odd, even) = (set(alloc, &ODD)?, set(alloc, &EVEN)?);
-    let (but_the_last, few) = (
-        set(alloc, &EVEN_BUT_THE_LAST)?,
-        set_of(alloc, copies(alloc, FEW)?)?,
-    );
+    let (but_the_last, few) = (set(alloc, &EVEN_BUT_THE_LAST)?, set_of(alloc, &[], FEW)?);
     let mut all = StringNumbers::new(alloc);
     let of_odd = numbers(alloc, &mut all, &odd)?;
     let of_even = numbers(alloc, &mut all, &even)?;

@@ -2,7 +2,7 @@
 ghost use Rattle.std.specs.Prelude.{ℕ, All, List, IfOk};
 ghost use Rattle.cp_strset_terms.specs.Leaves.{FitsNumbers};
 
-use crate::fixtures::assert_equal;
+use crate::fixtures::{assert_equal, set_of};
 use cp_invlist::CodePointInversionList;
 use cp_strset::CodePointInversionListAndStringList;
 use cp_strset_terms::{Leaf, Step, StringNumbers, Way, evaluate};
@@ -333,25 +333,6 @@ const ROWS: &[(&[Step], &[u32], &[&str])] = &[
         MANY,
     ),
 ];
-
-fn strings(alloc: Global, texts: &[&str]) -> Result<Vec<String>, AllocError> {
-    let mut strings = Vec::new(alloc);
-    for text in texts {
-        strings.push(String::from_str(alloc, text)?)?;
-    }
-    Ok(strings)
-}
-
-/// The set of the list and of the strings.
-fn set_of(
-    alloc: Global,
-    list: &[u32],
-    texts: &[&str],
-) -> Option<CodePointInversionListAndStringList> {
-    let list = CodePointInversionList::try_from_inversion_list(alloc, list).ok()?;
-    let strings = strings(alloc, texts).ok()?;
-    CodePointInversionListAndStringList::try_from(list, strings).ok()
-}
 
 /// The sets of the leaves with strings.
 fn sets(alloc: Global) -> Option<Vec<CodePointInversionListAndStringList>> {

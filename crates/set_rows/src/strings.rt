@@ -1,5 +1,5 @@
 //! Sets of code points together with strings.
-use crate::fixtures::{Operation, assert_equal};
+use crate::fixtures::{Operation, assert_equal, set_of, try_set_of};
 use cp_invlist::CodePointInversionList;
 use cp_strset::laws::{faultless, one_list};
 use cp_strset::{CodePointInversionListAndStringList, StringListError, Strings};
@@ -7,31 +7,6 @@ use std::alloc::Global;
 
 /// The hyphen and the letters `a` to `c`, as an inversion list.
 const LETTERS: &[u32] = &[0x2D, 0x2E, 0x61, 0x64];
-
-fn strings(alloc: Global, texts: &[&str]) -> Option<Vec<String>> {
-    let mut strings = Vec::new(alloc);
-    for text in texts {
-        let Ok(string) = String::from_str(alloc, text) else {
-            return None;
-        };
-        let Ok(()) = strings.push(string) else {
-            return None;
-        };
-    }
-    Some(strings)
-}
-
-/// What becomes of the letters with these strings.
-fn set_of(
-    alloc: Global,
-    texts: &[&str],
-) -> Option<Result<CodePointInversionListAndStringList, StringListError>> {
-    let Ok(letters) = CodePointInversionList::try_from_inversion_list(alloc, LETTERS) else {
-        return None;
-    };
-    let strings = strings(alloc, texts)?;
-    Some(CodePointInversionListAndStringList::try_from(letters, strings))
-}
 
 /// What is expected of a set.
 #[derive(Clone, Copy)]
@@ -114,9 +89,7 @@ fn first_wrong(
 
 /// The index of the first row that does not hold of the letters with two strings.
 fn first_wrong_of_two_strings(alloc: Global, rows: &[Expected]) -> Option<Option<usize>> {
-    let Some(Ok(set)) = set_of(alloc, &["", "ab"]) else {
-        return None;
-    };
+    let set = set_of(alloc, LETTERS, &["", "ab"])?;
     Some(first_wrong(alloc, &set, rows))
 }
 
@@ -150,7 +123,7 @@ const FAULTY: &[(&[&str], StringListError)] = &[
 
 /// Why the letters with these strings are refused, if they are.
 fn refusal(alloc: Global, texts: &[&str]) -> Option<StringListError> {
-    set_of(alloc, texts)?.err()
+    try_set_of(alloc, LETTERS, texts)?.err()
 }
 
 #[test]
@@ -181,9 +154,7 @@ const CHANGES: &[(Change, &[&str])] = &[
 
 /// The strings of a list in the making.
 fn gathered(alloc: Global, texts: &[&str]) -> Option<Strings> {
-    let Some(Ok(set)) = set_of(alloc, texts) else {
-        return None;
-    };
+    let set = set_of(alloc, LETTERS, texts)?;
     let mut gathered = Strings::new(alloc);
     let Ok(()) = gathered.insert_copies(alloc, &set) else {
         return None;
@@ -209,7 +180,7 @@ fn combine_with_gathered(operation: Operation, alloc: Global, strings: &mut Stri
 
 /// Combines the strings with those of a set, and tells whether memory was left.
 fn combine_with_listed(operation: Operation, alloc: Global, strings: &mut Strings) -> bool {
-    let Some(Ok(given)) = set_of(alloc, GIVEN) else {
+    let Some(given) = set_of(alloc, LETTERS, GIVEN) else {
         return false;
     };
     match operation {
@@ -242,7 +213,7 @@ fn changed(alloc: Global, change: Change) -> Option<CodePointInversionListAndStr
 
 /// Whether memory is left, and the set of the letters and of the changed strings is that of the letters and these strings.
 fn is_changed(alloc: Global, change: Change, expected: &[&str]) -> bool {
-    let Some(Ok(expected)) = set_of(alloc, expected) else {
+    let Some(expected) = set_of(alloc, LETTERS, expected) else {
         return false;
     };
     let Some(set) = changed(alloc, change) else {
