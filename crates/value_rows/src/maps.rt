@@ -1,7 +1,7 @@
 //! Tests of maps.
 mod converted;
 mod errors;
-mod fixtures;
+pub(crate) mod fixtures;
 mod numbers;
 mod pages;
 mod runs;

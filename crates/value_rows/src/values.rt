@@ -2,8 +2,8 @@
 use crate::fixtures::{
     assert_equal, assert_facts, assert_last, assert_names, assert_pairs, assert_unpacks,
 };
-use cp_invlist::CodePointRange;
-use cp_trie::{CodePointMapRange, CodePointTrie, ConvertError, TrieValue};
+use crate::maps::fixtures::map_of;
+use cp_trie::{CodePointTrie, ConvertError, TrieError, TrieValue};
 use prop_values::{
     BidiClass, BidiMirroringGlyph, BidiPairedBracketType, GeneralCategory, GeneralCategoryGroup,
     GeneralCategoryOutOfBoundsError, HangulSyllableType, MapTable, NamesTable, Script,
@@ -296,18 +296,9 @@ fn subtags_are_brought_to_their_case(rt: HostRuntime) {
     }
 }
 
-fn letters(alloc: Global, letter: u8) -> Result<CodePointTrie<u8>, Fail> {
-    let run = |start, end, value| CodePointMapRange {
-        range: CodePointRange { start, end },
-        value,
-    };
-    let runs = [
-        run(0, 0x40, 0),
-        run(0x41, 0x5A, letter),
-        run(0x5B, 0x10_FFFF, 0),
-    ];
-    let runs = Vec::from_array(alloc, runs)?;
-    Ok(CodePointTrie::try_from_runs(alloc, runs, 0)?)
+/// The map in which `A` to `Z` have this value.
+fn letters(alloc: Global, letter: u8) -> Result<CodePointTrie<u8>, TrieError> {
+    map_of(alloc, &[(0, 0), (0x41, letter), (0x5B, 0)], 0)
 }
 
 #[test]
