@@ -2,7 +2,7 @@
 use crate::fixtures::{Operation, assert_equal, set_of, try_set_of};
 use cp_invlist::CodePointInversionList;
 use cp_strset::laws::{faultless, one_list};
-use cp_strset::{CodePointInversionListAndStringList, StringListError, Strings};
+use cp_strset::{CodePointInversionListAndStringList, StringListError, Strings, sole_char};
 use std::alloc::Global;
 
 /// The hyphen and the letters `a` to `c`, as an inversion list.
@@ -133,13 +133,15 @@ fn the_first_faulty_string_is_named(rt: HostRuntime) {
     }
 }
 
-/// What strings are combined with.
+/// How strings are changed.
 #[derive(Clone, Copy)]
 enum Change {
-    /// With a list in the making.
+    /// They are combined with a list in the making.
     Gathered(Operation),
-    /// With the strings of a set.
+    /// They are combined with the strings of a set.
     Listed(Operation),
+    /// This text is added, which isn't one character.
+    Inserted(&'static str),
 }
 
 /// What each makes of the empty string, `ab` and `cd`, where `ab` and `ef` are given.
@@ -150,6 +152,7 @@ const CHANGES: &[(Change, &[&str])] = &[
     (Change::Listed(Operation::Add), &["", "ab", "cd", "ef"]),
     (Change::Listed(Operation::Remove), &["", "cd"]),
     (Change::Listed(Operation::Retain), &["ab"]),
+    (Change::Inserted("bc"), &["", "ab", "bc", "cd"]),
 ];
 
 /// The strings of a list in the making.
@@ -191,11 +194,23 @@ fn combine_with_listed(operation: Operation, alloc: Global, strings: &mut String
     true
 }
 
+/// Adds the text, and tells whether memory was left and the text isn't one character.
+fn insert(text: &str, alloc: Global, strings: &mut Strings) -> bool {
+    let Ok(text) = String::from_str(alloc, text) else {
+        return false;
+    };
+    match sole_char(&text) {
+        None => strings.insert(text).is_ok(),
+        Some(_) => false,
+    }
+}
+
 /// Changes the strings, and tells whether memory was left.
 fn change_strings(change: Change, alloc: Global, strings: &mut Strings) -> bool {
     match change {
         Change::Gathered(operation) => combine_with_gathered(operation, alloc, strings),
         Change::Listed(operation) => combine_with_listed(operation, alloc, strings),
+        Change::Inserted(text) => insert(text, alloc, strings),
     }
 }
 
