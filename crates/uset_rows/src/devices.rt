@@ -1,5 +1,5 @@
 //! Tests of the sources and sinks, and of the numbers of the statuses.
-use crate::fixtures::assert_equal;
+use crate::fixtures::{SYNTAX, assert_equal, eval};
 use std::alloc::{AllocError, Global};
 use std::io::{self, Cursor, Error, ErrorKind, Read, Write};
 use uset_tool::{
@@ -8,18 +8,13 @@ use uset_tool::{
 };
 
 /// The tables of the pattern syntax, for ASCII, and a pattern.
-const INPUT: &[u8] =
-    b"set XID_Start\n41-5A\n61-7A\nset XID_Continue\n30-39\n41-5A\n5F\n61-7A\nset Pattern_White_Space\n9-D\n20\nend\npat [a-z0]\n";
+fn input(alloc: Global) -> Result<Vec<u8>, AllocError> {
+    let input = format!(in alloc; "{SYNTAX}end\npat [a-z0]\n")?;
+    Ok(input.into_bytes())
+}
 
 /// The answer to the pattern.
 const ANSWER: &[u8] = b"ok 6 0030 0061-007A\n";
-
-/// The word `eval`.
-fn words(alloc: Global) -> Result<Vec<String>, AllocError> {
-    let mut words = Vec::new(alloc);
-    words.push(String::from_str(alloc, "eval")?)?;
-    Ok(words)
-}
 
 /// A reader that gives one byte at its first call, and fails at its second.
 #[derive(Drop)]
@@ -78,8 +73,8 @@ impl Write for PoorWriter<'_> {
 /// Runs the program on the pattern, with such a writer. The answer is the status, how many faults of the sink were counted, and
 /// what was written.
 fn run_onto(alloc: Global, takes: Takes) -> Result<(Status, u64, Vec<u8>), AllocError> {
-    let words = words(alloc)?;
-    let mut source = SureSource::new(INPUT.to_vec(alloc)?);
+    let words = eval(alloc)?;
+    let mut source = SureSource::new(input(alloc)?);
     let mut bytes = Vec::new(alloc);
     let mut sink = StdSink::new(PoorWriter {
         bytes: &mut bytes,
@@ -102,7 +97,7 @@ fn end_onto(alloc: Global, takes: Takes, written: &[u8]) -> Result<End, AllocErr
 
 /// How a run ends whose reader fails, how many faults of the source were counted, and whether nothing was written.
 fn end_from_failing_reader(alloc: Global) -> Result<End, AllocError> {
-    let words = words(alloc)?;
+    let words = eval(alloc)?;
     let mut source = StdSource::new(FailingReader { calls: 0 });
     let mut sink = SureSink::new(alloc);
     let status = run(alloc, &words, &mut source, &mut sink);

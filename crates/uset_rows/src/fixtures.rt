@@ -100,6 +100,21 @@ pub(crate) fn assert_answers(rt: &impl Abort, alloc: Global, rows: &[(&str, &str
     }
 }
 
+/// Whether the pattern, behind the line that binds this name, is read whole, with these members.
+pub(crate) fn denotes(
+    alloc: Global,
+    line: &str,
+    name: &str,
+    pattern: &str,
+    members: &str,
+) -> Result<bool, AllocError> {
+    let length = pattern.len();
+    let lines = format!(in alloc; "{line}\npat {pattern}")?;
+    let space = if members.is_empty() { "" } else { " " };
+    let answer = format!(in alloc; "bound {name}\nok {length}{space}{members}\n")?;
+    have_answer(alloc, &lines, &answer, 0)
+}
+
 /// Whether the pattern, behind the bindings, is read with this length and these members.
 fn is_read(alloc: Global, pattern: &str, expected: &str) -> Result<bool, AllocError> {
     let lines = format!(in alloc; "{BINDINGS}pat {pattern}")?;

@@ -1,5 +1,5 @@
 //! Sets with so many strings that brackets which name them are terms.
-use crate::fixtures::{assert_holds, have_answer};
+use crate::fixtures::{assert_holds, denotes, have_answer};
 use std::alloc::{AllocError, Global};
 
 /// The line that binds a set of three letters and 64 strings.
@@ -41,19 +41,10 @@ const DENOTED: &[(&str, &str)] = &[
     ("[^[$w[:^L:]]]", "0041-005A 0064-007A"),
 ];
 
-/// Whether the pattern is read whole, with these members.
-fn denotes(alloc: Global, pattern: &str, members: &str) -> Result<bool, AllocError> {
-    let length = pattern.len();
-    let lines = format!(in alloc; "{HUGE}\npat {pattern}")?;
-    let space = if members.is_empty() { "" } else { " " };
-    let answer = format!(in alloc; "bound w\nok {length}{space}{members}\n")?;
-    have_answer(alloc, &lines, &answer, 0)
-}
-
 #[test]
 fn a_set_of_many_strings_counts_where_it_stands(rt: HostRuntime) {
     for (pattern, members) in DENOTED {
-        let holds = denotes(rt.alloc(), pattern, members);
+        let holds = denotes(rt.alloc(), HUGE, "w", pattern, members);
         assert_holds(&rt, holds, pattern, members);
     }
 }
@@ -62,7 +53,7 @@ fn a_set_of_many_strings_counts_where_it_stands(rt: HostRuntime) {
 fn denotes_in_front(alloc: Global, pattern: &str, members: &str) -> Result<bool, AllocError> {
     let empty = "[$w-$w]".repeat(alloc, 16)?;
     let long = format!(in alloc; "[{pattern}{empty}]")?;
-    denotes(alloc, &long, members)
+    denotes(alloc, HUGE, "w", &long, members)
 }
 
 #[test]
@@ -124,7 +115,7 @@ fn denotes_repeated(alloc: Global, row: &Repeated) -> Result<bool, AllocError> {
     let first = row.first.repeat(alloc, 1000)?;
     let second = row.second.repeat(alloc, 1000)?;
     let pattern = format!(in alloc; "{}{first}{}{second}{}", row.front, row.middle, row.end)?;
-    denotes(alloc, &pattern, row.members)
+    denotes(alloc, HUGE, "w", &pattern, row.members)
 }
 
 #[test]

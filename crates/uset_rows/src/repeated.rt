@@ -1,5 +1,5 @@
 //! Sets that are named again and again, in one bracket and in several.
-use crate::fixtures::{assert_holds, have_answer};
+use crate::fixtures::{assert_holds, denotes, have_answer};
 use std::alloc::{AllocError, Global};
 
 /// The line that binds a set of 32 ranges and a string, which is put off until its bracket closes.
@@ -54,19 +54,10 @@ const DENOTED: &[(&str, &str)] = &[
     ("[[\\P{L}]&[\\p{gc=L}]]", ""),
 ];
 
-/// Whether the pattern is read whole, with these members.
-fn denotes(alloc: Global, pattern: &str, members: &str) -> Result<bool, AllocError> {
-    let length = pattern.len();
-    let lines = format!(in alloc; "{LARGE}\npat {pattern}")?;
-    let space = if members.is_empty() { "" } else { " " };
-    let answer = format!(in alloc; "bound v\nok {length}{space}{members}\n")?;
-    have_answer(alloc, &lines, &answer, 0)
-}
-
 #[test]
 fn a_set_that_is_named_again_counts_where_it_stands(rt: HostRuntime) {
     for (pattern, members) in DENOTED {
-        let holds = denotes(rt.alloc(), pattern, members);
+        let holds = denotes(rt.alloc(), LARGE, "v", pattern, members);
         assert_holds(&rt, holds, pattern, members);
     }
 }
