@@ -2,7 +2,7 @@
 //! speak of.
 ghost use Rattle.std.specs.Prelude.{◌≡◌, ◌∷◌, [], map};
 ghost use Rattle.prop_values.specs.Groups.{packings};
-ghost use Rattle.prop_values.specs.Tables.{numbers_from, properties};
+ghost use Rattle.prop_values.specs.Tables.{default_number, numbers_from, properties};
 
 use crate::bidi::BidiClass;
 use crate::block::Block;
@@ -19,6 +19,7 @@ use crate::numeric::NumericType;
 use crate::property::EnumeratedProperty;
 use crate::script::{Script, ScriptWithExt};
 use crate::tables::NamesTable;
+use cp_trie::TrieValue;
 
 const NAMES_TABLES: [NamesTable; 18] = [
     NamesTable::BIDI_CLASS,
@@ -260,5 +261,30 @@ pub fn hangul_syllable_types() -> [HangulSyllableType; 8]
         HangulSyllableType::LVTSyllable,
         HangulSyllableType::LeadingVowelSyllable,
         HangulSyllableType::LeadingVowelTrailingSyllable,
+    ]
+}
+
+/// The numbers that the constants for defaults pack to, in the order of the tables.
+pub fn defaults() -> [u32; 17]
+    ensures { result ≡ map default_number (numbers_from 0 17) }
+{
+    [
+        BidiClass::LeftToRight.to_u32(),
+        Block::NoBlock.to_u32(),
+        NumericType::None.to_u32(),
+        GeneralCategory::Unassigned.to_u32(),
+        Script::Unknown.to_u32(),
+        HangulSyllableType::NotApplicable.to_u32(),
+        EastAsianWidth::Neutral.to_u32(),
+        LineBreak::Unknown.to_u32(),
+        GraphemeClusterBreak::Other.to_u32(),
+        WordBreak::Other.to_u32(),
+        SentenceBreak::Other.to_u32(),
+        CanonicalCombiningClass::NotReordered.to_u32(),
+        IndicConjunctBreak::None.to_u32(),
+        IndicSyllabicCategory::Other.to_u32(),
+        JoiningGroup::NoJoiningGroup.to_u32(),
+        JoiningType::NonJoining.to_u32(),
+        VerticalOrientation::Rotated.to_u32(),
     ]
 }
