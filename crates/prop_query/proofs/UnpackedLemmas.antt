@@ -1,10 +1,13 @@
 -- The map of the values that the numbers of a map unpack to.
-use Rattle.std.proofs.Common.{◌≡◌, ℕ, ◌+◌, ◌<◌, ◌≤◌, ◌^◌, true, false, cond, List, [], ◌∷◌, Option, Some, None, nat_eq, nat_lt, refl, sym, ap, ◌∙◌, inl, inr, arith}
+use Rattle.std.proofs.Common.{◌≡◌, ℕ, ◌+◌, ◌<◌, ◌≤◌, ◌^◌, true, false, ◌&&◌, ◌==◌, cond, List, [], ◌∷◌, Option, Some, None, Result, Err, nat_eq, nat_le, nat_lt, refl, sym, ap, ap₂, ◌∙◌, inl, inr, arith}
 use Rattle.std.specs.Prelude.{is_some}
 use Rattle.std.proofs.lemmas.Bool.{cases_lt, and_parts}
 use Rattle.std.proofs.lemmas.Bool.Decides.{nat_tests}
 use Rattle.cp_invlist.specs.Ranges.{in_range}
+use Rattle.cp_trie.specs.Faults.{fault_from, AnswersFault}
 use Rattle.cp_trie.specs.Runs.{value_in, AreRunsFrom}
+use Rattle.cp_trie.specs.declared.error.TrieError.{TrieError}
+use Rattle.cp_trie.specs.declared.error.TrieError.TheVariants.{Gap, Order, NoMemory}
 use Rattle.cp_trie.specs.declared.ranges.CodePointMapRange.{CodePointMapRange}
 use Rattle.prop_data.specs.Accepted.{AreAccepted}
 use Rattle.prop_data.specs.LineFault.{accepts_value}
@@ -56,3 +59,27 @@ pub unpacks : {V : Type 0} (unpacked : ℕ → Option V) (t : ℕ) → ((n : ℕ
 unpacks unpacked t law at accepted c =
     let parts = and_parts (nat_lt (at c) 0x1_0000_0000) (accepts t (at c)) (accepted c) in
     let small : at c < 2 ^ 32 = grind (arith, nat_tests, parts.0) in law (at c) small ∙ parts.1
+
+-- a run that is in order, with the value that its number unpacks to, before runs without a fault
+no_fault-run : {V : Type 0} (index n : ℕ) (r : CodePointMapRange ℕ) (o : Option V) (rs : List (CodePointMapRange V)) → is_some o ≡ true → r.range.start ≡ n → n ≤ r.range.end → r.range.end ≤ 0x10_FFFF →
+    fault_from (index + 1) (r.range.end + 1) rs ≡ None → fault_from index n (with_value r o rs) ≡ None
+no_fault-run index n r None rs some starts low high rest = cc
+no_fault-run index n r (Some v) rs some starts low high rest =
+    let here : (r.range.start == n) ≡ true = grind (arith, nat_tests, starts) in
+    let ordered : (nat_le r.range.start r.range.end && nat_le r.range.end 0x10_FFFF) ≡ true = grind (arith, nat_tests, starts, low, high) in
+    ap₂ (λ a b. cond a (cond b (fault_from (index + 1) (r.range.end + 1) rs) (Some (Order index))) (Some (Gap index))) here ordered ∙ rest
+
+-- the maximal runs of a map have no fault, with the values that their numbers unpack to
+no_fault-unpacked : {V : Type 0} (unpacked : ℕ → Option V) (at : ℕ → ℕ) (index n : ℕ) (rs : List (CodePointMapRange ℕ)) → AreRunsFrom nat_eq at n rs → ((k : ℕ) → is_some (unpacked (at k)) ≡ true) →
+    fault_from index n (unpacked_runs unpacked rs) ≡ None
+no_fault-unpacked unpacked at index n [] runs all =
+    let whole : (n == 0x11_0000) ≡ true = grind (arith, nat_tests, runs) in
+    ap (λ b. cond b None (Some (Gap index))) whole
+no_fault-unpacked unpacked at index n (r ∷ rs) runs all =
+    no_fault-run index n r (unpacked r.value) (unpacked_runs unpacked rs) (ap (λ k. is_some (unpacked k)) runs.3 ∙ all n) runs.0 runs.1 runs.2
+    (no_fault-unpacked unpacked at (index + 1) (r.range.end + 1) rs runs.6 all)
+
+-- of such runs no error is told but want of memory
+pub only_memory : {V M : Type 0} (unpacked : ℕ → Option V) (at : ℕ → ℕ) (rs : List (CodePointMapRange ℕ)) (given : List (CodePointMapRange V)) (result : Result M TrieError) (e : TrieError) →
+    AreRunsFrom nat_eq at 0 rs → ((k : ℕ) → is_some (unpacked (at k)) ≡ true) → given ≡ unpacked_runs unpacked rs → AnswersFault given result → result ≡ Err e → e ≡ NoMemory
+only_memory unpacked at rs given result e runs all same answers is = rw (same, no_fault-unpacked unpacked at 0 0 rs runs all, is) at answers

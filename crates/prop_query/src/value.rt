@@ -6,7 +6,7 @@ ghost use Rattle.prop_data.specs.LineFault.{accepts_value};
 ghost use Rattle.prop_query.specs.Unpacked.{unpacked_runs, AreRunsAccepted};
 
 use cp_invlist::NoMemory;
-use cp_trie::{CodePointMapRange, CodePointTrie, TrieRanges};
+use cp_trie::{CodePointMapRange, CodePointTrie, TrieError, TrieRanges};
 use prop_values::EnumeratedProperty;
 use std::alloc::{AllocError, Global};
 
@@ -35,8 +35,10 @@ pub(crate) fn values_of<T: EnumeratedProperty>(
     let runs = unpacked(alloc, numbers.iter_ranges())?;
     match CodePointTrie::try_from_runs(alloc, runs, T::default()) {
         Ok(map) => Ok(map),
-        // The runs cover the code points in order, so that nothing but memory can be wanting.
-        Err(_) => Err(NoMemory),
+        Err(TrieError::NoMemory) => Err(NoMemory),
+        // The runs cover the code points in order.
+        Err(TrieError::Gap { .. }) => unreachable!(),
+        Err(TrieError::Order { .. }) => unreachable!(),
     }
 }
 
