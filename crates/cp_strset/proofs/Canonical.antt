@@ -1,12 +1,12 @@
 -- A list of strings without a fault is canonical, and a binary search in it finds each of its strings.
 use Rattle.std.specs.Option.{option_or}
-use Rattle.std.proofs.Common.{◌≡◌, ◌≢◌, ℕ, suc, ◌+◌, ◌<◌, false, Option, Some, None, is_some, Result, Ok, Err, is_ok, List, [], ◌∷◌, length, map, get_or, All, refl, sym, ap, ◌∙◌, arith, nat_cmp, true≢false, inl, inr}
+use Rattle.std.proofs.Common.{◌≡◌, ◌≢◌, ℕ, suc, ◌<◌, false, Option, Some, None, is_some, Result, Ok, Err, is_ok, List, [], ◌∷◌, length, map, get_or, All, refl, sym, ap, ◌∙◌, arith, nat_cmp, true≢false, inl, inr}
 use Rattle.std.specs.declared.cmp.Ordering.{Ordering}
 use Rattle.std.specs.declared.cmp.Ordering.TheVariants.{Less, Equal, Greater}
 use Rattle.std.specs.Cmp.Lexicographic.{slice_cmp}
 use Rattle.std.specs.List.{list_any, AllPairs}
-use Rattle.std.specs.List.Sorted.{IsBinarySearchResult, IsSearchInRange, IsNonDecreasingBy}
-use Rattle.std.specs.Ordering.{is_eq, is_lt, ordering_index, ordering_reverse}
+use Rattle.std.specs.List.Sorted.{IsBinarySearchResult, IsSearchInRange}
+use Rattle.std.specs.Ordering.{is_eq, ordering_reverse}
 use Rattle.std.specs.Str.{chars, bytes_eq}
 use Rattle.std.proofs.lemmas.Bool.{cases_Bool, cases_lt, cond-true, cond-false}
 use Rattle.std.proofs.lemmas.Cmp.{nat_list_cmp_total}
@@ -15,14 +15,10 @@ use Rattle.std.proofs.lemmas.List.Elements.{All-nil, All-cons, All-head, All-tai
 use Rattle.std.proofs.lemmas.List.Kept.{AllPairs-cons}
 use Rattle.std.proofs.lemmas.List.Recursion.{or_at, or_from_places}
 use Rattle.std.proofs.lemmas.Map.Text.{is_eq-slice_cmp}
-use Rattle.std.proofs.lemmas.List.Sorted.{searchable_from_sorted}
 use Rattle.cp_strset.specs.declared.StringListError.{StringListError}
 use Rattle.cp_strset.specs.declared.StringListError.TheVariants.{StringOfOne}
+use Rattle.cp_strset.specs.OrderLaws.{IsBelow, answers_rise}
 use Rattle.cp_strset.specs.StringList.{sole_of, fault_of_order, fault_behind, fault_at, fault_from, AreCanonical}
-
--- by bytes
-abbrev pub IsBelow : List ℕ → List ℕ → Type 0
-IsBelow s t = slice_cmp nat_cmp s t ≡ Less
 
 -- all strings are above the one before them
 abbrev pub AreAbove : Option (List ℕ) → List (List ℕ) → Type 0
@@ -79,15 +75,6 @@ canonical_from p i (s ∷ ss) h =
 
 pub AreCanonical-faultless : (ss : List (List ℕ)) → fault_from None 0 ss ≡ None → AreCanonical ss
 AreCanonical-faultless ss h = (canonical_from None 0 ss h).1
-
--- the answer of a comparison with one text rises along ascending strings
-answers_rise : {X : Type 0} (f : X → List ℕ) (xs : List X) (s : List ℕ) → AllPairs IsBelow (map f xs) → IsNonDecreasingBy (λ y. ordering_index (slice_cmp nat_cmp (f y) s)) xs
-answers_rise f xs s ascending = searchable_from_sorted nat_list_cmp_total f xs s (λ k d from within.
-    let at : IsBelow (f (get_or xs k d)) (f (get_or xs (k + 1) d)) =
-    ap (λ t. slice_cmp nat_cmp t (f (get_or xs (k + 1) d))) (sym (get_or-map f xs k d [] (omega arith)))
-    ∙ ap (slice_cmp nat_cmp (get_or (map f xs) k [])) (sym (get_or-map f xs (k + 1) d [] within))
-    ∙ ascending k (k + 1) [] (omega arith) (omega (arith, within, length-map xs f)) in
-    ap is_lt (nat_list_cmp_total.antisymm (f (get_or xs (k + 1) d)) (f (get_or xs k d)) ∙ ap ordering_reverse at))
 
 equal_bytes : (s t : List ℕ) (o : Ordering) → slice_cmp nat_cmp t s ≡ o → bytes_eq t s ≡ is_eq o
 equal_bytes s t o h = sym (is_eq-slice_cmp t s) ∙ ap is_eq h

@@ -14,7 +14,7 @@ use Rattle.std.specs.Ordering.{is_eq}
 use Rattle.std.specs.Str.{bytes_eq}
 use Rattle.cp_strset.specs.Laws.{OneListOfStrings}
 use Rattle.cp_strset.specs.StringList.{holds}
-use Rattle.cp_strset.proofs.Canonical.{IsBelow}
+use Rattle.cp_strset.specs.OrderLaws.{IsBelow}
 
 sorted_strings : (ss : List (List ℕ)) → AllPairs IsBelow ss → IsStrictlySortedBy (slice_cmp nat_cmp) ss
 unfolding IsStrictlySortedBy

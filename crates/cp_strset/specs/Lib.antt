@@ -1,4 +1,5 @@
 pub mod StringSet
 pub mod StringList
+pub mod OrderLaws
 pub mod PatternText
 pub mod Laws

@@ -12,6 +12,7 @@ use Rattle.cp_terms.specs.declared.step.Way.{Way}
 use Rattle.cp_terms.specs.declared.step.Way.TheVariants.{Join, Remove, RemoveFrom}
 use Rattle.cp_terms.specs.declared.step.Step.{Step}
 use Rattle.cp_terms.specs.declared.step.Step.TheVariants.{Push}
+use Rattle.cp_terms.specs.TermLaws.{steps_done-append}
 use Rattle.cp_terms.specs.Terms.{combined, step_done, steps_done}
 use Rattle.cp_strset_terms.specs.declared.candidates.Source.{Source}
 use Rattle.cp_strset_terms.specs.declared.leaf.Leaf.{Leaf}
@@ -71,10 +72,6 @@ combined_remove way a b is h = (both_of a (not b) (ap (λ w. combined w a b) (sy
 
 pub combined_remove_from : (way : Way) (a b : Bool) → way ≡ RemoveFrom → combined way a b ≡ true → b ≡ true
 combined_remove_from way a b is h = (both_of b (not a) (ap (λ w. combined w a b) (sym is) ∙ h)).0
-
-steps_done-append : (v : ℕ → Bool) (ss ts : List Step) (stack : List Bool) → steps_done v (ss ++ ts) stack ≡ steps_done v ts (steps_done v ss stack)
-steps_done-append v [] ts stack = refl
-steps_done-append v (s ∷ ss) ts stack = steps_done-append v ss ts (step_done v s stack)
 
 -- one step more
 pub steps_done-more : (v : ℕ → Bool) (ss : List Step) (i : ℕ) → i < length ss →

@@ -19,7 +19,8 @@ use Rattle.std.specs.Str.{bytes_eq}
 use Rattle.std.specs.String.{string_bytes}
 use Rattle.cp_strset.specs.StringList.{holds}
 use Rattle.cp_strset_terms.specs.Places.{IsAt}
-use Rattle.cp_strset_terms.proofs.PlacesLemmas.{IsBelow, answers_rise, below_at, equal_bytes}
+use Rattle.cp_strset.specs.OrderLaws.{IsBelow, answers_rise}
+use Rattle.cp_strset_terms.proofs.PlacesLemmas.{below_at, equal_bytes}
 
 pub is_lt-falls : (o p : Ordering) → ordering_index o ≤ ordering_index p → is_lt p ≡ true → is_lt o ≡ true
 is_lt-falls Less p h passes = refl

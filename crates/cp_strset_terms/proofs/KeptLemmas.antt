@@ -17,7 +17,7 @@ use Rattle.std.specs.String.{string_bytes}
 use Rattle.cp_invlist.specs.InversionList.{is_code_point, is_added}
 use Rattle.cp_strset.specs.StringList.{AreCanonical, holds}
 use Rattle.cp_strset_terms.specs.Places.{IsAt}
-use Rattle.cp_strset_terms.proofs.PlacesLemmas.{IsBelow}
+use Rattle.cp_strset.specs.OrderLaws.{IsBelow}
 
 -- what is kept of one text more
 pub filter-more : (test : List ℕ → Bool) (list : List (Bor (List ℕ))) (place : ℕ) (d : Bor (List ℕ)) → place < length list →

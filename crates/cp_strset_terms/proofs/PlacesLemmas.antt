@@ -1,23 +1,18 @@
 -- Where a string stands in a list of strings in order.
-use Rattle.std.proofs.Common.{◌≡◌, ◌<◌, ◌+◌, ◌↔◌, ℕ, Bool, true, false, Some, Result, Ok, Err, List, [], ◌∷◌, length, map, get_or, refl, sym, subst, ap, ◌∙◌, arith, nat_cmp, inl, inr}
+use Rattle.std.proofs.Common.{◌≡◌, ◌<◌, ◌↔◌, ℕ, Bool, true, false, Some, Result, Ok, Err, List, [], ◌∷◌, length, map, get_or, refl, sym, subst, ap, ◌∙◌, arith, nat_cmp, inl, inr}
 use Rattle.std.proofs.lemmas.Bool.{cases_lt}
-use Rattle.std.proofs.lemmas.Cmp.{nat_list_cmp_total}
 use Rattle.std.proofs.lemmas.List.{get_or-map, length-map}
-use Rattle.std.proofs.lemmas.List.Sorted.{searchable_from_sorted}
 use Rattle.std.proofs.lemmas.Map.Text.{is_eq-slice_cmp}
 use Rattle.std.proofs.lemmas.Option.{slice_get_within, slice_get-get_or, get_or_from_slice_get}
 use Rattle.std.proofs.lemmas.Slice.Eq.{bytes_eq-Decides}
-use Rattle.std.specs.declared.cmp.Ordering.TheVariants.{Less, Equal}
+use Rattle.std.specs.declared.cmp.Ordering.TheVariants.{Equal}
 use Rattle.std.specs.Cmp.Lexicographic.{slice_cmp}
 use Rattle.std.specs.List.{AllPairs}
-use Rattle.std.specs.List.Sorted.{IsBinarySearchResult, IsSearchInRange, IsNonDecreasingBy}
-use Rattle.std.specs.Ordering.{is_eq, is_lt, ordering_index, ordering_reverse}
+use Rattle.std.specs.List.Sorted.{IsBinarySearchResult, IsSearchInRange}
+use Rattle.std.specs.Ordering.{is_eq}
 use Rattle.std.specs.Result.{result_ok}
+use Rattle.cp_strset.specs.OrderLaws.{IsBelow, answers_rise}
 use Rattle.cp_strset_terms.specs.Places.{IsAt}
-
--- by bytes
-abbrev pub IsBelow : List ℕ → List ℕ → Type 0
-IsBelow s t = slice_cmp nat_cmp s t ≡ Less
 
 same_bytes : (s t : List ℕ) → slice_cmp nat_cmp s t ≡ Equal → s ≡ t
 same_bytes s t h = (bytes_eq-Decides s t).0 (sym (is_eq-slice_cmp s t) ∙ ap is_eq h)
@@ -42,15 +37,6 @@ below_at list ascending i j s t at there before =
 -- a string stands at no second place behind one
 place_once : (list : List (List ℕ)) → AllPairs IsBelow list → (i j : ℕ) (s : List ℕ) → IsAt list i s → IsAt list j s → i < j → ⊥
 place_once list ascending i j s at at_too before = not_below_itself s s refl (below_at list ascending i j s s at at_too before)
-
--- the answer of a comparison with one text rises along texts in order
-pub answers_rise : {X : Type 0} (f : X → List ℕ) (xs : List X) (s : List ℕ) → AllPairs IsBelow (map f xs) → IsNonDecreasingBy (λ y. ordering_index (slice_cmp nat_cmp (f y) s)) xs
-answers_rise f xs s ascending = searchable_from_sorted nat_list_cmp_total f xs s (λ k d from within.
-    let at : IsBelow (f (get_or xs k d)) (f (get_or xs (k + 1) d)) =
-    ap (λ t. slice_cmp nat_cmp t (f (get_or xs (k + 1) d))) (sym (get_or-map f xs k d [] (omega arith)))
-    ∙ ap (slice_cmp nat_cmp (get_or (map f xs) k [])) (sym (get_or-map f xs (k + 1) d [] within))
-    ∙ ascending k (k + 1) [] (omega arith) (omega (arith, within, length-map xs f)) in
-    ap is_lt (nat_list_cmp_total.antisymm (f (get_or xs (k + 1) d)) (f (get_or xs k d)) ∙ ap ordering_reverse at))
 
 -- the text of the element at a place
 pub text_at : {X : Type 0} (f : X → List ℕ) (list : List X) (place : ℕ) (s : List ℕ) (d : X) → IsAt (map f list) place s → f (get_or list place d) ≡ s

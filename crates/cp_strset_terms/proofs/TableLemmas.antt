@@ -9,7 +9,7 @@ use Rattle.std.specs.List.{AllPairs, dedup, dedup_from}
 use Rattle.std.specs.List.Sorted.{IsStrictlySortedBy}
 use Rattle.std.specs.Str.{bytes_eq, chars}
 use Rattle.cp_strset.specs.StringList.{AreCanonical, holds}
-use Rattle.cp_strset_terms.proofs.PlacesLemmas.{IsBelow}
+use Rattle.cp_strset.specs.OrderLaws.{IsBelow}
 
 -- texts that are strictly sorted ascend
 pub ascending_texts : (list : List (Bor (List ℕ))) → IsStrictlySortedBy (λ x y. slice_cmp nat_cmp x.now y.now) list → AllPairs IsBelow (map (λ text. text.now) list)

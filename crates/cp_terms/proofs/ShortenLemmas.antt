@@ -14,7 +14,7 @@ use Rattle.cp_terms.specs.Shorten.{Agree, AgreesAt, Fits, changed}
 use Rattle.cp_invlist.specs.declared.window.Window.{Window}
 use Rattle.cp_invlist.specs.Windows.{is_inside}
 use Rattle.cp_terms.specs.ShortenParts.{constant_of}
-use Rattle.cp_terms.proofs.TermsLemmas.{steps_done-append}
+use Rattle.cp_terms.specs.TermLaws.{steps_done-append}
 
 pub reverse-push : {X : Type 0} → (xs ys : List X) (x : X) → xs ≡ ys ++ x ∷ [] → reverse xs ≡ x ∷ reverse ys
 reverse-push xs ys x is = ap reverse is ∙ reverse-append ys (x ∷ [])

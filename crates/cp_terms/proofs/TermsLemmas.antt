@@ -1,5 +1,5 @@
 -- What the definitions of terms compute to.
-use Rattle.std.proofs.Common.{◌≡◌, ℕ, zero, suc, ◌≤◌, Bool, false, Option, Some, None, List, [], ◌∷◌, ◌++◌, refl, sym, ap, ◌∙◌, map, Bor, ◌+◌, ◌<◌, take, get_or}
+use Rattle.std.proofs.Common.{◌≡◌, ℕ, zero, suc, ◌≤◌, Bool, false, Option, Some, None, List, [], ◌∷◌, refl, sym, ap, ◌∙◌, map, Bor, ◌+◌, ◌<◌, take, get_or}
 use Rattle.std.proofs.lemmas.List.{take_more}
 use Rattle.cp_terms.specs.declared.step.Step.TheVariants.{Push}
 use Rattle.std.specs.List.{slice_get}
@@ -9,6 +9,7 @@ use Rattle.cp_terms.specs.declared.step.Step.{Step}
 use Rattle.std.proofs.lemmas.Option.{slice_get-map, slice_get_past}
 use Rattle.std.specs.Option.{option_map}
 use Rattle.std.specs.Prelude.{length}
+use Rattle.cp_terms.specs.TermLaws.{steps_done-append}
 use Rattle.cp_terms.specs.Terms.{step_done, steps_done, holds_at}
 
 -- whether an element is in the set that there may be
@@ -20,11 +21,6 @@ pub holds_at-get : (lists : List (List ℕ)) (c index : ℕ) → holds_at lists 
 holds_at-get [] c index = refl
 holds_at-get (xs ∷ lists) c zero = refl
 holds_at-get (xs ∷ lists) c (suc index) = holds_at-get lists c index
-
--- steps behind others
-pub steps_done-append : (v : ℕ → Bool) (ss ts : List Step) (stack : List Bool) → steps_done v (ss ++ ts) stack ≡ steps_done v ts (steps_done v ss stack)
-steps_done-append v [] ts stack = refl
-steps_done-append v (s ∷ ss) ts stack = steps_done-append v ss ts (step_done v s stack)
 
 -- one step more
 pub steps_done-more : (v : ℕ → Bool) (ss : List Step) (i : ℕ) → i < length ss → step_done v (get_or ss i (Push 0)) (steps_done v (take i ss) []) ≡ steps_done v (take (i + 1) ss) []

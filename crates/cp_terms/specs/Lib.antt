@@ -1,4 +1,5 @@
 pub mod Terms
+pub mod TermLaws
 pub mod Blocks
 pub mod Windows
 pub mod Shorten
