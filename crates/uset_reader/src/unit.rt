@@ -111,7 +111,7 @@ fn read_escaped<'v, 'a>(
 }
 
 /// Reads the property at the front of the text.
-fn read_set<'v, 'd: 'v, 'a>(
+fn read_property_set<'v, 'd: 'v, 'a>(
     alloc: Global,
     syntax: &Syntax<'v>,
     resolver: &mut Resolver<'d>,
@@ -167,6 +167,6 @@ pub(crate) fn read_unit<'v, 'd: 'v, 'a>(
     match unit_kind(text) {
         UnitKind::String => read_text(alloc, syntax, several, text),
         UnitKind::Escape => read_escaped(alloc, syntax, several, text),
-        UnitKind::Property => read_set(alloc, syntax, resolver, several, gathered, text),
+        UnitKind::Property => read_property_set(alloc, syntax, resolver, several, gathered, text),
     }
 }

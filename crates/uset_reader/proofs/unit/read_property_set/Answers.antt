@@ -2,7 +2,7 @@ use Rattle.uset_reader.specs.Syntaxes.{language_seen}
 use Rattle.uset_reader.specs.Units.{UnitStopsIn}
 use Rattle.uset_reader.proofs.UnitLemmas.{property_read, property_stops}
 use Rattle.uset_reader.proofs.PropertyLemmas.{answered_err}
-use Rattle.uset_reader.proofs.unit.read_set.Goals as goal
+use Rattle.uset_reader.proofs.unit.read_property_set.Goals as goal
 
 pub returns-in_err-operand-clause-stopped : goal.returns-in_err-operand-clause-stopped
 returns-in_err-operand-clause-stopped c =
