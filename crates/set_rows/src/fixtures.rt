@@ -40,12 +40,8 @@ pub(crate) fn try_set_of(
     list: &[u32],
     texts: &[&str],
 ) -> Option<Result<CodePointInversionListAndStringList, StringListError>> {
-    let Ok(list) = CodePointInversionList::try_from_inversion_list(alloc, list) else {
-        return None;
-    };
-    let Ok(strings) = strings(alloc, texts) else {
-        return None;
-    };
+    let list = CodePointInversionList::try_from_inversion_list(alloc, list).ok()?;
+    let strings = strings(alloc, texts).ok()?;
     Some(CodePointInversionListAndStringList::try_from(list, strings))
 }
 

@@ -7,7 +7,7 @@ use uset_tool::{
     run,
 };
 
-/// The tables of the pattern syntax, for ASCII, and a pattern.
+/// The tables of the pattern syntax, and a pattern.
 fn input(alloc: Global) -> Result<Vec<u8>, AllocError> {
     let input = format!(in alloc; "{SYNTAX}end\npat [a-z0]\n")?;
     Ok(input.into_bytes())
