@@ -84,9 +84,9 @@ pub fn numbers_of_tables()
     ensures emoji { ⟦<BasicEmoji as EmojiSet>⟧.TABLE ≡ 0 }
 {}
 
-/// The long and the short name of each type of a binary property, for the tables 0 to 23.
-pub fn names_to_emoji_presentation() -> [(&'static [u8], &'static [u8]); 24]
-    ensures { map (λ row. (row.0.now, row.1.now)) result ≡ take 24 property_names }
+/// The long and the short name of each type of a binary property, for the tables 0 to 13.
+pub fn names_from_ascii_hex_digit() -> [(&'static [u8], &'static [u8]); 14]
+    ensures { map (λ row. (row.0.now, row.1.now)) result ≡ take 14 property_names }
 {
     [
         (AsciiHexDigit::NAME, AsciiHexDigit::SHORT_NAME),
@@ -121,6 +121,14 @@ pub fn names_to_emoji_presentation() -> [(&'static [u8], &'static [u8]); 24]
             ChangesWhenTitlecased::NAME,
             ChangesWhenTitlecased::SHORT_NAME,
         ),
+    ]
+}
+
+/// The long and the short name of each type of a binary property, for the tables 14 to 27.
+pub fn names_from_changes_when_uppercased() -> [(&'static [u8], &'static [u8]); 14]
+    ensures { map (λ row. (row.0.now, row.1.now)) result ≡ drop 14 (take 28 property_names) }
+{
+    [
         (
             ChangesWhenUppercased::NAME,
             ChangesWhenUppercased::SHORT_NAME,
@@ -137,18 +145,18 @@ pub fn names_to_emoji_presentation() -> [(&'static [u8], &'static [u8]); 24]
         (EmojiModifier::NAME, EmojiModifier::SHORT_NAME),
         (Emoji::NAME, Emoji::SHORT_NAME),
         (EmojiPresentation::NAME, EmojiPresentation::SHORT_NAME),
-    ]
-}
-
-/// The long and the short name of each type of a binary property, for the tables 24 to 49.
-pub fn names_from_extender() -> [(&'static [u8], &'static [u8]); 26]
-    ensures { map (λ row. (row.0.now, row.1.now)) result ≡ drop 24 (take 50 property_names) }
-{
-    [
         (Extender::NAME, Extender::SHORT_NAME),
         (ExtendedPictographic::NAME, ExtendedPictographic::SHORT_NAME),
         (Graph::NAME, Graph::SHORT_NAME),
         (GraphemeBase::NAME, GraphemeBase::SHORT_NAME),
+    ]
+}
+
+/// The long and the short name of each type of a binary property, for the tables 28 to 41.
+pub fn names_from_grapheme_extend() -> [(&'static [u8], &'static [u8]); 14]
+    ensures { map (λ row. (row.0.now, row.1.now)) result ≡ drop 28 (take 42 property_names) }
+{
+    [
         (GraphemeExtend::NAME, GraphemeExtend::SHORT_NAME),
         (GraphemeLink::NAME, GraphemeLink::SHORT_NAME),
         (HexDigit::NAME, HexDigit::SHORT_NAME),
@@ -166,6 +174,14 @@ pub fn names_from_extender() -> [(&'static [u8], &'static [u8]); 26]
             LogicalOrderException::NAME,
             LogicalOrderException::SHORT_NAME,
         ),
+    ]
+}
+
+/// The long and the short name of each type of a binary property, for the tables 42 to 55.
+pub fn names_from_lowercase() -> [(&'static [u8], &'static [u8]); 14]
+    ensures { map (λ row. (row.0.now, row.1.now)) result ≡ drop 42 (take 56 property_names) }
+{
+    [
         (Lowercase::NAME, Lowercase::SHORT_NAME),
         (Math::NAME, Math::SHORT_NAME),
         (
@@ -180,14 +196,6 @@ pub fn names_from_extender() -> [(&'static [u8], &'static [u8]); 26]
         (NfdInert::NAME, NfdInert::SHORT_NAME),
         (NfkcInert::NAME, NfkcInert::SHORT_NAME),
         (NfkdInert::NAME, NfkdInert::SHORT_NAME),
-    ]
-}
-
-/// The long and the short name of each type of a binary property, for the tables 50 to 68.
-pub fn names_from_pattern_syntax() -> [(&'static [u8], &'static [u8]); 19]
-    ensures { map (λ row. (row.0.now, row.1.now)) result ≡ drop 50 property_names }
-{
-    [
         (PatternSyntax::NAME, PatternSyntax::SHORT_NAME),
         (PatternWhiteSpace::NAME, PatternWhiteSpace::SHORT_NAME),
         (
@@ -197,6 +205,14 @@ pub fn names_from_pattern_syntax() -> [(&'static [u8], &'static [u8]); 19]
         (Print::NAME, Print::SHORT_NAME),
         (QuotationMark::NAME, QuotationMark::SHORT_NAME),
         (Radical::NAME, Radical::SHORT_NAME),
+    ]
+}
+
+/// The long and the short name of each type of a binary property, for the tables 56 to 68.
+pub fn names_from_regional_indicator() -> [(&'static [u8], &'static [u8]); 13]
+    ensures { map (λ row. (row.0.now, row.1.now)) result ≡ drop 56 property_names }
+{
+    [
         (RegionalIndicator::NAME, RegionalIndicator::SHORT_NAME),
         (SoftDotted::NAME, SoftDotted::SHORT_NAME),
         (SegmentStarter::NAME, SegmentStarter::SHORT_NAME),

@@ -1,5 +1,5 @@
 -- A name more among names in order.
-use Rattle.std.proofs.Common.{◌≡◌, ℕ, Bool, true, false, Option, Some, None, IfSome, List, [], ◌∷◌, cond, refl, subst, sym, ap, ◌∙◌, nat_cmp}
+use Rattle.std.proofs.Common.{◌≡◌, ℕ, Bool, true, false, Option, Some, None, IfSome, List, [], ◌∷◌, cond, is_some, refl, subst, sym, ap, ◌∙◌, nat_cmp}
 use Rattle.std.specs.declared.cmp.Ordering.{Ordering}
 use Rattle.std.specs.declared.cmp.Ordering.TheVariants.{Less, Equal, Greater}
 use Rattle.std.specs.BTreeMap.{BTreeMap, UpdatesBy, insert_entry, get_by_text}
@@ -16,7 +16,7 @@ use Rattle.std.proofs.lemmas.Map.Lookups.{exact_bytes}
 use Rattle.std.proofs.lemmas.Map.Text.{is_eq-slice_cmp, btree_map_updates_text}
 use Rattle.std.proofs.lemmas.Slice.Eq.{bytes_eq-Decides}
 use Rattle.prop_names.specs.Folding.{stored_folding}
-use Rattle.prop_names.specs.Names.{Names, FoldingsAgree, exact, value_of_folding, with_name, all_above, ascend}
+use Rattle.prop_names.specs.Names.{Names, AreFoldings, FoldingsAgree, exact, value_of_folding, with_name, all_above, ascend}
 use Rattle.prop_names.specs.Texts.{text_of, texts}
 
 -- an ordered map takes a name in its place
@@ -39,11 +39,45 @@ lookup-texts m f = in_rows m.entries
     in_rows [] = refl
     in_rows (r ∷ rows) = ap (λ b. cond b (Some r.1) (lookup (bytes_eq f) (texts rows))) (sym (is_eq-slice_cmp f (string_bytes r.0))) ∙ ap (λ o. cond (is_eq (slice_cmp nat_cmp f (string_bytes r.0))) (Some r.1) o) (in_rows rows)
 
--- the value of each name in a map to which one was added
-pub exact-texts : (old new : BTreeMap (String Global) ℕ) (n : List ℕ) (v : ℕ) → UpdatesBy string_cmp (λ k. slice_cmp nat_cmp n (string_bytes k)) old new (Some v) → (q : List ℕ) →
-    exact (texts new.entries) q ≡ cond (bytes_eq n q) (Some v) (exact (texts old.entries) q)
-exact-texts old new n v updates q =
-    lookup-texts new q ∙ (btree_map_updates_text n old new (Some v) updates q ∙ ap (λ o. cond (bytes_eq n q) (Some v) o) (sym (lookup-texts old q)))
+-- the value of each name in a map where one has another value, or none
+pub exact-texts : (old new : BTreeMap (String Global) ℕ) (n : List ℕ) (w : Option ℕ) → UpdatesBy string_cmp (λ k. slice_cmp nat_cmp n (string_bytes k)) old new w → (q : List ℕ) →
+    exact (texts new.entries) q ≡ cond (bytes_eq n q) w (exact (texts old.entries) q)
+exact-texts old new n w updates q =
+    lookup-texts new q ∙ (btree_map_updates_text n old new w updates q ∙ ap (λ o. cond (bytes_eq n q) w o) (sym (lookup-texts old q)))
+
+-- names of which one has the value, or none, that it had
+pub same_values : (old new : Names) (n : List ℕ) (w : Option ℕ) → exact old n ≡ w → ((q : List ℕ) → exact new q ≡ cond (bytes_eq n q) w (exact old q)) → (q : List ℕ) → exact new q ≡ exact old q
+same_values old new n w had updated q = updated q ∙ by_test (bytes_eq n q) refl
+  where
+    by_test : (b : Bool) → bytes_eq n q ≡ b → cond b w (exact old q) ≡ exact old q
+    by_test true is = sym had ∙ ap (exact old) ((bytes_eq-Decides n q).0 is)
+    by_test false is = refl
+
+-- a text that had no value and loses the one that it took
+pub taken_back : (old between new : BTreeMap (String Global) ℕ) (n : List ℕ) (v : ℕ) → exact (texts old.entries) n ≡ None →
+    UpdatesBy string_cmp (λ k. slice_cmp nat_cmp n (string_bytes k)) old between (Some v) → UpdatesBy string_cmp (λ k. slice_cmp nat_cmp n (string_bytes k)) between new None →
+    (q : List ℕ) → exact (texts new.entries) q ≡ exact (texts old.entries) q
+taken_back old between new n v had added removed =
+    same_values (texts old.entries) (texts new.entries) n None had
+    (λ q. exact-texts between new n None removed q ∙ (ap (λ o. cond (bytes_eq n q) None o) (exact-texts old between n (Some v) added q) ∙ twice (bytes_eq n q) (exact (texts old.entries) q)))
+  where
+    twice : (b : Bool) (o : Option ℕ) → cond b None (cond b (Some v) o) ≡ cond b None o
+    twice true o = refl
+    twice false o = refl
+
+-- a value that is there is the one that all agree on
+pub known_value : (o : Option ℕ) (v : ℕ) → is_some o ≡ true → IfSome o (λ other. other ≡ v) → o ≡ Some v
+known_value (Some w) v there agrees = ap (λ (u : ℕ). Some u) agrees
+known_value None v there agrees = absurd (let h = there in cc)
+
+-- a value that is not there is none
+pub no_value : (o : Option ℕ) → is_some o ≡ false → o ≡ None
+no_value (Some w) there = absurd (let h = there in cc)
+no_value None there = refl
+
+-- other foldings with the same values are those of the names too
+pub AreFoldings-same : (names foldings others : Names) → ((q : List ℕ) → exact others q ≡ exact foldings q) → AreFoldings names foldings → AreFoldings names others
+AreFoldings-same names foldings others same are = record { found = λ q. same q ∙ are.found q; agree = are.agree }
 
 -- the names of an ordered map ascend
 above_all : (k : String Global) (rows : List (String Global × ℕ)) → AllByRecursion (λ y. string_cmp k y ≡ Less) (keys_of rows) → all_above (string_bytes k) (texts rows) ≡ true

@@ -10,7 +10,6 @@ use cp_invlist::NoMemory;
 use std::alloc::Global;
 use std::collections::BTreeMap;
 use std::marker::Model;
-use std::mem::replace;
 
 /// Names with the numbers of values, in any order. Names with equal foldings have one value. A contract sees it as the
 /// list of both in the order of the names.
@@ -52,35 +51,22 @@ impl NamesBuilder {
         self.foldings.get(folding).copied()
     }
 
-    /// Adds a name, whose folding has no other value. Where memory is refused, all names are gone.
+    /// Adds a name, whose folding has no other value. Where memory is refused nothing has changed.
     pub fn insert(&mut self, name: String, folding: String, value: u16) -> Result<(), NoMemory>
         requires folds { string_bytes folding ≡ stored_folding (string_bytes name) }
         requires agrees { IfSome (value_of_folding self.old (string_bytes folding)) (λ other. other ≡ value) }
         ensures ok { OnOk result (self.new ≡ with_name self.old (string_bytes name) value) }
-        ensures err { OnErr result (self.new ≡ []) }
+        ensures err { OnErr result (self.new ≡ self.old) }
     {
-        let builder = replace(self, NamesBuilder::new(self.alloc));
-        *self = builder.with(name, folding, value)?;
+        let key = folding.clone()?;
+        let before = self.foldings.insert(folding, value)?;
+        if let Err(refused) = self.names.insert(name, value) {
+            if before.is_none() {
+                self.foldings.remove(key.as_str());
+            }
+            return Err(NoMemory::from(refused));
+        }
         Ok(())
-    }
-
-    fn with(self, name: String, folding: String, value: u16) -> Result<NamesBuilder, NoMemory>
-        requires folds { string_bytes folding ≡ stored_folding (string_bytes name) }
-        requires agrees { IfSome (value_of_folding self (string_bytes folding)) (λ other. other ≡ value) }
-        ensures { IfOk result (λ builder. builder ≡ with_name self (string_bytes name) value) }
-    {
-        let NamesBuilder {
-            alloc,
-            mut names,
-            mut foldings,
-        } = self;
-        names.insert(name, value)?;
-        foldings.insert(folding, value)?;
-        Ok(NamesBuilder {
-            alloc,
-            names,
-            foldings,
-        })
     }
 
     /// The table of the names.

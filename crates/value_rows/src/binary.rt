@@ -95,9 +95,9 @@ fn tables_are_found_by_the_names_that_they_have(rt: HostRuntime) {
 fn types_have_their_names(rt: HostRuntime) {
     let (long, short) = laws::names_of_basic_emoji();
     let names = &[
-        (laws::names_to_emoji_presentation()[2].1, "Alpha"),
-        (laws::names_from_extender()[0].1, "Ext"),
-        (laws::names_from_pattern_syntax()[15].1, "WSpace"),
+        (laws::names_from_ascii_hex_digit()[2].1, "Alpha"),
+        (laws::names_from_changes_when_uppercased()[10].1, "Ext"),
+        (laws::names_from_regional_indicator()[9].1, "WSpace"),
         (long, "Basic_Emoji"),
         (short, "Basic_Emoji"),
         (EmojiTable::BASIC_EMOJI.name(), "Basic_Emoji"),

@@ -1,7 +1,7 @@
 use Rattle.std.proofs.Common.{refl}
 use Rattle.prop_binary.specs.Tables.{properties}
 use Rattle.prop_binary.proofs.TableLemmas.{same_names-path}
-use Rattle.prop_binary.proofs.laws.names_from_extender.Goals as goal
+use Rattle.prop_binary.proofs.laws.names_from_changes_when_uppercased.Goals as goal
 
 pub returns : goal.returns
 unfolding properties
