@@ -4,7 +4,7 @@ import re
 from pathlib import Path
 
 TOP = Path(__file__).resolve().parent.parent
-FIXTURES = TOP / "crates" / "uset_rows" / "src" / "fixtures.rt"
+FIXTURES = TOP / "crates" / "row_fixtures" / "src" / "lib.rt"
 
 SCRIPT = "let a char 61\nlet set set [a-z {Hello,\\ World!}]\npat [$set-[b-z]]\npat [$a-$set]\n"
 ANSWER = (
@@ -16,5 +16,5 @@ ANSWER = (
 
 def tables():
     """The table text that the rows of `uset_rows` are run on, which has tables of every kind."""
-    literal = re.search(r'const TABLES: &str =\s*"(.*?)";', FIXTURES.read_text(encoding="utf-8"))
-    return literal[1].replace("\\n", "\n")
+    literal = re.search(r'const EVERY_KIND: &str = "(.*?)";', FIXTURES.read_text(encoding="utf-8"), re.DOTALL)
+    return re.sub(r"\\\n *", "", literal[1]).replace("\\n", "\n")

@@ -1,7 +1,8 @@
 //! The four calls that read a source.
-use crate::fixtures::{NO_TABLES, Row, TABLES, assert_rows_of_text, is_set, is_shown, string_of};
+use crate::fixtures::{NO_TABLES, Row, assert_rows_of_text, is_set, is_shown, string_of};
 use cp_strset::CodePointInversionListAndStringList;
 use prop_data::PropertyDatabase;
+use row_fixtures::EVERY_KIND;
 use std::alloc::Global;
 use uset_parse::{
     ParseError, ParseErrorKind, Resolver, VariableMap, WholeSource, parse, parse_unstable,
@@ -125,7 +126,7 @@ const READ: &[Read] = &[
 
 #[test]
 fn each_call_reads_a_pattern(rt: HostRuntime) {
-    assert_rows_of_text(&rt, rt.alloc(), TABLES, READ);
+    assert_rows_of_text(&rt, rt.alloc(), EVERY_KIND, READ);
 }
 
 /// A source, its length, and the inversion list that each call reads.
@@ -148,7 +149,7 @@ impl Row<PropertyDatabase> for ReadByEach {
 #[test]
 fn each_call_reads_letters_and_a_digit(rt: HostRuntime) {
     let row: ReadByEach = ("[a-z0]", 6, &[0x30, 0x31, 0x61, 0x7B]);
-    assert_rows_of_text(&rt, rt.alloc(), TABLES, &[row]);
+    assert_rows_of_text(&rt, rt.alloc(), EVERY_KIND, &[row]);
 }
 
 /// Sources that are read in turn by one resolver.
@@ -191,7 +192,7 @@ const IN_TURN: InTurn = &[
 
 #[test]
 fn one_resolver_reads_patterns_in_turn(rt: HostRuntime) {
-    assert_rows_of_text(&rt, rt.alloc(), TABLES, &[IN_TURN]);
+    assert_rows_of_text(&rt, rt.alloc(), EVERY_KIND, &[IN_TURN]);
 }
 
 /// What a source is that should be a pattern as a whole.
@@ -240,14 +241,14 @@ const READ_WHOLE: &[ReadWhole] = &[
 
 #[test]
 fn a_source_is_read_as_a_whole(rt: HostRuntime) {
-    assert_rows_of_text(&rt, rt.alloc(), TABLES, READ_WHOLE);
+    assert_rows_of_text(&rt, rt.alloc(), EVERY_KIND, READ_WHOLE);
 }
 
 const READ_BELOW: &[Read] = &[(Call::Below, "[$a-c{}$v-]]", 11)];
 
 #[test]
 fn the_reader_below_the_calls_reads_a_pattern(rt: HostRuntime) {
-    assert_rows_of_text(&rt, rt.alloc(), TABLES, READ_BELOW);
+    assert_rows_of_text(&rt, rt.alloc(), EVERY_KIND, READ_BELOW);
 }
 
 /// Whether the answer is the fault of this kind, at this place.
@@ -313,7 +314,7 @@ const REFUSED_WITHOUT_TABLES: &[Refused] = &[
 
 #[test]
 fn each_call_refuses_a_pattern(rt: HostRuntime) {
-    assert_rows_of_text(&rt, rt.alloc(), TABLES, REFUSED);
+    assert_rows_of_text(&rt, rt.alloc(), EVERY_KIND, REFUSED);
     assert_rows_of_text(&rt, rt.alloc(), NO_TABLES, REFUSED_WITHOUT_TABLES);
 }
 
@@ -360,7 +361,7 @@ const FAULTS: &[Faulty] = &[
 
 #[test]
 fn each_call_gives_the_fault_of_a_source(rt: HostRuntime) {
-    assert_rows_of_text(&rt, rt.alloc(), TABLES, FAULTS);
+    assert_rows_of_text(&rt, rt.alloc(), EVERY_KIND, FAULTS);
 }
 
 /// A source of which each proper front ends where more is due, without a place.
@@ -393,7 +394,7 @@ fn ends_everywhere(
 #[test]
 fn each_front_of_a_source_ends_without_a_place(rt: HostRuntime) {
     let whole = Whole("[^{h\\u{65}llo\\ world}]");
-    assert_rows_of_text(&rt, rt.alloc(), TABLES, &[whole]);
+    assert_rows_of_text(&rt, rt.alloc(), EVERY_KIND, &[whole]);
 }
 
 /// Whether the database has a syntax.
@@ -435,5 +436,5 @@ const SHOWN: &[Shown] = &[
 
 #[test]
 fn a_fault_is_shown_with_its_source_or_another(rt: HostRuntime) {
-    assert_rows_of_text(&rt, rt.alloc(), TABLES, SHOWN);
+    assert_rows_of_text(&rt, rt.alloc(), EVERY_KIND, SHOWN);
 }

@@ -17,11 +17,6 @@ pub(crate) fn assert_equal<T: PartialEq + fmt::Debug + Drop>(
     assert_eq!(rt; found, expected);
 }
 
-/// Tables of every kind: those of the pattern syntax, a binary property, General_Category with names of groups, Script with its
-/// names, scripts with extensions, combining classes, and an emoji set. Block has none.
-pub(crate) const TABLES: &str =
-    "set XID_Start\n41-5A\n61-7A\nset XID_Continue\n30-39\n41-5A\n5F\n61-7A\nset Pattern_White_Space\n9-D\n20\n85\n200E-200F\n2028-2029\nset ASCII_Hex_Digit\n30-39\n41-46\n61-66\nmap General_Category 0\n30-39 9\n41-5A 1\n61-7A 2\nD800-DFFF 18\nnames General_Category_Mask\n1 Lu\n1 Uppercase_Letter\n2 Ll\n2 Lowercase_Letter\n9 Nd\n9 Decimal_Number\n65534 L\n65534 Letter\nmap Script 103\n41-5A 25\n61-7A 25\n3041-3096 20\n30A1-30FA 22\n30FC 0\nnames Script\n25 Latn\n25 Latin\n20 Hira\n20 Hiragana\n22 Kana\n22 Katakana\n0 Zyyy\n0 Common\nlong Script\n25 Latin\nshort Script\n25 Latn\nscx 103\n41-5A 25\n61-7A 25\n3041-3096 20\n30A1-30FA 22\n30FC 1024\next 0\n20\n22\nmap Canonical_Combining_Class 0\n300-314 230\nnames Canonical_Combining_Class\n230 A\n230 Above\nemoji Basic_Emoji\n231A-231B\n{00A9_FE0F}\nend\n";
-
 /// No table.
 pub(crate) const NO_TABLES: &str = "end\n";
 

@@ -1,7 +1,8 @@
 //! Sets written as patterns, and read back.
-use crate::fixtures::{NO_TABLES, Row, TABLES, assert_rows_of_text, set_of, set_of_numerals};
+use crate::fixtures::{NO_TABLES, Row, assert_rows_of_text, set_of, set_of_numerals};
 use cp_strset::CodePointInversionListAndStringList;
 use prop_data::PropertyDatabase;
+use row_fixtures::EVERY_KIND;
 use std::alloc::Global;
 use uset_parse::{ParseError, ParseErrorKind, VariableMap, parse, read_back};
 
@@ -63,7 +64,7 @@ const WRITTEN: &[Written] = &[
 
 #[test]
 fn a_set_is_written_and_read_back(rt: HostRuntime) {
-    assert_rows_of_text(&rt, rt.alloc(), TABLES, WRITTEN);
+    assert_rows_of_text(&rt, rt.alloc(), EVERY_KIND, WRITTEN);
 }
 
 /// The inversion list of each thousandth code point.
@@ -118,7 +119,7 @@ impl Row<PropertyDatabase> for Large {
 
 #[test]
 fn a_large_set_is_read_back(rt: HostRuntime) {
-    assert_rows_of_text(&rt, rt.alloc(), TABLES, &[Large(2_114)]);
+    assert_rows_of_text(&rt, rt.alloc(), EVERY_KIND, &[Large(2_114)]);
 }
 
 /// The kind of the fault, which has no place, that the empty set is not read back for.

@@ -1,6 +1,7 @@
 //! How many tables of each kind a text has.
-use crate::fixtures::{EVERY_KIND, Row, assert_rows};
+use crate::fixtures::{Row, assert_rows};
 use prop_data::{PropertyDatabase, TableKind};
+use row_fixtures::EVERY_KIND;
 
 /// A kind, and how many tables of it the text has.
 type Count = (TableKind, usize);

@@ -1,6 +1,7 @@
 //! Tables of emoji: code points and strings.
-use crate::fixtures::{EVERY_KIND, Faulty, Row, assert_faults, assert_rows};
+use crate::fixtures::{Faulty, Row, assert_faults, assert_rows};
 use prop_data::{EmojiTable, PropertyDatabase, TableErrorKind};
+use row_fixtures::EVERY_KIND;
 
 /// What is expected of the table.
 #[derive(Clone, Copy)]

@@ -1,6 +1,7 @@
 //! Tables of maps.
-use crate::fixtures::{EVERY_KIND, Faulty, Map, Row, assert_faults, assert_rows, table_of};
+use crate::fixtures::{Faulty, Map, Row, assert_faults, assert_rows, table_of};
 use prop_data::{PropertyDatabase, TableErrorKind};
+use row_fixtures::EVERY_KIND;
 
 /// A map, a code point and the number of its value, if the text has the map.
 type Value = (Map, u32, Option<u32>);

@@ -1,6 +1,7 @@
 //! Tables of names: values by their names.
-use crate::fixtures::{EVERY_KIND, Faulty, Row, assert_faults, assert_rows};
+use crate::fixtures::{Faulty, Row, assert_faults, assert_rows};
 use prop_data::{NamesTable, PropertyDatabase, TableErrorKind};
+use row_fixtures::EVERY_KIND;
 use std::alloc::Global;
 
 /// What is expected of the tables of names.

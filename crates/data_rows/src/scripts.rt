@@ -1,7 +1,8 @@
 //! Scripts with extensions, and their lists.
-use crate::fixtures::{EVERY_KIND, Faulty, Row, assert_faults, assert_rows};
+use crate::fixtures::{Faulty, Row, assert_faults, assert_rows};
 use prop_data::{PropertyDatabase, TableErrorKind};
 use prop_values::Script;
+use row_fixtures::EVERY_KIND;
 use std::alloc::Global;
 
 /// What is expected of the scripts of a text.

@@ -1,6 +1,7 @@
 //! Tables of sets.
-use crate::fixtures::{EVERY_KIND, Faulty, Row, assert_fault, assert_faults, assert_rows};
+use crate::fixtures::{Faulty, Row, assert_fault, assert_faults, assert_rows};
 use prop_data::{PropertyDatabase, SetTable, TableErrorKind};
+use row_fixtures::EVERY_KIND;
 
 /// A text with each table; XID_Continue has no row.
 const SYNTAX: &str = "# tables\nset XID_Start # letters\n41-5A\r\n  5F\n\n61-7a\n7B0-7b1 # two\n\

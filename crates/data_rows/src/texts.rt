@@ -1,7 +1,6 @@
 //! Tables of long and short names: names by their values.
 use crate::fixtures::{
-    EVERY_KIND, Faulty, Map, Row, assert_equal, assert_faults, assert_rows, is_named_in_copy,
-    name_in, table_of,
+    Faulty, Map, Row, assert_equal, assert_faults, assert_rows, is_named_in_copy, name_in, table_of,
 };
 use cp_invlist::NoMemory;
 use prop_data::{
@@ -9,6 +8,7 @@ use prop_data::{
     TableErrorKind,
 };
 use prop_names::NamesByNumber;
+use row_fixtures::EVERY_KIND;
 use std::alloc::{AllocError, Global};
 
 /// The table that is asked.

@@ -1,9 +1,10 @@
 //! Sets of emoji characters and sequences.
-use crate::fixtures::{EMPTY, EVERY_KIND, Row, assert_rows, lacks};
+use crate::fixtures::{EMPTY, Row, assert_rows, lacks};
 use cp_strset::CodePointInversionListAndStringList;
 use prop_binary::BasicEmoji;
 use prop_data::{EmojiTable, PropertyDatabase, TableName};
 use prop_query::{EmojiSetData, EmojiSetDataBorrowed};
+use row_fixtures::EVERY_KIND;
 use std::alloc::Global;
 
 /// What is asked of a set, and whether it is a member.

@@ -1,5 +1,5 @@
 //! Single answers of a database: the free functions.
-use crate::fixtures::{EMPTY, EVERY_KIND, Known, Row, assert_rows, lacks, script_of};
+use crate::fixtures::{EMPTY, Known, Row, assert_rows, lacks, script_of};
 use prop_binary::{AsciiHexDigit, BasicEmoji};
 use prop_data::{
     DataError, EmojiTable, MapTable, NamesTable, PropertyDatabase, SetTable, TableName,
@@ -9,6 +9,7 @@ use prop_query::{
     short_name, subtag_to_script, try_from_str, try_from_utf8,
 };
 use prop_values::{CanonicalCombiningClass, GeneralCategory, Script, Subtag};
+use row_fixtures::EVERY_KIND;
 use std::alloc::Global;
 
 /// A table that is absent, as constants can have it.

@@ -1,5 +1,5 @@
 //! Maps from code points to general categories, and to what these are converted to.
-use crate::fixtures::{EMPTY, EVERY_KIND, Ends, Row, assert_rows, is_range, lacks};
+use crate::fixtures::{EMPTY, Ends, Row, assert_rows, is_range, lacks};
 use cp_invlist::NoMemory;
 use cp_trie::{CodePointMapRange, ConvertError};
 use prop_data::{MapTable, PropertyDatabase, TableName};
@@ -8,6 +8,7 @@ use prop_values::{
     Block, CanonicalCombiningClass, EnumeratedProperty, GeneralCategory, GeneralCategoryGroup,
     Script,
 };
+use row_fixtures::EVERY_KIND;
 use std::alloc::Global;
 
 /// What is expected of the map of general categories.

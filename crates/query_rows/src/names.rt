@@ -1,5 +1,5 @@
 //! Values by their names, and names by their values.
-use crate::fixtures::{EMPTY, EVERY_KIND, Known, Row, assert_rows, lacks, script_of};
+use crate::fixtures::{EMPTY, Known, Row, assert_rows, lacks, script_of};
 use prop_data::{
     MapTable, NamesTable, PropertyDatabase, PropertyEnumToValueNameLinearMap,
     PropertyEnumToValueNameLookup, TableName,
@@ -9,6 +9,7 @@ use prop_query::{
     PropertyParser, PropertyParserBorrowed,
 };
 use prop_values::{CanonicalCombiningClass, Script, Subtag};
+use row_fixtures::EVERY_KIND;
 use std::alloc::Global;
 
 /// A name, which is asked for as a text and by its bytes, and the number of the script that has it.
@@ -243,11 +244,14 @@ impl Row for Class {
     }
 }
 
+/// A table of the long names of combining classes.
+const LONG_NAMES_OF_CLASSES: &str = "long Canonical_Combining_Class\n230 Above\nend\n";
+
 const CLASSES: &[Class] = &[Class(230, Some("Above")), Class(229, None)];
 
 #[test]
 fn a_copy_of_the_names_of_classes_has_them(rt: HostRuntime) {
-    assert_rows(&rt, EVERY_KIND, CLASSES);
+    assert_rows(&rt, LONG_NAMES_OF_CLASSES, CLASSES);
 }
 
 /// A call that needs names: of scripts, or short names of combining classes.

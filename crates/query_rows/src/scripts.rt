@@ -1,10 +1,11 @@
 //! The script and the script extensions of code points.
-use crate::fixtures::{EVERY_KIND, Row, assert_rows, lacks};
+use crate::fixtures::{Row, assert_rows, lacks};
 use prop_data::{PropertyDatabase, TableName};
 use prop_query::{
     ScriptExtensionsRanges, ScriptExtensionsSet, ScriptWithExtensions, ScriptWithExtensionsBorrowed,
 };
 use prop_values::Script;
+use row_fixtures::EVERY_KIND;
 use std::alloc::Global;
 
 /// Numbers of every kind: alone, with a list of Common, of Inherited and of another script, and of a kind above these.

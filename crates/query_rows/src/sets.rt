@@ -1,9 +1,10 @@
 //! Sets of code points, by the types of properties and by the names of ECMA-262.
-use crate::fixtures::{EMPTY, EVERY_KIND, Ends, Row, assert_rows, is_range, lacks};
+use crate::fixtures::{EMPTY, Ends, Row, assert_rows, is_range, lacks};
 use cp_invlist::CodePointInversionList;
 use prop_binary::{AsciiHexDigit, Emoji};
 use prop_data::{PropertyDatabase, SetTable, TableName};
 use prop_query::{CodePointSetData, CodePointSetDataBorrowed};
+use row_fixtures::EVERY_KIND;
 use std::alloc::Global;
 
 /// What is expected of the set of hexadecimal digits.

@@ -1,11 +1,12 @@
 //! Look-ups with a ledger of the caller's.
 ghost use Rattle.std.specs.Prelude.{◌≡◌, ◌+◌, ◌<◌, ◌≤◌};
 
-use crate::fixtures::{EVERY_KIND, Row, assert_rows};
+use crate::fixtures::{Row, assert_rows};
 use cp_invlist::Steps;
 use prop_data::PropertyDatabase;
 use prop_query::{CodePointMapData, CodePointMapDataBorrowed};
 use prop_values::GeneralCategory;
+use row_fixtures::EVERY_KIND;
 use std::alloc::Global;
 use std::marker::Brand;
 use std::sync::ledger::{Blank, Ledger};

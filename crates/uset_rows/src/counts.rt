@@ -1,5 +1,6 @@
 //! How many tables of each kind a text has.
-use crate::fixtures::{TABLES, assert_holds, is_answered, words_of};
+use crate::fixtures::{assert_holds, is_answered, words_of};
+use row_fixtures::EVERY_KIND;
 use std::alloc::{AllocError, Global};
 use std::process::Abort;
 
@@ -24,7 +25,7 @@ const ONE_SET: &str = "set 1\nmap 0\nnames 0\nlong 0\nshort 0\nscx 0\next 0\nemo
 /// Texts without a fault, and their counts.
 const COUNTED: &[(&str, &str)] = &[
     (
-        TABLES,
+        EVERY_KIND,
         "set 4\nmap 3\nnames 3\nlong 1\nshort 1\nscx 1\next 1\nemoji 1\n",
     ),
     (

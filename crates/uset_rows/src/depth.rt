@@ -1,5 +1,6 @@
 //! Patterns of a million sets inside one another.
-use crate::fixtures::{TABLES, assert_holds, is_evaluated};
+use crate::fixtures::{assert_holds, is_evaluated};
+use row_fixtures::EVERY_KIND;
 use std::alloc::{AllocError, Global};
 use std::process::Abort;
 
@@ -7,7 +8,7 @@ const DEPTH: usize = 1_000_000;
 
 /// Whether the pattern has this answer, and the run the status of this number.
 fn has_answer(alloc: Global, pattern: &str, expected: &str, code: u8) -> Result<bool, AllocError> {
-    let input = format!(in alloc; "{TABLES}pat {pattern}\n")?;
+    let input = format!(in alloc; "{EVERY_KIND}pat {pattern}\n")?;
     is_evaluated(alloc, input.into_bytes(), expected, code)
 }
 

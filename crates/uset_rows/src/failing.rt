@@ -1,5 +1,6 @@
 //! Devices in memory that fail at one call after another.
-use crate::fixtures::{TABLES, assert_equal, eval};
+use crate::fixtures::{assert_equal, eval};
+use row_fixtures::EVERY_KIND;
 use std::alloc::{AllocError, Global};
 use uset_tool::{MemorySink, MemorySource, Status, run};
 
@@ -13,7 +14,7 @@ const ANSWER: &[u8] = b"ok 3 0061\n";
 
 /// The tables and a script of one pattern.
 fn input(alloc: Global) -> Result<String, AllocError> {
-    format!(in alloc; "{TABLES}pat [a]\n")
+    format!(in alloc; "{EVERY_KIND}pat [a]\n")
 }
 
 /// The number of one call, or of none.
