@@ -28,12 +28,7 @@ pub(crate) trait Row<T> {
 
 /// The index of the first row that does not hold.
 pub(crate) fn first_wrong<T, R: Row<T>>(alloc: Global, lent: &T, rows: &[R]) -> Option<usize> {
-    for (index, row) in rows.iter().enumerate() {
-        if !row.holds(alloc, lent) {
-            return Some(index);
-        }
-    }
-    None
+    rows.iter().position(|row| !row.holds(alloc, lent))
 }
 
 /// Asserts that each row holds, with nothing lent to it. A failure tells the index of the first that does not.

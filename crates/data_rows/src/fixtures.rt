@@ -100,12 +100,7 @@ pub(crate) trait Row {
 
 /// The index of the first row that does not hold.
 fn first_wrong<R: Row>(database: &PropertyDatabase, rows: &[R]) -> Option<usize> {
-    for (index, row) in rows.iter().enumerate() {
-        if !row.holds(database) {
-            return Some(index);
-        }
-    }
-    None
+    rows.iter().position(|row| !row.holds(database))
 }
 
 /// The index of the first row that does not hold of the text's database. This function alone owns a database, since it

@@ -33,12 +33,7 @@ pub(crate) trait Row {
 
 /// The index of the first row that does not hold.
 fn first_wrong<R: Row>(alloc: Global, database: &PropertyDatabase, rows: &[R]) -> Option<usize> {
-    for (index, row) in rows.iter().enumerate() {
-        if !row.holds(alloc, database) {
-            return Some(index);
-        }
-    }
-    None
+    rows.iter().position(|row| !row.holds(alloc, database))
 }
 
 /// The index of the first row that does not hold of the text's database. This function alone owns a database, since it
