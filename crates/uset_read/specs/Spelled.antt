@@ -10,6 +10,8 @@ use Rattle.uset_grammar.specs.Escape.{Apart, Spelled, itself, numbers, codes_of}
 use Rattle.uset_grammar.specs.EscapeSlips.{Around, in_string, in_bracket, EscapeOutcome}
 use Rattle.uset_read.specs.declared.stop.Stop.{Stop}
 use Rattle.uset_read.specs.UnitRead.{StopsAt}
+use Rattle.uset_read.specs.declared.digits.Digits.{Digits}
+use Rattle.uset_read.specs.declared.digits.Digits.TheVariants.{Two, Four}
 use Rattle.uset_grammar.specs.EscapeParts.{later_in, number_in, first_digit_in, number_at as number_behind, at_next_in, sole_in, all_in, two_digits_in, four_digits_in, long_escape, next_in, braced_in, brace_or, letters_in}
 use Rattle.uset_read.specs.declared.escape.Around.{Around as CodeAround}
 use Rattle.uset_read.specs.declared.escape.Around.TheVariants.{String, Bracket}
@@ -44,6 +46,11 @@ behind_next (Number n rest) = rest.now
 abbrev pub spelled_read : CodeSpelled × Bor (List ℕ) → Outcome Spelled
 spelled_read p = got (spelled_seen p.0) (chars p.1.now)
 
+-- so many digits onto the number
+abbrev pub digits_in : Digits → ℕ → Text → Outcome ℕ
+digits_in Two = two_digits_in
+digits_in Four = four_digits_in
+
 -- The parts of the reader over the bytes that the code holds: the list of the white space, where the escape stands, the
 -- text that begins with it, and the text of the part.
 abbrev pub next_at : List ℕ → CodeAround → List ℕ → List ℕ → List ℕ → Outcome (Option ℕ)
@@ -75,15 +82,9 @@ number_behind_at around begin ns text = number_behind (around_seen around) (char
 abbrev pub behind_white_at : CodeAround → List ℕ → List ℕ → List ℕ → Outcome (Option ℕ)
 behind_white_at around begin ns text = at_next_in (around_seen around) (chars begin) ns (chars text)
 
-abbrev pub digits_at : List ℕ → CodeAround → List ℕ → (ℕ → Text → Outcome ℕ) → List ℕ → Outcome Spelled
+abbrev pub digits_at : List ℕ → CodeAround → List ℕ → Digits → List ℕ → Outcome Spelled
 digits_at white_space around begin digits text =
-    brace_or (contains white_space) (around_seen around) (chars begin) digits (chars text)
-
-abbrev pub two_at : List ℕ → CodeAround → List ℕ → List ℕ → Outcome Spelled
-two_at white_space around begin text = digits_at white_space around begin two_digits_in text
-
-abbrev pub four_at : List ℕ → CodeAround → List ℕ → List ℕ → Outcome Spelled
-four_at white_space around begin text = digits_at white_space around begin four_digits_in text
+    brace_or (contains white_space) (around_seen around) (chars begin) (digits_in digits) (chars text)
 
 abbrev pub six_at : CodeAround → List ℕ → List ℕ → Outcome Spelled
 six_at around begin text = long_escape (around_seen around) (chars begin) (chars text)

@@ -3,9 +3,19 @@ ghost use Rattle.std.specs.Prelude.{◌<◌, ◌≤◌, ◌*◌, ◌+◌, ◌^�
 ghost use Rattle.std.specs.Str.{chars};
 ghost use Rattle.uset_read.specs.Stops.{left_at, with_rest, Tells};
 ghost use Rattle.uset_grammar.specs.EscapeParts.{digit_in, two_digits_in, four_digits_in, last_digit_in, six_digits_in};
+ghost use Rattle.uset_read.specs.Spelled.{digits_in};
 
 use crate::stop::{Kind, Stop};
 use crate::text::take_first;
+
+/// How many digits an escape without braces has behind `x` or `u`.
+#[derive(Clone, Copy, Drop)]
+pub(crate) enum Digits {
+    /// Behind `x`.
+    Two,
+    /// Behind `u`.
+    Four,
+}
 
 /// Reads a hexadecimal digit onto the number.
 #[tactic(auto, unfolding(uset_grammar::specs::EscapeParts::digit_in, uset_grammar::specs::Escape::is_hex))]
@@ -26,7 +36,7 @@ pub(crate) fn read_digit(number: u32, text: &str) -> Result<(u32, &str), Stop<'_
 
 /// Reads two hexadecimal digits onto the number.
 #[tactic(auto, unfolding(uset_grammar::specs::EscapeParts::two_digits_in))]
-pub(crate) fn read_two_digits(number: u32, text: &str) -> Result<(u32, &str), Stop<'_>>
+fn read_two_digits(number: u32, text: &str) -> Result<(u32, &str), Stop<'_>>
     requires { number < 2 ^ 16 }
     ensures parts { Tells (two_digits_in number (chars text.now)) with_rest result }
     ensures bound { IfOk result (λ p. p.0 < number * 256 + 256) }
@@ -40,7 +50,7 @@ pub(crate) fn read_two_digits(number: u32, text: &str) -> Result<(u32, &str), St
 
 /// Reads four hexadecimal digits onto the number.
 #[tactic(auto, unfolding(uset_grammar::specs::EscapeParts::four_digits_in))]
-pub(crate) fn read_four_digits(number: u32, text: &str) -> Result<(u32, &str), Stop<'_>>
+fn read_four_digits(number: u32, text: &str) -> Result<(u32, &str), Stop<'_>>
     requires { number < 2 ^ 8 }
     ensures parts { Tells (four_digits_in number (chars text.now)) with_rest result }
     ensures bound { IfOk result (λ p. p.0 < number * 65536 + 65536) }
@@ -50,6 +60,18 @@ pub(crate) fn read_four_digits(number: u32, text: &str) -> Result<(u32, &str), S
 {
     let (number, rest) = read_two_digits(number, text)?;
     read_two_digits(number, rest)
+}
+
+/// Reads a number of so many hexadecimal digits.
+pub(crate) fn read_digits(digits: Digits, text: &str) -> Result<(u32, &str), Stop<'_>>
+    ensures parts { Tells (digits_in digits 0 (chars text.now)) with_rest result }
+    ensures shorter { IfOk result (λ p. length p.1.now < length text.now) }
+    ensures place { IfErr result (λ stop. left_at stop ≤ length text.now) }
+{
+    match digits {
+        Digits::Two => read_two_digits(0, text),
+        Digits::Four => read_four_digits(0, text),
+    }
 }
 
 /// Reads the sixth hexadecimal digit of a number.

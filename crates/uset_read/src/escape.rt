@@ -3,9 +3,9 @@ ghost use Rattle.std.specs.Prelude.{◌≡◌, ◌<◌, ◌≤◌, ◌∷◌, fa
 ghost use Rattle.std.specs.Str.{chars};
 ghost use Rattle.uset_grammar.specs.Escape.{is_hex, is_surrogate, plain};
 ghost use Rattle.uset_read.specs.Stops.{left_at, with_rest, Tells};
-ghost use Rattle.uset_read.specs.Spelled.{spelled_read, next_seen, behind_next, later_at, further_at, number_at, sole_at, all_at, number_behind_at, behind_white_at, next_at, braced_at, two_at, four_at, six_at, letters_at, EscapeIs, EscapeStops};
+ghost use Rattle.uset_read.specs.Spelled.{spelled_read, next_seen, behind_next, later_at, further_at, number_at, sole_at, all_at, number_behind_at, behind_white_at, next_at, braced_at, digits_at, six_at, letters_at, EscapeIs, EscapeStops};
 
-use crate::digits::{read_digit, read_four_digits, read_six_digits, read_two_digits};
+use crate::digits::{Digits, read_digit, read_digits, read_six_digits};
 use crate::stop::{Kind, Stop};
 use crate::text::{read_char, skip_white_space, take_first};
 use cp_invlist::CodePointInversionList;
@@ -275,15 +275,16 @@ fn read_braced<'a>(
     }
 }
 
-/// Reads what follows the `x` of an escape that begins there.
-fn read_two<'a>(
+/// Reads numbers in braces or so many digits, behind the letter of an escape that begins there.
+fn read_braced_or_digits<'a>(
     alloc: Global,
     white_space: &CodePointInversionList,
     around: Around,
     begin: &'a str,
+    digits: Digits,
     text: &'a str,
 ) -> Result<(Spelled, &'a str), Stop<'a>>
-    ensures parts { Tells (two_at white_space.now around begin.now text.now) spelled_read result }
+    ensures parts { Tells (digits_at white_space.now around begin.now digits text.now) spelled_read result }
     ensures shorter { IfOk result (λ p. length p.1.now < length text.now) }
     ensures place { IfErr result (λ stop. left_at stop ≤ max (length begin.now) (length text.now)) }
 {
@@ -291,27 +292,7 @@ fn read_two<'a>(
     if c == '{' {
         return read_braced(alloc, white_space, around, begin, inner);
     }
-    let (number, rest) = read_two_digits(0, text)?;
-    end_sole(alloc, around, begin, number, rest)
-}
-
-/// Reads what follows the `u` of an escape that begins there.
-fn read_four<'a>(
-    alloc: Global,
-    white_space: &CodePointInversionList,
-    around: Around,
-    begin: &'a str,
-    text: &'a str,
-) -> Result<(Spelled, &'a str), Stop<'a>>
-    ensures parts { Tells (four_at white_space.now around begin.now text.now) spelled_read result }
-    ensures shorter { IfOk result (λ p. length p.1.now < length text.now) }
-    ensures place { IfErr result (λ stop. left_at stop ≤ max (length begin.now) (length text.now)) }
-{
-    let (c, inner) = take_first(text)?;
-    if c == '{' {
-        return read_braced(alloc, white_space, around, begin, inner);
-    }
-    let (number, rest) = read_four_digits(0, text)?;
+    let (number, rest) = read_digits(digits, text)?;
     end_sole(alloc, around, begin, number, rest)
 }
 
@@ -362,8 +343,8 @@ pub(crate) fn read_letter<'a>(
 {
     let (c, rest) = take_first(text)?;
     match c {
-        'x' => read_two(alloc, white_space, around, begin, rest),
-        'u' => read_four(alloc, white_space, around, begin, rest),
+        'x' => read_braced_or_digits(alloc, white_space, around, begin, Digits::Two, rest),
+        'u' => read_braced_or_digits(alloc, white_space, around, begin, Digits::Four, rest),
         'U' => read_six(alloc, around, begin, rest),
         'N' => Err(Stop::Fault(Kind::Unimplemented, text)),
         _ => Ok((Spelled::Itself(plain(c)), rest)),

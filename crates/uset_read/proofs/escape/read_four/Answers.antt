@@ -1,4 +1,0 @@
-use Rattle.uset_read.proofs.escape.read_four.Goals as goal
-
-pub returns-then-c-eq123-clause-parts : goal.returns-then-c-eq123-clause-parts
-returns-then-c-eq123-clause-parts c = rw (c.in_ok-c.ensures.parts, c.if-c-eq123.true) c.read_braced.ensures.parts
