@@ -10,7 +10,7 @@ use Rattle.uset_grammar.specs.Outcome.{unexpected, invalid_escape, Outcome, got,
 use Rattle.uset_grammar.specs.Escape.{Apart, onto, is_hex, value, plain, Spelled, itself, numbers, Letter, four, two, six, name, other, letter, is_above, is_surrogate}
 use Rattle.uset_grammar.specs.EscapeSlips.{Around, in_string, in_bracket, EscapeOutcome}
 use Rattle.uset_grammar.specs.Parts.{and_then, TellsOutcome}
-use Rattle.uset_grammar.specs.EscapeParts.{digit_in, two_digits_in, four_digits_in, six_digits_in, last_digit_in, checked, sole_in, is_later, all_in, second_in, behind_number, number_or, numbers_in, braced_in, zero_in, long_escape, letter_in, letters_in}
+use Rattle.uset_grammar.specs.EscapeParts.{digit_in, two_digits_in, four_digits_in, six_digits_in, last_digit_in, checked, sole_in, all_in, number_at, behind_number, number_or, numbers_in, braced_in, zero_in, long_escape, letter_in, letters_in}
 use Rattle.uset_grammar.specs.EscapeParts as R
 use Rattle.uset_grammar.specs.Laws.{EscapesByParts}
 use Rattle.uset_grammar.proofs.UnitMachine.{Next, goes, whole, refuses, Slip, turn, run}
@@ -29,13 +29,19 @@ abbrev long_in : ℕ → ℕ → Text → Outcome ℕ
 long_in zero n t = last_digit_in n t
 long_in (suc k) n t = and_then (digit_in n t) (long_in k)
 
+-- the test of a number that began there, behind those
 abbrev later_in : Around → List ℕ → Text → ℕ → Text → Outcome ℕ
-later_in a ns begin n t = R.later_in a (is_later ns) begin n t
+later_in a [] begin n t = got n t
+later_in a (m ∷ ns) begin n t = R.later_in a begin n t
 
 abbrev sixth_in : Around → List ℕ → Text → ℕ → Text → Text → Outcome ℕ
-sixth_in a ns begin n at t = R.sixth_in a (is_later ns) begin n at t
+sixth_in a ns begin n at t = cond (is_above n) (faulty invalid_escape at) (later_in a ns begin n t)
 
--- at most so many digits more
+abbrev second_in : {V : Type 0} → Around → Text → List ℕ → Outcome V → Outcome V
+second_in a begin [] o = o
+second_in a begin (n ∷ ns) o = R.second_in a begin n ns o
+
+-- at most so many digits more, and then that test
 abbrev number_in : Around → List ℕ → Text → ℕ → ℕ → Text → Outcome ℕ
 number_in a ns begin zero n t = got n t
 number_in a ns begin (suc m) n [] = ended
@@ -76,26 +82,51 @@ six_are_long t =
     by_three : (n : ℕ) (t : Text) → and_then (short_in 3 n t) (long_in 1) ≡ long_in 4 n t
     by_three n t = then_then (digit_in n t) (short_in 2) (long_in 1) ∙ ap (λ f. and_then (digit_in n t) f) (λ i m u. by_two m u i)
 
+-- an outcome by a test, and then a part
+cond_then : {A B : Type 0} (b : Bool) (o u : Outcome A) (f : A → Text → Outcome B) → and_then (cond b o u) f ≡ cond b (and_then o f) (and_then u f)
+cond_then true o u f = refl
+cond_then false o u f = refl
+
 module _ (a : Around) (ns : List ℕ) (begin : Text) where
-  one_left : (n : ℕ) (t : Text) → R.number_in a (is_later ns) begin 1 n t ≡ number_in a ns begin 1 n t
+  one_left : (n : ℕ) (t : Text) → and_then (R.number_in 1 n t) (later_in a ns begin) ≡ number_in a ns begin 1 n t
   one_left n [] = refl
-  one_left n (c ∷ t) = refl
+  one_left n (c ∷ t) =
+      cond_then (is_hex c) (checked (c ∷ t) (n * 16 + digit_value c) t) (got n (c ∷ t)) (later_in a ns begin)
+      ∙ ap (λ o. cond (is_hex c) o (later_in a ns begin n (c ∷ t)))
+      (cond_then (is_above (n * 16 + digit_value c)) (faulty invalid_escape (c ∷ t)) (got (n * 16 + digit_value c) t) (later_in a ns begin))
 
-  two_left : (n : ℕ) (t : Text) → R.number_in a (is_later ns) begin 2 n t ≡ number_in a ns begin 2 n t
+  -- a digit that is not the last
+  digit_left : (m n c : ℕ) (t : Text) → and_then (R.number_in (suc m) (n * 16 + digit_value c) t) (later_in a ns begin) ≡ number_in a ns begin (suc m) (n * 16 + digit_value c) t →
+      and_then (cond (is_hex c) (R.number_in (suc m) (n * 16 + digit_value c) t) (got n (c ∷ t))) (later_in a ns begin) ≡ number_in a ns begin (suc (suc m)) n (c ∷ t)
+  digit_left m n c t h =
+      cond_then (is_hex c) (R.number_in (suc m) (n * 16 + digit_value c) t) (got n (c ∷ t)) (later_in a ns begin)
+      ∙ ap (λ o. cond (is_hex c) o (later_in a ns begin n (c ∷ t))) h
+
+  two_left : (n : ℕ) (t : Text) → and_then (R.number_in 2 n t) (later_in a ns begin) ≡ number_in a ns begin 2 n t
   two_left n [] = refl
-  two_left n (c ∷ t) = ap (λ o. cond (is_hex c) o (later_in a ns begin n (c ∷ t))) (one_left (n * 16 + digit_value c) t)
+  two_left n (c ∷ t) = digit_left 0 n c t (one_left (n * 16 + digit_value c) t)
 
-  three_left : (n : ℕ) (t : Text) → R.number_in a (is_later ns) begin 3 n t ≡ number_in a ns begin 3 n t
+  three_left : (n : ℕ) (t : Text) → and_then (R.number_in 3 n t) (later_in a ns begin) ≡ number_in a ns begin 3 n t
   three_left n [] = refl
-  three_left n (c ∷ t) = ap (λ o. cond (is_hex c) o (later_in a ns begin n (c ∷ t))) (two_left (n * 16 + digit_value c) t)
+  three_left n (c ∷ t) = digit_left 1 n c t (two_left (n * 16 + digit_value c) t)
 
-  four_left : (n : ℕ) (t : Text) → R.number_in a (is_later ns) begin 4 n t ≡ number_in a ns begin 4 n t
+  four_left : (n : ℕ) (t : Text) → and_then (R.number_in 4 n t) (later_in a ns begin) ≡ number_in a ns begin 4 n t
   four_left n [] = refl
-  four_left n (c ∷ t) = ap (λ o. cond (is_hex c) o (later_in a ns begin n (c ∷ t))) (three_left (n * 16 + digit_value c) t)
+  four_left n (c ∷ t) = digit_left 2 n c t (three_left (n * 16 + digit_value c) t)
 
-  five_left : (n : ℕ) (t : Text) → R.number_in a (is_later ns) begin 5 n t ≡ number_in a ns begin 5 n t
+  five_left : (n : ℕ) (t : Text) → and_then (R.number_in 5 n t) (later_in a ns begin) ≡ number_in a ns begin 5 n t
   five_left n [] = refl
-  five_left n (c ∷ t) = ap (λ o. cond (is_hex c) o (later_in a ns begin n (c ∷ t))) (four_left (n * 16 + digit_value c) t)
+  five_left n (c ∷ t) = digit_left 3 n c t (four_left (n * 16 + digit_value c) t)
+
+-- a number that begins with this digit, behind those
+number_is : (a : Around) (q : Text) (ns : List ℕ) (c : ℕ) (t : Text) → is_hex c ≡ true →
+    number_at a q ns (c ∷ t) ≡ second_in a q ns (number_in a ns (c ∷ t) 5 (digit_value c) t)
+number_is a q [] c t h = rw h (then_got (R.number_in 5 (digit_value c) t) ∙ five_left a [] (c ∷ t) (digit_value c) t)
+number_is a q (n ∷ ns) c t h = rw h (ap (R.second_in a q n ns) (five_left a (n ∷ ns) (c ∷ t) (digit_value c) t))
+
+no_number_is : (a : Around) (q : Text) (ns : List ℕ) (c : ℕ) (t : Text) → is_hex c ≡ false → number_at a q ns (c ∷ t) ≡ faulty (unexpected c) (c ∷ t)
+no_number_is a q [] c t h = rw h refl
+no_number_is a q (n ∷ ns) c t h = rw h refl
 
 hex_no_brace : (c : ℕ) → is_hex c ≡ true → (c == 0x7D) ≡ false
 unfolding is_hex
@@ -257,7 +288,8 @@ module _ (white_space : ℕ → Bool) (apart : Apart white_space) (a : Around) (
   -- a later number that is a surrogate
   later_placed : (a' : Around) (ns : List ℕ) (begin b : Text) (v : ℕ) (t p u : Text) (f : ℕ → Text → Outcome Spelled) (y : Slip) (n : Next State Spelled) (go : Go) (c : ℕ) →
       Placed q (f v t) (turn y n go p c u) → q ≡ b ++ begin → Placed q (and_then (later_in a' ns begin v t) f) (turn (option_or (later a' ns b v) y) n go p c u)
-  later_placed (in_bracket both) ns begin b v t p u f y n go c h e = h
+  later_placed (in_bracket both) [] begin b v t p u f y n go c h e = h
+  later_placed (in_bracket both) (m ∷ ns) begin b v t p u f y n go c h e = h
   later_placed in_string [] begin b v t p u f y n go c h e = h
   later_placed in_string (m ∷ ns) begin b v t p u f y n go c h e = by (is_surrogate v)
     where
@@ -362,7 +394,7 @@ module _ (white_space : ℕ → Bool) (apart : Apart white_space) (a : Around) (
       Placed q (number_or white_space a q (numbers_in white_space a q f) ns (skip white_space (c ∷ t))) (machine white_space apart a q p (awaits ns) (c ∷ t))
   awaits_by f c t p ns all (digit h r s) few g ih =
       rw (s, r, h) (subst (λ o. Placed q o (turn (option_or (second a ns) (end_slip a (goes (number ns 5 (c ∷ []) p)))) (goes (number ns 5 (c ∷ []) p)) (λ s. machine white_space apart a q (p ++ c ∷ []) s t) p c t))
-      (second_then a q ns (number_in a ns (c ∷ t) 5 (digit_value c) t) (behind f ns) ∙ ap (λ o. and_then (second_in a q ns o) (behind f ns)) (sym (five_left a ns (c ∷ t) (digit_value c) t)))
+      (second_then a q ns (number_in a ns (c ∷ t) 5 (digit_value c) t) (behind f ns) ∙ ap (λ o. and_then o (behind f ns)) (sym (number_is a q ns c t h)))
       (second_placed a ns (and_then (number_in a ns (c ∷ t) 5 (digit_value c) t) (behind f ns)) (end_slip a (goes (number ns 5 (c ∷ []) p))) (goes (number ns 5 (c ∷ []) p))
       (λ s. machine white_space apart a q (p ++ c ∷ []) s t) p t c
       (goes_on p t c (number ns 5 (c ∷ []) p) (λ s. machine white_space apart a q (p ++ c ∷ []) s t) (and_then (number_in a ns (c ∷ t) 5 (digit_value c) t) (behind f ns))
@@ -370,7 +402,7 @@ module _ (white_space : ℕ → Bool) (apart : Apart white_space) (a : Around) (
   awaits_by f c t p ns all (brace h r) few g ih = let s = no_white c r in rw (s, h, r) (all_placed p t c ns (λ s. machine white_space apart a q (p ++ c ∷ []) s t) g)
   awaits_by f c t p ns all (white h r s) few g (inl ih) = rw (s, h, r) (goes_on p t c (awaits ns) (λ s. machine white_space apart a q (p ++ c ∷ []) s t) (number_or white_space a q (numbers_in white_space a q f) ns (skip white_space t)) ih)
   awaits_by f c t p ns all (white h r s) few g (inr isnt) = absurd (let e : true ≡ false = sym s ∙ isnt in cc)
-  awaits_by f c t p ns all (stray h r s) few g ih = rw (s, h, r) (refused_at p t c (λ s. machine white_space apart a q (p ++ c ∷ []) s t) g)
+  awaits_by f c t p ns all (stray h r s) few g ih = rw (s, r, no_number_is a q ns c t h, h) (refused_at p t c (λ s. machine white_space apart a q (p ++ c ∷ []) s t) g)
 
   awaits_placed : (f : ℕ) (t p : Text) (ns : List ℕ) → Reads f → length t ≤ f → q ≡ p ++ t →
       Placed q (number_or white_space a q (numbers_in white_space a q f) ns (skip white_space t)) (machine white_space apart a q p (awaits ns) t)

@@ -1,5 +1,5 @@
 -- An escape that is read part by part (UTS 35, Unicode Sets).
-use Rattle.std.specs.Prelude.{ℕ, zero, suc, ◌+◌, ◌*◌, ◌-◌, Bool, true, false, ◌==◌, length, List, [], ◌∷◌, ◌++◌, Option, Some, None, if◌then◌else◌}
+use Rattle.std.specs.Prelude.{ℕ, zero, suc, ◌+◌, ◌*◌, ◌-◌, Bool, ◌==◌, length, List, [], ◌∷◌, ◌++◌, Option, Some, None, if◌then◌else◌}
 use Rattle.std.specs.Char.{digit_value}
 use Prim.Native.Char.{code}
 use Rattle.uset_grammar.specs.Text.{Text, ◌∈◌, skip}
@@ -34,30 +34,18 @@ abbrev pub sole_in : Around → Text → ℕ → Text → Outcome Spelled
 sole_in (in_bracket both) begin n t = got (numbers (n ∷ [])) t
 sole_in in_string begin n t = if is_surrogate n then faulty invalid_escape begin else got (numbers (n ∷ [])) t
 
--- a number that began there, behind another or not
-abbrev pub later_in : Around → Bool → Text → ℕ → Text → Outcome ℕ
-later_in (in_bracket both) later begin n t = got n t
-later_in in_string false begin n t = got n t
-later_in in_string true begin n t = if is_surrogate n then faulty invalid_escape begin else got n t
-
--- a number of six digits, the last of them there
-abbrev pub sixth_in : Around → Bool → Text → ℕ → Text → Text → Outcome ℕ
-sixth_in a later begin n at t = if is_above n then faulty invalid_escape at else later_in a later begin n t
-
--- what is left of a number that began there: digits or none, at most so many, where that limit is at least one
-abbrev pub number_in : Around → Bool → Text → ℕ → ℕ → Text → Outcome ℕ
-number_in a later begin left n [] = ended
-number_in a later begin left n (c ∷ t) =
+-- what is left of a number: digits or none, at most so many, where that limit is at least one
+abbrev pub number_in : ℕ → ℕ → Text → Outcome ℕ
+number_in left n [] = ended
+number_in left n (c ∷ t) =
     if is_hex c
-    then (if left == 1 then sixth_in a later begin (n * 16 + digit_value c) (c ∷ t) t
-    else number_in a later begin (left - 1) (n * 16 + digit_value c) t)
-    else later_in a later begin n (c ∷ t)
+    then (if left == 1 then checked (c ∷ t) (n * 16 + digit_value c) t else number_in (left - 1) (n * 16 + digit_value c) t)
+    else got n (c ∷ t)
 
--- a number that begins there
-abbrev pub first_digit_in : Around → Bool → Text → Outcome ℕ
-first_digit_in a later [] = ended
-first_digit_in a later (c ∷ t) =
-    if is_hex c then number_in a later (c ∷ t) 5 (digit_value c) t else faulty (unexpected c) (c ∷ t)
+-- a number of one to six digits
+abbrev pub first_digit_in : Text → Outcome ℕ
+first_digit_in [] = ended
+first_digit_in (c ∷ t) = if is_hex c then number_in 5 (digit_value c) t else faulty (unexpected c) (c ∷ t)
 
 -- the numbers of an escape that begins there, at its closing brace
 abbrev pub all_in : Around → Text → ℕ → List ℕ → Text → Outcome Spelled
@@ -65,22 +53,23 @@ all_in a begin c [] t = faulty (unexpected c) (c ∷ t)
 all_in a begin c (n ∷ []) t = sole_in a begin n t
 all_in a begin c (n ∷ m ∷ ns) t = got (numbers (n ∷ m ∷ ns)) t
 
--- the first digit of a second number, of an escape that begins there
-abbrev pub second_in : {V : Type 0} → Around → Text → List ℕ → Outcome V → Outcome V
-second_in a begin [] o = o
-second_in in_string begin (n ∷ []) o = if is_surrogate n then faulty invalid_escape begin else o
-second_in (in_bracket both) begin (n ∷ []) o = if both then o else faulty (unexpected (code "\\")) begin
-second_in a begin (n ∷ m ∷ ns) o = o
+-- a number behind that one and those, of an escape that begins there: before the second, the first is judged
+abbrev pub second_in : {V : Type 0} → Around → Text → ℕ → List ℕ → Outcome V → Outcome V
+second_in in_string begin n [] o = if is_surrogate n then faulty invalid_escape begin else o
+second_in (in_bracket both) begin n [] o = if both then o else faulty (unexpected (code "\\")) begin
+second_in a begin n (m ∷ ns) o = o
 
-abbrev pub is_later : List ℕ → Bool
-is_later [] = false
-is_later (n ∷ ns) = true
+-- a number that began there, behind another: in a string it is no surrogate
+abbrev pub later_in : Around → Text → ℕ → Text → Outcome ℕ
+later_in (in_bracket both) begin n t = got n t
+later_in in_string begin n t = if is_surrogate n then faulty invalid_escape begin else got n t
 
 -- a number behind those, of an escape that begins there
 abbrev pub number_at : Around → Text → List ℕ → Text → Outcome ℕ
-number_at a begin ns [] = ended
-number_at a begin ns (c ∷ t) =
-    if is_hex c then second_in a begin ns (number_in a (is_later ns) (c ∷ t) 5 (digit_value c) t)
+number_at a begin [] t = first_digit_in t
+number_at a begin (n ∷ ns) [] = ended
+number_at a begin (n ∷ ns) (c ∷ t) =
+    if is_hex c then second_in a begin n ns (and_then (first_digit_in (c ∷ t)) (later_in a (c ∷ t)))
     else faulty (unexpected c) (c ∷ t)
 
 -- a zero

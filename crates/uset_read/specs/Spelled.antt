@@ -1,5 +1,5 @@
 -- Where an escape stands and what it spells, as the code keeps them.
-use Rattle.std.specs.Prelude.{◌≡◌, ℕ, Bool, List, ◌∷◌, Option, Some, None}
+use Rattle.std.specs.Prelude.{◌≡◌, ℕ, List, ◌∷◌, Option, Some, None}
 use Rattle.std.specs.Borrow.{Bor}
 use Rattle.std.specs.Str.{chars}
 use Prim.Native.Char.{code}
@@ -12,7 +12,7 @@ use Rattle.uset_read.specs.declared.stop.Stop.{Stop}
 use Rattle.uset_read.specs.UnitRead.{StopsAt}
 use Rattle.uset_read.specs.declared.digits.Digits.{Digits}
 use Rattle.uset_read.specs.declared.digits.Digits.TheVariants.{Two, Four}
-use Rattle.uset_grammar.specs.EscapeParts.{later_in, number_in, first_digit_in, number_at as number_behind, at_next_in, sole_in, all_in, two_digits_in, four_digits_in, long_escape, next_in, braced_in, brace_or, letters_in}
+use Rattle.uset_grammar.specs.EscapeParts.{number_at, at_next_in, sole_in, all_in, two_digits_in, four_digits_in, long_escape, next_in, braced_in, brace_or, letters_in}
 use Rattle.uset_read.specs.declared.escape.Around.{Around as CodeAround}
 use Rattle.uset_read.specs.declared.escape.Around.TheVariants.{String, Bracket}
 use Rattle.uset_read.specs.declared.escape.Spelled.{Spelled as CodeSpelled}
@@ -61,15 +61,6 @@ abbrev pub braced_at : List ℕ → CodeAround → List ℕ → List ℕ → Out
 braced_at white_space around begin text =
     braced_in (contains white_space) (around_seen around) (chars begin) (chars text)
 
-abbrev pub later_at : CodeAround → Bool → List ℕ → ℕ → List ℕ → Outcome ℕ
-later_at around later begin number rest = later_in (around_seen around) later (chars begin) number (chars rest)
-
-abbrev pub further_at : CodeAround → Bool → List ℕ → ℕ → List ℕ → Outcome ℕ
-further_at around later begin first text = number_in (around_seen around) later (chars begin) 5 first (chars text)
-
-abbrev pub number_at : CodeAround → Bool → List ℕ → Outcome ℕ
-number_at around later text = first_digit_in (around_seen around) later (chars text)
-
 abbrev pub sole_at : CodeAround → List ℕ → ℕ → List ℕ → Outcome Spelled
 sole_at around begin number rest = sole_in (around_seen around) (chars begin) number (chars rest)
 
@@ -77,7 +68,7 @@ abbrev pub all_at : CodeAround → List ℕ → List ℕ → List ℕ → Outcom
 all_at around begin ns rest = all_in (around_seen around) (chars begin) (code "}") ns (chars rest)
 
 abbrev pub number_behind_at : CodeAround → List ℕ → List ℕ → List ℕ → Outcome ℕ
-number_behind_at around begin ns text = number_behind (around_seen around) (chars begin) ns (chars text)
+number_behind_at around begin ns text = number_at (around_seen around) (chars begin) ns (chars text)
 
 abbrev pub behind_white_at : CodeAround → List ℕ → List ℕ → List ℕ → Outcome (Option ℕ)
 behind_white_at around begin ns text = at_next_in (around_seen around) (chars begin) ns (chars text)

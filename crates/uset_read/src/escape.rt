@@ -1,9 +1,10 @@
 //! Escapes.
-ghost use Rattle.std.specs.Prelude.{◌≡◌, ◌<◌, ◌≤◌, ◌∷◌, false, true, length, max, IfOk, IfErr};
+ghost use Rattle.std.specs.Prelude.{◌≡◌, ◌<◌, ◌≤◌, ◌∷◌, length, max, IfOk, IfErr};
 ghost use Rattle.std.specs.Str.{chars};
 ghost use Rattle.uset_grammar.specs.Escape.{is_hex, is_surrogate, plain};
+ghost use Rattle.uset_grammar.specs.EscapeParts.{number_in, first_digit_in};
 ghost use Rattle.uset_read.specs.Stops.{left_at, with_rest, Tells};
-ghost use Rattle.uset_read.specs.Spelled.{spelled_read, next_seen, behind_next, later_at, further_at, number_at, sole_at, all_at, number_behind_at, behind_white_at, next_at, braced_at, digits_at, six_at, letters_at, EscapeIs, EscapeStops};
+ghost use Rattle.uset_read.specs.Spelled.{spelled_read, next_seen, behind_next, sole_at, all_at, number_behind_at, behind_white_at, next_at, braced_at, digits_at, six_at, letters_at, EscapeIs, EscapeStops};
 
 use crate::digits::{Digits, read_digit, read_digits, read_six_digits};
 use crate::stop::{Kind, Stop};
@@ -38,44 +39,14 @@ fn is_surrogate(number: u32) -> bool
     0xD800 <= number && number <= 0xDFFF
 }
 
-/// A number that began there and ends in front of the rest. Behind another one of a string it is no
-/// surrogate.
-fn end_number<'a>(
-    around: Around,
-    later: bool,
-    begin: &'a str,
-    number: u32,
-    rest: &'a str,
-) -> Result<(u32, &'a str), Stop<'a>>
-    ensures parts { Tells (later_at around later begin.now number rest.now) with_rest result }
-    ensures rest { IfOk result (λ p. p.1.now ≡ rest.now) }
-    ensures place { IfErr result (λ stop. left_at stop ≤ length begin.now) }
-{
-    match around {
-        Around::Bracket(_) => Ok((number, rest)),
-        Around::String => {
-            if later && is_surrogate(number) {
-                return Err(Stop::Fault(Kind::InvalidEscape, begin));
-            }
-            Ok((number, rest))
-        }
-    }
-}
-
-/// Reads at most five digits more of a number that begins there with this digit.
+/// Reads at most five digits more of a number that begins with this digit.
 #[tactic(auto, unfolding(uset_grammar::specs::Escape::is_hex, uset_grammar::specs::Escape::is_above))]
-fn read_further_digits<'a>(
-    around: Around,
-    later: bool,
-    begin: &'a str,
-    first: u32,
-    text: &'a str,
-) -> Result<(u32, &'a str), Stop<'a>>
+fn read_further_digits(first: u32, text: &str) -> Result<(u32, &str), Stop<'_>>
     requires { first < 16 }
-    ensures parts { Tells (further_at around later begin.now first text.now) with_rest result }
+    ensures parts { Tells (number_in 5 first (chars text.now)) with_rest result }
     ensures within { IfOk result (λ p. length p.1.now ≤ length text.now) }
     ensures no_more { IfOk result (λ p. length (chars p.1.now) ≤ length (chars text.now)) }
-    ensures place { IfErr result (λ stop. left_at stop ≤ max (length begin.now) (length text.now)) }
+    ensures place { IfErr result (λ stop. left_at stop ≤ length text.now) }
 {
     let mut number = first;
     let mut rest = text;
@@ -83,30 +54,30 @@ fn read_further_digits<'a>(
     loop {
         let (c, behind) = take_first(rest)?;
         let Some(digit) = c.to_digit(16) else {
-            return end_number(around, later, begin, number, rest);
+            return Ok((number, rest));
         };
         number = number * 16 + digit;
         if left == 1 {
             if number > 0x10_FFFF {
                 return Err(Stop::Fault(Kind::InvalidEscape, rest));
             }
-            return end_number(around, later, begin, number, behind);
+            return Ok((number, behind));
         }
         left -= 1;
         rest = behind;
     }
 }
 
-/// Reads a number of one to six digits, behind another one or not.
+/// Reads a number of one to six digits.
 #[tactic(auto, unfolding(uset_grammar::specs::EscapeParts::digit_in, uset_grammar::specs::Escape::is_hex))]
-fn read_number(around: Around, later: bool, text: &str) -> Result<(u32, &str), Stop<'_>>
-    ensures parts { Tells (number_at around later text.now) with_rest result }
+fn read_number(text: &str) -> Result<(u32, &str), Stop<'_>>
+    ensures parts { Tells (first_digit_in (chars text.now)) with_rest result }
     ensures shorter { IfOk result (λ p. length p.1.now < length text.now) }
     ensures fewer { IfOk result (λ p. length (chars p.1.now) < length (chars text.now)) }
     ensures place { IfErr result (λ stop. left_at stop ≤ length text.now) }
 {
     let (digit, rest) = read_digit(0, text)?;
-    read_further_digits(around, later, text, digit, rest)
+    read_further_digits(digit, rest)
 }
 
 /// The only number of an escape that begins there. In a string it is no surrogate.
@@ -155,7 +126,7 @@ fn is_hex(c: char) -> bool
 }
 
 /// Reads a number behind the numbers of an escape that begins there. Where it is the second, the first
-/// is judged once a digit of it is seen.
+/// is judged once a digit of it is seen. In a string it is no surrogate.
 #[tactic(auto, unfolding(uset_grammar::specs::Escape::is_hex))]
 fn read_number_behind<'a>(
     around: Around,
@@ -184,7 +155,11 @@ fn read_number_behind<'a>(
             }
         }
     }
-    read_number(around, true, text)
+    let (number, rest) = read_number(text)?;
+    match around {
+        Around::String if is_surrogate(number) => Err(Stop::Fault(Kind::InvalidEscape, text)),
+        _ => Ok((number, rest)),
+    }
 }
 
 /// What follows the numbers of an escape in braces.
@@ -260,7 +235,7 @@ fn read_braced<'a>(
     ensures fewer { IfOk result (λ p. length (chars p.1.now) < length (chars text.now)) }
     ensures place { IfErr result (λ stop. left_at stop ≤ max (length begin.now) (length text.now)) }
 {
-    let (first, mut rest) = read_number(around, false, skip_white_space(white_space, text))?;
+    let (first, mut rest) = read_number(skip_white_space(white_space, text))?;
     let mut more = Vec::new(alloc);
     loop {
         match read_next(white_space, around, begin, first, &more, rest)? {

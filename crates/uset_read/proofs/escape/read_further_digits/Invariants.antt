@@ -2,7 +2,6 @@ use Rattle.std.proofs.Common.{◌≡◌, ◌≤◌, length}
 use denote.Text.{Utf8}
 use denote.Shadow.{shadow}
 use Rattle.std.specs.Str.{chars}
-use Rattle.uset_read.specs.Spelled.{around_seen}
 use Rattle.uset_grammar.specs.EscapeParts.{number_in}
 use Rattle.uset_read.proofs.DigitBounds.{BelowFor}
 use Rattle.uset_read.proofs.escape.read_further_digits.Given as goal
@@ -13,8 +12,7 @@ invariant-loop-c l =
     × (length l.rest ≤ length l.text)
     × (length (chars l.rest) ≤ length (chars l.text))
     × BelowFor l.left l.number
-    × (number_in (around_seen l.around) l.later (chars l.begin) 5 l.first (chars l.text)
-    ≡ number_in (around_seen l.around) l.later (chars l.begin) l.left l.number (chars l.rest))
+    × (number_in 5 l.first (chars l.text) ≡ number_in l.left l.number (chars l.rest))
 
 abbrev pub decreases-loop-c : goal.decreases-loop-c
 decreases-loop-c l = length l.rest
