@@ -88,7 +88,7 @@ cond_then true o u f = refl
 cond_then false o u f = refl
 
 module _ (a : Around) (ns : List ℕ) (begin : Text) where
-  one_left : (n : ℕ) (t : Text) → and_then (R.number_in 1 n t) (later_in a ns begin) ≡ number_in a ns begin 1 n t
+  one_left : (n : ℕ) (t : Text) → and_then (R.further_digits_in 1 n t) (later_in a ns begin) ≡ number_in a ns begin 1 n t
   one_left n [] = refl
   one_left n (c ∷ t) =
       cond_then (is_hex c) (checked (c ∷ t) (n * 16 + digit_value c) t) (got n (c ∷ t)) (later_in a ns begin)
@@ -96,32 +96,32 @@ module _ (a : Around) (ns : List ℕ) (begin : Text) where
       (cond_then (is_above (n * 16 + digit_value c)) (faulty invalid_escape (c ∷ t)) (got (n * 16 + digit_value c) t) (later_in a ns begin))
 
   -- a digit that is not the last
-  digit_left : (m n c : ℕ) (t : Text) → and_then (R.number_in (suc m) (n * 16 + digit_value c) t) (later_in a ns begin) ≡ number_in a ns begin (suc m) (n * 16 + digit_value c) t →
-      and_then (cond (is_hex c) (R.number_in (suc m) (n * 16 + digit_value c) t) (got n (c ∷ t))) (later_in a ns begin) ≡ number_in a ns begin (suc (suc m)) n (c ∷ t)
+  digit_left : (m n c : ℕ) (t : Text) → and_then (R.further_digits_in (suc m) (n * 16 + digit_value c) t) (later_in a ns begin) ≡ number_in a ns begin (suc m) (n * 16 + digit_value c) t →
+      and_then (cond (is_hex c) (R.further_digits_in (suc m) (n * 16 + digit_value c) t) (got n (c ∷ t))) (later_in a ns begin) ≡ number_in a ns begin (suc (suc m)) n (c ∷ t)
   digit_left m n c t h =
-      cond_then (is_hex c) (R.number_in (suc m) (n * 16 + digit_value c) t) (got n (c ∷ t)) (later_in a ns begin)
+      cond_then (is_hex c) (R.further_digits_in (suc m) (n * 16 + digit_value c) t) (got n (c ∷ t)) (later_in a ns begin)
       ∙ ap (λ o. cond (is_hex c) o (later_in a ns begin n (c ∷ t))) h
 
-  two_left : (n : ℕ) (t : Text) → and_then (R.number_in 2 n t) (later_in a ns begin) ≡ number_in a ns begin 2 n t
+  two_left : (n : ℕ) (t : Text) → and_then (R.further_digits_in 2 n t) (later_in a ns begin) ≡ number_in a ns begin 2 n t
   two_left n [] = refl
   two_left n (c ∷ t) = digit_left 0 n c t (one_left (n * 16 + digit_value c) t)
 
-  three_left : (n : ℕ) (t : Text) → and_then (R.number_in 3 n t) (later_in a ns begin) ≡ number_in a ns begin 3 n t
+  three_left : (n : ℕ) (t : Text) → and_then (R.further_digits_in 3 n t) (later_in a ns begin) ≡ number_in a ns begin 3 n t
   three_left n [] = refl
   three_left n (c ∷ t) = digit_left 1 n c t (two_left (n * 16 + digit_value c) t)
 
-  four_left : (n : ℕ) (t : Text) → and_then (R.number_in 4 n t) (later_in a ns begin) ≡ number_in a ns begin 4 n t
+  four_left : (n : ℕ) (t : Text) → and_then (R.further_digits_in 4 n t) (later_in a ns begin) ≡ number_in a ns begin 4 n t
   four_left n [] = refl
   four_left n (c ∷ t) = digit_left 2 n c t (three_left (n * 16 + digit_value c) t)
 
-  five_left : (n : ℕ) (t : Text) → and_then (R.number_in 5 n t) (later_in a ns begin) ≡ number_in a ns begin 5 n t
+  five_left : (n : ℕ) (t : Text) → and_then (R.further_digits_in 5 n t) (later_in a ns begin) ≡ number_in a ns begin 5 n t
   five_left n [] = refl
   five_left n (c ∷ t) = digit_left 3 n c t (four_left (n * 16 + digit_value c) t)
 
 -- a number that begins with this digit, behind those
 number_is : (a : Around) (q : Text) (ns : List ℕ) (c : ℕ) (t : Text) → is_hex c ≡ true →
     number_at a q ns (c ∷ t) ≡ second_in a q ns (number_in a ns (c ∷ t) 5 (digit_value c) t)
-number_is a q [] c t h = rw h (then_got (R.number_in 5 (digit_value c) t) ∙ five_left a [] (c ∷ t) (digit_value c) t)
+number_is a q [] c t h = rw h (then_got (R.further_digits_in 5 (digit_value c) t) ∙ five_left a [] (c ∷ t) (digit_value c) t)
 number_is a q (n ∷ ns) c t h = rw h (ap (R.second_in a q n ns) (five_left a (n ∷ ns) (c ∷ t) (digit_value c) t))
 
 no_number_is : (a : Around) (q : Text) (ns : List ℕ) (c : ℕ) (t : Text) → is_hex c ≡ false → number_at a q ns (c ∷ t) ≡ faulty (unexpected c) (c ∷ t)

@@ -35,17 +35,18 @@ sole_in (in_bracket both) begin n t = got (numbers (n ∷ [])) t
 sole_in in_string begin n t = if is_surrogate n then faulty invalid_escape begin else got (numbers (n ∷ [])) t
 
 -- what is left of a number: digits or none, at most so many, where that limit is at least one
-abbrev pub number_in : ℕ → ℕ → Text → Outcome ℕ
-number_in left n [] = ended
-number_in left n (c ∷ t) =
+abbrev pub further_digits_in : ℕ → ℕ → Text → Outcome ℕ
+further_digits_in left n [] = ended
+further_digits_in left n (c ∷ t) =
     if is_hex c
-    then (if left == 1 then checked (c ∷ t) (n * 16 + digit_value c) t else number_in (left - 1) (n * 16 + digit_value c) t)
+    then (if left == 1 then checked (c ∷ t) (n * 16 + digit_value c) t
+    else further_digits_in (left - 1) (n * 16 + digit_value c) t)
     else got n (c ∷ t)
 
 -- a number of one to six digits
-abbrev pub first_digit_in : Text → Outcome ℕ
-first_digit_in [] = ended
-first_digit_in (c ∷ t) = if is_hex c then number_in 5 (digit_value c) t else faulty (unexpected c) (c ∷ t)
+abbrev pub number_in : Text → Outcome ℕ
+number_in [] = ended
+number_in (c ∷ t) = if is_hex c then further_digits_in 5 (digit_value c) t else faulty (unexpected c) (c ∷ t)
 
 -- the numbers of an escape that begins there, at its closing brace
 abbrev pub all_in : Around → Text → ℕ → List ℕ → Text → Outcome Spelled
@@ -66,10 +67,10 @@ later_in in_string begin n t = if is_surrogate n then faulty invalid_escape begi
 
 -- a number behind those, of an escape that begins there
 abbrev pub number_at : Around → Text → List ℕ → Text → Outcome ℕ
-number_at a begin [] t = first_digit_in t
+number_at a begin [] t = number_in t
 number_at a begin (n ∷ ns) [] = ended
 number_at a begin (n ∷ ns) (c ∷ t) =
-    if is_hex c then second_in a begin n ns (and_then (first_digit_in (c ∷ t)) (later_in a (c ∷ t)))
+    if is_hex c then second_in a begin n ns (and_then (number_in (c ∷ t)) (later_in a (c ∷ t)))
     else faulty (unexpected c) (c ∷ t)
 
 -- a zero

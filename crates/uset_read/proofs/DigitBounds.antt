@@ -6,7 +6,7 @@ use mathlib.Core.Logic.{◌⊎◌}
 use Rattle.uset_grammar.specs.Text.{Text}
 use Rattle.uset_grammar.specs.Outcome.{got}
 use Rattle.uset_grammar.specs.Escape.{is_hex, is_above}
-use Rattle.uset_grammar.specs.EscapeParts.{number_in}
+use Rattle.uset_grammar.specs.EscapeParts.{further_digits_in}
 
 -- how great it is while so many are to come
 abbrev pub BelowFor : ℕ → ℕ → Type 0
@@ -23,15 +23,15 @@ below_next left n d h more (inr (inr (inr (inr b)))) = absurd (more b.0)
 
 -- a digit that is not the last
 pub next_digit : (left n c : ℕ) (t : Text) → digit_value c < 16 → (left ≡ 1 → ⊥) →
-    number_in left n (c ∷ t) ≡ number_in (left - 1) (n * 16 + digit_value c) t
+    further_digits_in left n (c ∷ t) ≡ further_digits_in (left - 1) (n * 16 + digit_value c) t
 unfolding is_hex
 next_digit left n c t h more = rw (lt-ltb _ _ h, ne_eqb _ _ more)
 
 pub last_digit : (n c : ℕ) (t : Text) → digit_value c < 16 → n * 16 + digit_value c ≤ 0x10FFFF →
-    number_in 1 n (c ∷ t) ≡ got (n * 16 + digit_value c) t
+    further_digits_in 1 n (c ∷ t) ≡ got (n * 16 + digit_value c) t
 unfolding is_hex is_above
 last_digit n c t h few = rw (lt-ltb _ _ h, le-ltb _ _ few)
 
-pub no_digit : (left n c : ℕ) (t : Text) → (digit_value c < 16 → ⊥) → number_in left n (c ∷ t) ≡ got n (c ∷ t)
+pub no_digit : (left n c : ℕ) (t : Text) → (digit_value c < 16 → ⊥) → further_digits_in left n (c ∷ t) ≡ got n (c ∷ t)
 unfolding is_hex
 no_digit left n c t h = let above : 16 ≤ digit_value c = omega arith in rw (le-ltb _ _ above)

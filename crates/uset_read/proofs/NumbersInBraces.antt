@@ -11,7 +11,7 @@ use Rattle.uset_read.specs.declared.stop.Stop.{Stop}
 use Rattle.uset_read.specs.declared.stop.Stop.TheVariants.{Fault, Ended, NoMemory}
 use Rattle.uset_read.specs.Stops.{Stops}
 use Rattle.uset_grammar.specs.Parts.{and_then}
-use Rattle.uset_grammar.specs.EscapeParts.{all_in, number_in, number_at, at_next_in, first_digit_in, next_in, behind_number, number_or, numbers_in, braced_in}
+use Rattle.uset_grammar.specs.EscapeParts.{all_in, further_digits_in, number_at, at_next_in, number_in, next_in, behind_number, number_or, numbers_in, braced_in}
 
 -- what stops the first part stops the whole
 pub stops_then : {A B : Type 0} (o : Outcome A) (f : A → Text → Outcome B) (stop : Stop) → Stops o stop → Stops (and_then o f) stop
@@ -59,28 +59,28 @@ module _ (white_space : ℕ → Bool) (a : Around) (begin : Text) where
   behind_is_next left ns (c ∷ t) = next_by left ns c t (c == 0x7D) (is_hex c) (white_space c) refl
 
   first_by : (left c : ℕ) (t : Text) (b h : Bool) → (c == 0x7D) ≡ b → is_hex c ≡ h →
-      cond b (all_in a begin c [] t) (and_then (cond h (number_in 5 (digit_value c) t) (faulty (unexpected c) (c ∷ t))) (λ n. behind left (n ∷ [])))
-      ≡ and_then (cond h (number_in 5 (digit_value c) t) (faulty (unexpected c) (c ∷ t))) (λ n. behind left (n ∷ []))
+      cond b (all_in a begin c [] t) (and_then (cond h (further_digits_in 5 (digit_value c) t) (faulty (unexpected c) (c ∷ t))) (λ n. behind left (n ∷ [])))
+      ≡ and_then (cond h (further_digits_in 5 (digit_value c) t) (faulty (unexpected c) (c ∷ t))) (λ n. behind left (n ∷ []))
   unfolding is_hex
   first_by left c t true true e k = absurd (let g : true ≡ false = sym k ∙ ap is_hex (eqb-true c 0x7D e) in cc)
   first_by left c t true false e k = refl
   first_by left c t false h e k = refl
 
   -- the first number, and what stands behind it
-  pub first_number : (t : Text) → braced_in white_space a begin t ≡ and_then (first_digit_in (skip white_space t)) (λ n. behind (length t) (n ∷ []))
+  pub first_number : (t : Text) → braced_in white_space a begin t ≡ and_then (number_in (skip white_space t)) (λ n. behind (length t) (n ∷ []))
   unfolding braced_in
   first_number t = by (skip white_space t)
     where
       by : (u : Text) → number_or white_space a begin (numbers_in white_space a begin (length t)) [] u
-          ≡ and_then (first_digit_in u) (λ n. behind (length t) (n ∷ []))
+          ≡ and_then (number_in u) (λ n. behind (length t) (n ∷ []))
       by [] = refl
       by (c ∷ u) = first_by (length t) c u (c == 0x7D) (is_hex c) refl refl
 
-  pub first_stops : (t : Text) (stop : Stop) → Stops (first_digit_in (skip white_space t)) stop → Stops (braced_in white_space a begin t) stop
+  pub first_stops : (t : Text) (stop : Stop) → Stops (number_in (skip white_space t)) stop → Stops (braced_in white_space a begin t) stop
   first_stops t stop h =
-      subst (λ o. Stops o stop) (sym (first_number t)) (stops_then (first_digit_in (skip white_space t)) (λ n. behind (length t) (n ∷ [])) stop h)
+      subst (λ o. Stops o stop) (sym (first_number t)) (stops_then (number_in (skip white_space t)) (λ n. behind (length t) (n ∷ [])) stop h)
 
-  pub first_goes : (t u : Text) (n : ℕ) → first_digit_in (skip white_space t) ≡ got n u → braced_in white_space a begin t ≡ behind (length t) (n ∷ []) u
+  pub first_goes : (t u : Text) (n : ℕ) → number_in (skip white_space t) ≡ got n u → braced_in white_space a begin t ≡ behind (length t) (n ∷ []) u
   first_goes t u n h = first_number t ∙ ap (λ z. and_then z (λ n. behind (length t) (n ∷ []))) h
 
   -- behind numbers, with at least as many turns left as characters

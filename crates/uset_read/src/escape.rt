@@ -2,11 +2,10 @@
 ghost use Rattle.std.specs.Prelude.{◌≡◌, ◌<◌, ◌≤◌, ◌∷◌, length, max, IfOk, IfErr};
 ghost use Rattle.std.specs.Str.{chars};
 ghost use Rattle.uset_grammar.specs.Escape.{is_hex, is_surrogate, plain};
-ghost use Rattle.uset_grammar.specs.EscapeParts.{number_in, first_digit_in};
 ghost use Rattle.uset_read.specs.Stops.{left_at, with_rest, Tells};
 ghost use Rattle.uset_read.specs.Spelled.{spelled_read, next_seen, behind_next, sole_at, all_at, number_behind_at, behind_white_at, next_at, braced_at, digits_at, six_at, letters_at, EscapeIs, EscapeStops};
 
-use crate::digits::{Digits, read_digit, read_digits, read_six_digits};
+use crate::digits::{Digits, read_digits, read_number, read_six_digits};
 use crate::stop::{Kind, Stop};
 use crate::text::{read_char, skip_white_space, take_first};
 use cp_invlist::CodePointInversionList;
@@ -37,47 +36,6 @@ fn is_surrogate(number: u32) -> bool
     ensures { result ≡ is_surrogate number }
 {
     0xD800 <= number && number <= 0xDFFF
-}
-
-/// Reads at most five digits more of a number that begins with this digit.
-#[tactic(auto, unfolding(uset_grammar::specs::Escape::is_hex, uset_grammar::specs::Escape::is_above))]
-fn read_further_digits(first: u32, text: &str) -> Result<(u32, &str), Stop<'_>>
-    requires { first < 16 }
-    ensures parts { Tells (number_in 5 first (chars text.now)) with_rest result }
-    ensures within { IfOk result (λ p. length p.1.now ≤ length text.now) }
-    ensures no_more { IfOk result (λ p. length (chars p.1.now) ≤ length (chars text.now)) }
-    ensures place { IfErr result (λ stop. left_at stop ≤ length text.now) }
-{
-    let mut number = first;
-    let mut rest = text;
-    let mut left: u32 = 5;
-    loop {
-        let (c, behind) = take_first(rest)?;
-        let Some(digit) = c.to_digit(16) else {
-            return Ok((number, rest));
-        };
-        number = number * 16 + digit;
-        if left == 1 {
-            if number > 0x10_FFFF {
-                return Err(Stop::Fault(Kind::InvalidEscape, rest));
-            }
-            return Ok((number, behind));
-        }
-        left -= 1;
-        rest = behind;
-    }
-}
-
-/// Reads a number of one to six digits.
-#[tactic(auto, unfolding(uset_grammar::specs::EscapeParts::digit_in, uset_grammar::specs::Escape::is_hex))]
-fn read_number(text: &str) -> Result<(u32, &str), Stop<'_>>
-    ensures parts { Tells (first_digit_in (chars text.now)) with_rest result }
-    ensures shorter { IfOk result (λ p. length p.1.now < length text.now) }
-    ensures fewer { IfOk result (λ p. length (chars p.1.now) < length (chars text.now)) }
-    ensures place { IfErr result (λ stop. left_at stop ≤ length text.now) }
-{
-    let (digit, rest) = read_digit(0, text)?;
-    read_further_digits(digit, rest)
 }
 
 /// The only number of an escape that begins there. In a string it is no surrogate.

@@ -1,6 +1,6 @@
 use Rattle.std.proofs.Common.{rules, arith, refl, ◌∙◌}
 use Rattle.uset_read.proofs.DigitBounds.{below_next, next_digit, last_digit, no_digit}
-use Rattle.uset_read.proofs.escape.read_further_digits.Goals as goal
+use Rattle.uset_read.proofs.digits.read_further_digits.Goals as goal
 
 pub returns-in_default-clause-parts : goal.returns-in_default-clause-parts
 returns-in_default-clause-parts c = rw (c.loop-c.invariant.4, c.in_ok-c.ensures.parts, no_digit _ _ _ _ c.in_default.ensures.value) refl
