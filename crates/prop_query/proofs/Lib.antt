@@ -1,4 +1,5 @@
 mod AnswersLemmas
+mod FoundLemmas
 mod GatheredLemmas
 mod PassingLemmas
 mod ScriptLemmas

@@ -1,5 +1,6 @@
 -- The ranges of the runs whose values pass a test are the maximal ranges of the code points whose values do.
-use Rattle.std.proofs.Common.{◌≡◌, ℕ, ◌+◌, ◌<◌, ◌≤◌, Bool, true, false, ◌&&◌, List, [], ◌∷◌, Option, Some, None, refl, sym, ap, ap₂, ◌∙◌, inl, inr, arith}
+use Rattle.std.proofs.Common.{◌≡◌, ℕ, ◌+◌, ◌<◌, ◌≤◌, Bool, true, false, ◌&&◌, List, [], ◌∷◌, Option, Some, None, length, refl, subst, sym, ap, ap₂, ◌∙◌, inl, inr, arith}
+use Rattle.std.specs.Iterator.{MakesProgress, YieldsFirst, item_count}
 use Rattle.std.proofs.lemmas.Bool.{cases_lt, cond_both}
 use Rattle.std.proofs.lemmas.Bool.Decides.{nat_tests}
 use Rattle.cp_invlist.specs.InversionList.{is_code_point}
@@ -79,3 +80,16 @@ ranges-passing_from eq exact passes at from n begun (r ∷ rs) runs is_begun =
 pub ranges-passing : {V : Type 0} (eq : V → V → Bool) → ((x y : V) → eq x y ≡ true → x ≡ y) → (passes : V → Bool) (at : ℕ → V) (rs : List (CodePointMapRange V)) → AreRunsFrom eq at 0 rs → AreRangesFrom (members passes at) 0 (passing passes rs)
 ranges-passing eq exact passes at rs runs =
     ranges-passing_from eq exact passes at 0 0 None rs runs (omega arith, λ c low high. absurd (omega arith))
+
+-- The walk goes on with the same test.
+pub yields-same : {V : Type 0} (p q : V → Bool) (s : List CodePointRange) (old new : List (CodePointMapRange V)) (r : Option CodePointRange) →
+    passing p old ≡ s → q ≡ p → YieldsFirst (passing p) old r new → YieldsFirst (λ ranges. ranges) s r (passing q new)
+yields-same p q s old new r view same yields =
+    subst (λ t. YieldsFirst (λ ranges. ranges) s r (passing t new)) (sym same)
+    (subst (λ t. YieldsFirst (λ ranges. ranges) t r (passing p new)) view yields)
+
+-- A walk that yields the first of what is left goes on.
+pub yields-goes : (s t : List CodePointRange) (r : Option CodePointRange) → YieldsFirst (λ ranges. ranges) s r t →
+    MakesProgress (λ _. Unit {0}) (item_count (λ ranges. ranges)) s r t
+yields-goes s t (Some x) yields = record { on = λ _. (tt, tt, omega (arith, ap length yields)); keeps = tt; rests = λ _. tt }
+yields-goes s t None yields = record { on = λ _. tt; keeps = tt; rests = λ _. tt }

@@ -1,5 +1,6 @@
 pub mod Answers
 pub mod Borrowed
+pub mod Found
 pub mod Lookups
 pub mod Maps
 pub mod Passing

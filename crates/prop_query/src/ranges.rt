@@ -14,8 +14,10 @@ pub(crate) trait ValueTest<T> {
     /// Whether a value passes the test.
     ghost passes: { Self → T → Bool };
 
-    fn passes(&self, value: T) -> bool
-        ensures { result ≡ passes self.now value };
+    /// Whether the value passes. The test may keep what it finds, and stays the same test.
+    fn passes(&mut self, value: T) -> bool
+        ensures value { result ≡ passes self.old value }
+        ensures same { passes self.new ≡ passes self.old };
 }
 
 /// Passed by one value.
@@ -27,7 +29,7 @@ struct Is<T> {
 impl<T: TrieValue> ValueTest<T> for Is<T> {
     ghost passes = { λ test value. T.eq value test.value };
 
-    fn passes(&self, value: T) -> bool {
+    fn passes(&mut self, value: T) -> bool {
         value == self.value
     }
 }
@@ -41,7 +43,7 @@ struct IsNot<T> {
 impl<T: TrieValue> ValueTest<T> for IsNot<T> {
     ghost passes = { λ test value. not (T.eq value test.value) };
 
-    fn passes(&self, value: T) -> bool {
+    fn passes(&mut self, value: T) -> bool {
         value != self.value
     }
 }
@@ -49,7 +51,7 @@ impl<T: TrieValue> ValueTest<T> for IsNot<T> {
 impl ValueTest<GeneralCategory> for GeneralCategoryGroup {
     ghost passes = { has };
 
-    fn passes(&self, value: GeneralCategory) -> bool {
+    fn passes(&mut self, value: GeneralCategory) -> bool {
         self.contains(value)
     }
 }
@@ -70,9 +72,10 @@ fn grown(begun: Option<CodePointRange>, range: CodePointRange) -> CodePointRange
 /// Takes the runs up to the end of the first range of those that pass the test, and gives that range.
 pub(crate) fn next_range<T: TrieValue, P: ValueTest<T>>(
     runs: &mut TrieRanges<'_, T>,
-    test: &P,
+    test: &mut P,
 ) -> Option<CodePointRange>
-    ensures { YieldsFirst (passing (P.passes test.now)) runs.old result runs.new }
+    ensures yields { YieldsFirst (passing (P.passes test.old)) runs.old result runs.new }
+    ensures same { P.passes test.new ≡ P.passes test.old }
 {
     let mut begun = None;
     while let Some(run) = runs.next() {
@@ -121,7 +124,7 @@ impl<T: TrieValue> Iterator for RangesForValue<'_, T> {
     ghost remaining = { item_count (λ ranges. ranges) };
 
     fn next(&mut self) -> Option<CodePointRange> {
-        next_range(&mut self.runs, &self.test)
+        next_range(&mut self.runs, &mut self.test)
     }
 }
 
@@ -162,7 +165,7 @@ impl<T: TrieValue> Iterator for RangesForOthers<'_, T> {
     ghost remaining = { item_count (λ ranges. ranges) };
 
     fn next(&mut self) -> Option<CodePointRange> {
-        next_range(&mut self.runs, &self.test)
+        next_range(&mut self.runs, &mut self.test)
     }
 }
 
@@ -204,6 +207,6 @@ impl Iterator for RangesForGroup<'_> {
     ghost remaining = { item_count (λ ranges. ranges) };
 
     fn next(&mut self) -> Option<CodePointRange> {
-        next_range(&mut self.runs, &self.group)
+        next_range(&mut self.runs, &mut self.group)
     }
 }

@@ -1,7 +1,10 @@
 //! The walk over the ranges of code points that have a script among their script extensions.
+ghost use Rattle.std.specs.Prelude.{◌≡◌};
 ghost use Rattle.std.specs.Iterator.{YieldsFirst, item_count};
 ghost use Rattle.cp_invlist.specs.Ranges.{AreMaximalRanges};
 ghost use Rattle.prop_query.specs.Scripts.{has_script};
+ghost use Rattle.prop_query.specs.ScriptTypes.{table_of};
+ghost use Rattle.prop_query.specs.Found.{AreFound};
 
 use crate::ranges::{ValueTest, next_range};
 use crate::script::ScriptWithExtensionsBorrowed;
@@ -10,12 +13,31 @@ use cp_trie::TrieRanges;
 use prop_values::{Script, ScriptWithExt};
 use std::marker::Model;
 
+/// The numbers below this one may stand for a list.
+const LISTED: usize = 4096;
+
 /// Passed by the numbers that stand for script extensions with a script among them.
-#[derive(Clone, Copy)]
+#[derive(Drop)]
 struct HasScript<'a> {
     scripts: ScriptWithExtensionsBorrowed<'a>,
     /// The number of the script.
     script: u16,
+    /// What was found for each number that may stand for a list: many runs have one list, which is gone along once.
+    found: [Option<bool>; LISTED],
+    ghost right: { AreFound (table_of scripts) script found },
+}
+
+impl<'a> HasScript<'a> {
+    fn new(scripts: ScriptWithExtensionsBorrowed<'a>, script: u16) -> HasScript<'a>
+        ensures scripts { result.scripts ≡ scripts.entry }
+        ensures script { result.script ≡ script }
+    {
+        HasScript {
+            scripts,
+            script,
+            found: [None; LISTED],
+        }
+    }
 }
 
 impl ValueTest<ScriptWithExt> for HasScript<'_> {
@@ -24,8 +46,17 @@ impl ValueTest<ScriptWithExt> for HasScript<'_> {
 
     ghost passes = { λ test number. number_has (table_of test.scripts) test.script number };
 
-    fn passes(&self, number: ScriptWithExt) -> bool {
-        self.scripts.number_has(number, self.script)
+    fn passes(&mut self, number: ScriptWithExt) -> bool {
+        let place = usize::from(number.0);
+        if place >= LISTED {
+            return self.scripts.number_has(number, self.script);
+        }
+        if let Some(has) = self.found[place] {
+            return has;
+        }
+        let has = self.scripts.number_has(number, self.script);
+        self.found[place] = Some(has);
+        has
     }
 }
 
@@ -60,10 +91,7 @@ impl<'a> ScriptExtensionsRanges<'a> {
     {
         ScriptExtensionsRanges {
             runs: scripts.property.script_trie().iter_ranges(),
-            test: HasScript {
-                scripts,
-                script: script.to_icu4c_value(),
-            },
+            test: HasScript::new(scripts, script.to_icu4c_value()),
         }
     }
 }
@@ -76,6 +104,6 @@ impl Iterator for ScriptExtensionsRanges<'_> {
     ghost remaining = { item_count (λ ranges. ranges) };
 
     fn next(&mut self) -> Option<CodePointRange> {
-        next_range(&mut self.runs, &self.test)
+        next_range(&mut self.runs, &mut self.test)
     }
 }

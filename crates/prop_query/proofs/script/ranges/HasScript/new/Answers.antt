@@ -1,0 +1,6 @@
+use Rattle.prop_query.specs.ScriptTypes.{table_of}
+use Rattle.prop_query.proofs.FoundLemmas.{AreFound-none}
+use Rattle.prop_query.proofs.script.ranges.HasScript.new.Goals as goal
+
+pub invariant_of-result : goal.invariant_of-result
+invariant_of-result c = record { right = AreFound-none (table_of c.args.scripts) c.args.script 4096 }
