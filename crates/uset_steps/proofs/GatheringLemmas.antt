@@ -1,5 +1,5 @@
 -- Sets in the making that put a step off.
-use Rattle.std.proofs.Common.{◌≡◌, Bool, false, ◌||◌, Option, Some, None, Result, Ok, Err, OnOk, IfNone, Box, refl, sym, ap, ◌∙◌, subst}
+use Rattle.std.proofs.Common.{◌≡◌, Bool, false, ◌||◌, Option, Some, None, Result, Ok, Err, OnOk, IfNone, Box, sym, ap, ◌∙◌, subst}
 use Rattle.std.specs.Global.{Global}
 use Rattle.uset_grammar.specs.Tree.{Member}
 use Rattle.uset_gather.specs.Gathered.{gathered_in}

@@ -173,7 +173,9 @@ impl<'a> Gathering<'a> {
         self.make_way(alloc)?;
         let mut later = match self.later.take() {
             Some(later) => later,
-            None if named.set.is_large() => Box::new(alloc, Later::new(alloc))?,
+            None if named.set.is_large() || named.set.is_huge() => {
+                Box::new(alloc, Later::new(alloc))?
+            }
             None => {
                 return gather(alloc, &mut self.gathered, operation, named.set.operand());
             }

@@ -19,6 +19,9 @@ const HUGE_RANGES: usize = 4096;
 /// The same of strings.
 const HUGE_STRINGS: usize = 64;
 
+/// The same of the bytes of all strings, which are copied where they are gathered.
+const HUGE_BYTES: usize = 4096;
+
 /// A set that has a name, without the name.
 pub enum NamedSet<'a> {
     /// A set with strings.
@@ -121,9 +124,21 @@ impl NamedSet<'_> {
         ranges >= MANY_RANGES || strings >= MANY_STRINGS
     }
 
+    /// How many bytes the strings of the set have.
+    fn string_bytes(&self) -> usize {
+        let NamedSet::Set(set) = self else {
+            return 0;
+        };
+        let mut bytes: usize = 0;
+        for text in set.strings() {
+            bytes = bytes.saturating_add(text.len());
+        }
+        bytes
+    }
+
     /// Whether the set is so large that brackets which name it are left as terms.
     pub(crate) fn is_huge(&self) -> bool {
         let (ranges, strings) = self.sizes();
-        ranges >= HUGE_RANGES || strings >= HUGE_STRINGS
+        ranges >= HUGE_RANGES || strings >= HUGE_STRINGS || self.string_bytes() >= HUGE_BYTES
     }
 }
