@@ -24,7 +24,7 @@ use std::alloc::Global;
 /// How many strings of a leaf without numbers are looked up at most.
 const MOST_LOOKED_UP: usize = 1024;
 
-/// A term has few strings where its candidates have so many times as many.
+/// A term has few strings where its candidates have so many times as many, or where it has no more than so many.
 const FEW: usize = 16;
 
 /// How many strings the leaves have together.
@@ -129,6 +129,12 @@ fn push_numbered<'a>(
     Ok(())
 }
 
+/// Whether the term with these numbers has few strings. These are cheap to gather, however long those of the candidates are.
+fn are_few(numbers: &NumberSet, candidates: &[Leaf<'_>]) -> bool {
+    let count = numbers.size();
+    count <= FEW || count < count_strings(candidates) / FEW
+}
+
 /// Texts in order among which are all strings of the term, where all of these are among those of the candidates.
 pub(crate) fn table_of_term<'a>(
     alloc: Global,
@@ -148,7 +154,7 @@ pub(crate) fn table_of_term<'a>(
         return string_table(alloc, candidates);
     }
     let numbers = numbers_of_term(alloc, all, leaves, steps)?;
-    if numbers.size() >= count_strings(candidates) / FEW {
+    if !are_few(&numbers, candidates) {
         return string_table(alloc, candidates);
     }
     let mut table = gathered_strings(alloc, &unnumbered(alloc, candidates)?)?;

@@ -28,10 +28,10 @@ returns c =
 pub returns-then-not-are_worth-clause-canonical : goal.returns-then-not-are_worth-clause-canonical
 returns-then-not-are_worth-clause-canonical c = c.string_table.ensures.canonical
 
-pub returns-then-size-count_strings-clause-complete :
-    goal.returns-then-size-count_strings-clause-complete
-returns-then-size-count_strings-clause-complete c =
-    IfOk-weaker c.string_table-then-size-count_strings.result _ _ (λ table same text valued held. same text ∙ held) c.string_table-then-size-count_strings.ensures.complete
+pub returns-then-not-are_few-clause-complete :
+    goal.returns-then-not-are_few-clause-complete
+returns-then-not-are_few-clause-complete c =
+    IfOk-weaker c.string_table-then-not-are_few.result _ _ (λ table same text valued held. same text ∙ held) c.string_table-then-not-are_few.ensures.complete
 
 pub returns-in_err-push_numbered-clause-complete :
     goal.returns-in_err-push_numbered-clause-complete
