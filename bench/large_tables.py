@@ -4,7 +4,7 @@
 
 Each row is an input with so many lines (1,000 where nothing is said) of which the answer is small: another script, other
 script extensions or another group of categories in each, over a map that changes at each code point; and one variable
-or two of few strings that are long and begin alike. What the tables and variables take alone is taken off. Behind it
+or two, sets of few strings that are long and begin alike, or such strings. What the tables and variables take alone is taken off. Behind it
 stands how long an input of 8 MB of such lines would take, where a map or the strings have half of it.
 """
 
@@ -67,6 +67,12 @@ def long_strings(variables, count):
     return SYNTAX + "end\n" + bound
 
 
+def long_texts(variables):
+    """So many variables that are strings and begin alike, of which the lines have half of an input."""
+    length = HALF // (3 * len(variables))
+    return SYNTAX + "end\n" + "".join(f"let {variable} str{' 62' * length} {97 + place:X}\n" for place, variable in enumerate(variables))
+
+
 def cases(count):
     """What each row shows, what stands before its lines, how many of these are the most, and a line."""
     most = min(count, MOST_NAMES)
@@ -79,6 +85,9 @@ def cases(count):
         ("a variable of 63 long strings", long_strings("v", 63), count, lambda number: "pat [$v&[a]]\n"),
         ("two variables of 10 long strings, none in common", long_strings("vw", 10), count, lambda number: "pat [$v&$w]\n"),
         ("two variables of 63 long strings, none in common", long_strings("vw", 63), count, lambda number: "pat [$v&$w]\n"),
+        ("a long string", long_texts("s"), count, lambda number: "pat [[$s]&[a]]\n"),
+        ("two long strings", long_texts("st"), count, lambda number: "pat [[$s]&[$t]]\n"),
+        ("a long string, named 1,000 times", long_texts("s"), count, lambda number: "pat [[" + "$s" * 1_000 + "]&[a]]\n"),
     ]
 
 

@@ -402,7 +402,7 @@ const MORE_THAN_ALL: usize = 1000;
 
 /// How many numbers the strings of the name have, if they have any.
 fn count_numbers(variables: &VariableMap, name: &str) -> Option<usize> {
-    let numbers = variables.numbers_of(name)?;
+    let (_, numbers) = variables.numbered_set(name)?;
     Some(
         (0..MORE_THAN_ALL)
             .filter(|number| numbers.contains(*number))
@@ -413,18 +413,18 @@ fn count_numbers(variables: &VariableMap, name: &str) -> Option<usize> {
 /// Whether `many` has so many numbers, and no other name has any.
 fn has_numbers(variables: &VariableMap, expected: Option<usize>) -> bool {
     count_numbers(variables, "many") == expected
-        && variables.numbers_of("few").is_none()
-        && variables.numbers_of("c").is_none()
-        && variables.numbers_of("nothing").is_none()
+        && variables.numbered_set("few").is_none()
+        && variables.numbered_set("c").is_none()
+        && variables.numbered_set("nothing").is_none()
 }
 
 /// Whether the string has a number that is one of those of `many`.
 fn is_numbered(variables: &VariableMap, text: &str) -> bool {
     match (
-        variables.numbers_of("many"),
+        variables.numbered_set("many"),
         variables.string_numbers().get(text),
     ) {
-        (Some(numbers), Some(number)) => numbers.contains(number),
+        (Some((set, numbers)), Some(number)) => set.contains_str(text) && numbers.contains(number),
         _ => false,
     }
 }
@@ -498,4 +498,45 @@ fn numbers_hold(alloc: Global) -> Option<(bool, bool, bool)> {
 fn the_strings_of_a_large_set_have_numbers_once_it_is_indexed(rt: HostRuntime) {
     let holds = numbers_hold(rt.alloc());
     assert_equal(&rt, holds, Some((true, true, true)));
+}
+
+/// What a test of lengths binds a name to.
+#[derive(Clone, Copy)]
+enum Long {
+    /// A string of so many bytes.
+    String,
+    /// The set of `ab` and of a string of so many bytes.
+    Set,
+}
+
+/// The value, with a string of so many bytes.
+fn long_value(alloc: Global, long: Long, length: usize) -> Option<VariableValue> {
+    let text = "z".repeat(alloc, length).ok()?;
+    match long {
+        Long::String => Some(VariableValue::String(VariableString::new(text))),
+        Long::Set => Some(VariableValue::UnicodeSet(set_of(alloc, &[], &["ab", text.as_str()])?)),
+    }
+}
+
+/// How many numbers the value's strings have once its name is indexed, `Some(None)` where they have none.
+fn numbers_of_long(alloc: Global, long: Long, length: usize) -> Option<Option<usize>> {
+    let value = long_value(alloc, long, length)?;
+    let name = string_of(alloc, "long")?;
+    let mut variables = VariableMap::new(alloc);
+    if variables.insert(name, value).is_err() || variables.index(alloc, "long").is_err() {
+        return None;
+    }
+    Some(count_numbers(&variables, "long"))
+}
+
+#[test]
+fn strings_have_numbers_from_4096_bytes_on(rt: HostRuntime) {
+    let short = numbers_of_long(rt.alloc(), Long::String, 4095);
+    assert_equal(&rt, short, Some(None));
+    let long = numbers_of_long(rt.alloc(), Long::String, 4096);
+    assert_equal(&rt, long, Some(Some(1)));
+    let short = numbers_of_long(rt.alloc(), Long::Set, 4093);
+    assert_equal(&rt, short, Some(None));
+    let long = numbers_of_long(rt.alloc(), Long::Set, 4094);
+    assert_equal(&rt, long, Some(Some(2)));
 }

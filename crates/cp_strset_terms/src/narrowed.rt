@@ -21,9 +21,6 @@ use cp_invlist::{CodePointInversionList, CodePointRange, NoMemory};
 use cp_terms::Step;
 use std::alloc::Global;
 
-/// How many strings of a leaf without numbers are looked up at most.
-const MOST_LOOKED_UP: usize = 1024;
-
 /// A term has few strings where its candidates have so many times as many, or where it has no more than so many.
 const FEW: usize = 16;
 
@@ -43,12 +40,6 @@ fn is_numbered(leaf: &Leaf<'_>) -> bool
     matches!(leaf, Leaf::Numbered(_, _))
 }
 
-/// Whether numbers are worth a look: some candidate has them, and each leaf that has none has few strings.
-fn are_worth(leaves: &[Leaf<'_>], candidates: &[Leaf<'_>]) -> bool {
-    candidates.iter().any(is_numbered)
-        && leaves.iter().all(|leaf| is_numbered(leaf) || strings(leaf).len() <= MOST_LOOKED_UP)
-}
-
 /// The leaves without numbers.
 fn unnumbered<'a>(alloc: Global, leaves: &[Leaf<'a>]) -> Result<Vec<Leaf<'a>>, NoMemory>
     ensures { IfOk result (λ rest. (all : List (List ℕ)) (bytes : List ℕ) → All (FitsNumbers all) leaves.now →
@@ -62,6 +53,19 @@ fn unnumbered<'a>(alloc: Global, leaves: &[Leaf<'a>]) -> Result<Vec<Leaf<'a>>, N
         }
     }
     Ok(rest)
+}
+
+/// Whether numbers are worth a look: some candidate has them, and no more strings are to be looked up than gone along else.
+fn are_worth(
+    alloc: Global,
+    leaves: &[Leaf<'_>],
+    candidates: &[Leaf<'_>],
+) -> Result<bool, NoMemory> {
+    if !candidates.iter().any(is_numbered) {
+        return Ok(false);
+    }
+    let looked_up = unnumbered(alloc, leaves)?;
+    Ok(count_strings(&looked_up) <= count_strings(candidates))
 }
 
 /// The strings at the places of the range, as far as there are any.
@@ -150,7 +154,8 @@ pub(crate) fn table_of_term<'a>(
         value_of (leaf_holds leaves.now text) steps.now ≡ true →
         holds (flat_map strings_of candidates.now) text ≡ true → holds (texts table.items) text ≡ true) }
 {
-    if !are_worth(leaves, candidates) {
+    let worth = are_worth(alloc, leaves, candidates)?;
+    if !worth {
         return string_table(alloc, candidates);
     }
     let numbers = numbers_of_term(alloc, all, leaves, steps)?;

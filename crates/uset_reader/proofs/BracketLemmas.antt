@@ -28,7 +28,7 @@ use Rattle.uset_steps.specs.Operations.{operated}
 use Rattle.uset_steps.specs.Gathering.{gathering_in, closed as finished, IsPlaceOf, KeepsPlaces, Fits as NamesFit, Becomes as StepsBecome, BecomesWith as StepsBecomeWith}
 use Rattle.uset_reader.specs.declared.item.Codes.{Codes}
 use Rattle.uset_reader.specs.declared.item.Item.{Item as CodeItem}
-use Rattle.uset_reader.specs.declared.item.Item.TheVariants.{Minus, Ampersand, Dollar, Single, Several, Text as Spelled, Set}
+use Rattle.uset_reader.specs.declared.item.Item.TheVariants.{Minus, Ampersand, Dollar, Single, Several, Text as Spelled, NamedText, Set}
 use Rattle.uset_reader.specs.declared.item.Operand.TheVariants.{Inner, Named, Again}
 use Rattle.uset_reader.specs.Named.{sets_of}
 use Rattle.uset_reader.specs.declared.bracket.Opening.{Opening as CodeOpening}
@@ -37,8 +37,8 @@ use Rattle.uset_reader.specs.declared.bracket.Taken.{Taken}
 use Rattle.uset_reader.specs.declared.bracket.Taken.TheVariants.{Fits, Reversed, Unfit}
 use Rattle.uset_reader.specs.declared.arrange.Arranged.{Arranged}
 use Rattle.uset_reader.specs.declared.arrange.Awaits.TheVariants.{Element}
-use Rattle.uset_reader.specs.Items.{number_of, IsTreeOf, awaits_seen, arranged_steps, Arranges, operated as operated_steps, own_steps}
-use Rattle.uset_reader.specs.Brackets.{opening_seen, KeepsFrame, Follows, Becomes, BecomesWith, GathersItem, GathersSet, Stands, begun, Took, Refused, Became, Refuses, Closed, EndedAs}
+use Rattle.uset_reader.specs.Items.{number_of, Meant, Means, awaits_seen, arranged_steps, Arranges, operated as operated_steps, own_steps}
+use Rattle.uset_reader.specs.Brackets.{opening_seen, KeepsFrame, Follows, Becomes, BecomesWith, GathersItem, Stands, begun, Took, Refused, Became, Refuses, Closed, EndedAs}
 
 -- a bracket that begins
 pub begins : (l : Language) (b : CodeBracket) (opening : CodeOpening) (before : Text) (place : ℕ) → b.opening ≡ opening → b.awaits ≡ Element → b.before ≡ place → place ≡ size before →
@@ -165,18 +165,18 @@ operation_follows sets Join tree old new set g same rest m = ap (gathers rest m)
 operation_follows sets Remove tree old new set g same rest m = ap (gathers rest m) (ap (λ b. gathering_in sets old m && not b) (same m) ∙ sym (g m))
 operation_follows sets Retain tree old new set g same rest m = ap (gathers rest m) (ap (λ b. gathering_in sets old m && b) (same m) ∙ sym (g m))
 
-pub gathers_inner : (operation : Operation) (set : ClosedSet) (old new : Gathering) → StepsBecome old new (λ sets m. operated operation (closed_in sets set m) (gathering_in sets old m)) → GathersSet operation (Inner set) old new
-gathers_inner operation set old new h l tree fits is =
-    let k = h (sets_of l) fits in record { follows = operation_follows (sets_of l) operation tree old new (closed_in (sets_of l) set) k.has is; fits = k.fits }
+pub gathers_inner : (operation : Operation) (set : ClosedSet) (old new : Gathering) → StepsBecome old new (λ sets m. operated operation (closed_in sets set m) (gathering_in sets old m)) → GathersItem operation (Set (Inner set)) old new
+gathers_inner operation set old new h l meant fits is =
+    let k = h (sets_of l) fits in record { follows = operation_follows (sets_of l) operation meant.tree old new (closed_in (sets_of l) set) k.has is; fits = k.fits }
 
 pub gathers_named : (operation : Operation) (named : Box NamedOperand Global) (old new : Gathering) →
-    ((sets : Sets) → NamesFit sets old → IsSetOf sets named.value → StepsBecomeWith sets new (λ m. operated operation (named_in named.value.set m) (gathering_in sets old m))) → GathersSet operation (Named named) old new
-gathers_named operation named old new h l tree fits is =
-    let k = h (sets_of l) fits is.1 in record { follows = operation_follows (sets_of l) operation tree old new (named_in named.value.set) k.has is.0; fits = k.fits }
+    ((sets : Sets) → NamesFit sets old → IsSetOf sets named.value → StepsBecomeWith sets new (λ m. operated operation (named_in named.value.set m) (gathering_in sets old m))) → GathersItem operation (Set (Named named)) old new
+gathers_named operation named old new h l meant fits is =
+    let k = h (sets_of l) fits is.1 in record { follows = operation_follows (sets_of l) operation meant.tree old new (named_in named.value.set) k.has is.0; fits = k.fits }
 
 -- the code points of an escape
 pub gathers_several : (operation : Operation) (codes : Codes) (old new : Gathering) → Becomes old (add_each (codes.first ∷ codes.more.items)) new → GathersItem operation (Several codes) old new
-gathers_several operation codes old new h l tree fits is =
+gathers_several operation codes old new h l meant fits is =
     let k = h.fitting (sets_of l) fits in record {
       follows = λ rest m. ap (λ s. gathers s m (gathering_in (sets_of l) old m)) (own_several operation codes.first codes.more.items rest codes.several) ∙ k.follows rest m;
       fits = k.fits;
@@ -184,24 +184,34 @@ gathers_several operation codes old new h l tree fits is =
 
 -- a string
 pub gathers_text : (operation : Operation) (s : String Global) (old new : Gathering) → StepsBecome old new (λ sets m. gathering_in sets old m || is_string (string_bytes s) m) → GathersItem operation (Spelled s) old new
-gathers_text operation s old new h l tree fits is =
+gathers_text operation s old new h l meant fits is =
     let k = h (sets_of l) fits in record { follows = λ rest m. ap (gathers rest m) (sym (k.has m)); fits = k.fits }
+
+-- a string was gathered as the set of it alone
+pub gathers_named_text : (operation : Operation) (named : Box NamedOperand Global) (old new : Gathering) →
+    ((sets : Sets) → NamesFit sets old → IsSetOf sets named.value → StepsBecomeWith sets new (λ m. operated Join (named_in named.value.set m) (gathering_in sets old m))) → GathersItem operation (NamedText named) old new
+gathers_named_text operation named old new h l meant fits is =
+    let k = h (sets_of l) fits is.1 in record {
+      follows = λ rest m. ap (gathers rest m) (ap (λ b. gathering_in (sets_of l) old m || b) (sym (is.0 m)) ∙ sym (k.has m));
+      fits = k.fits;
+    }
 
 -- a set that is kept was gathered again
 pub gathers_again : (operation : Operation) (place : Place) (old new : Gathering) →
     ((sets : Sets) (name : Name) (set : Member → Bool) → NamesFit sets old → IsPlaceOf old name place → StandsFor sets name set → StepsBecomeWith sets new (λ m. operated operation (set m) (gathering_in sets old m))) →
-    GathersSet operation (Again place) old new
-gathers_again operation place old new h l tree fits (name, at, stands) =
-    let k = h (sets_of l) name (has tree) fits at stands in record { follows = operation_follows (sets_of l) operation tree old new (has tree) k.has (λ m. refl); fits = k.fits }
+    GathersItem operation (Set (Again place)) old new
+gathers_again operation place old new h l meant fits (name, at, stands) =
+    let k = h (sets_of l) name (has meant.tree) fits at stands in record { follows = operation_follows (sets_of l) operation meant.tree old new (has meant.tree) k.has (λ m. refl); fits = k.fits }
 
 -- an item stays what it is where the same sets are kept at their places
-pub tree_still : (l : Language) (old new : Gathering) (item : CodeItem) (tree : Tree) → ((name : Name) (place : Place) → IsPlaceOf old name place → IsPlaceOf new name place) → IsTreeOf l old item tree → IsTreeOf l new item tree
-tree_still l old new (Set (Inner set)) tree places h = h
-tree_still l old new (Set (Named named)) tree places h = h
-tree_still l old new (Set (Again place)) tree places (name, at, stands) = (name, places name place at, stands)
-tree_still l old new Minus tree places h = tt
-tree_still l old new Ampersand tree places h = tt
-tree_still l old new Dollar tree places h = tt
-tree_still l old new (Single c) tree places h = tt
-tree_still l old new (Several codes) tree places h = tt
-tree_still l old new (Spelled t) tree places h = tt
+pub means_still : (l : Language) (old new : Gathering) (item : CodeItem) (meant : Meant) → ((name : Name) (place : Place) → IsPlaceOf old name place → IsPlaceOf new name place) → Means l old item meant → Means l new item meant
+means_still l old new (Set (Inner set)) meant places h = h
+means_still l old new (Set (Named named)) meant places h = h
+means_still l old new (Set (Again place)) meant places (name, at, stands) = (name, places name place at, stands)
+means_still l old new Minus meant places h = tt
+means_still l old new Ampersand meant places h = tt
+means_still l old new Dollar meant places h = tt
+means_still l old new (Single c) meant places h = tt
+means_still l old new (Several codes) meant places h = tt
+means_still l old new (Spelled t) meant places h = tt
+means_still l old new (NamedText named) meant places h = h

@@ -18,10 +18,9 @@ use Rattle.cp_terms.specs.declared.step.Step.TheVariants.{Push, Both, Complement
 use Rattle.cp_terms.specs.declared.step.Way.{Way}
 use Rattle.cp_terms.specs.declared.step.Way.TheVariants.{Join, Remove, Retain, RemoveFrom}
 use Rattle.uset_grammar.specs.Tree.{Member, point, string, negation}
-use Rattle.uset_grammar.specs.Language.{Value, character, string as string_value, set as set_value, is_set}
 use Rattle.uset_gather.specs.Gathered.{in_set}
 use Rattle.uset_variables.specs.declared.value.VariableValue.{VariableValue}
-use Rattle.uset_variables.specs.declared.value.VariableValue.TheVariants.{UnicodeSet}
+use Rattle.uset_variables.specs.declared.value.VariableValue.TheVariants.{UnicodeSet, Char, String as Spelled}
 use Rattle.uset_variables.specs.Values.{value_seen}
 use Rattle.uset_variables.specs.Variables.{bound}
 use Rattle.uset_steps.specs.declared.named_set.NamedSet.TheVariants.{Set, CodePoints, Complement}
@@ -33,6 +32,7 @@ use Rattle.uset_steps.specs.NumberedTerms.{put_in, some_put_in, has_at, step_ove
 use Rattle.uset_reader.specs.declared.found.FoundSet.{FoundSet}
 use Rattle.uset_reader.specs.declared.found.FoundSet.TheVariants.{Named, Numbered, Gathered}
 use Rattle.uset_reader.specs.declared.syntax.Syntax.{Syntax}
+use Rattle.uset_variables.specs.Numbered.{some_value_in}
 use Rattle.uset_reader.specs.Named.{bound_set, sets_of}
 use Rattle.uset_reader.specs.Syntaxes.{language_seen}
 use Rattle.uset_reader.specs.Evaluation.{lists_of_leaf, lists_of_found, is_complement, some_complement, puts_complement, found_in, some_found_in, found_at, some_listed, listed_at, AreFound, PushesStep}
@@ -224,19 +224,15 @@ module _ (s : Syntax) (name : List ℕ) (utf8 : encode_utf8_all (chars name) ≡
   meant : (v : Option VariableValue) → bound s.variables.now name ≡ v → in_some (bound_set (option_map value_seen v)) m ≡ in_meant (sets_of (language_seen s)) (variable name) m
   meant v is = sym (ap (λ bytes. in_some (bound_set (option_map value_seen (bound s.variables.now bytes))) m) utf8 ∙ ap (λ b. in_some (bound_set (option_map value_seen b)) m) is)
 
-  pub meant_unbound : bound s.variables.now name ≡ None → false ≡ in_meant (sets_of (language_seen s)) (variable name) m
-  meant_unbound none = meant None none
-
-  pub meant_set : (v : VariableValue) (set : StringSet) → bound s.variables.now name ≡ Some v → v ≡ UnicodeSet set → in_set set m ≡ in_meant (sets_of (language_seen s)) (variable name) m
-  meant_set v set is same = meant (Some (UnicodeSet set)) (is ∙ ap Some same)
-
-  pub meant_other : (v : VariableValue) → bound s.variables.now name ≡ Some v → is_set (value_seen v) ≡ false → false ≡ in_meant (sets_of (language_seen s)) (variable name) m
-  meant_other v is other = sym (ap (λ o. in_some o m) (by (value_seen v) other)) ∙ meant (Some v) is
+  -- the value has the members of the set that the name stands for
+  pub value_meant : (v : Option VariableValue) → bound s.variables.now name ≡ v → some_value_in v m ≡ in_meant (sets_of (language_seen s)) (variable name) m
+  value_meant v is = seen v ∙ meant v is
     where
-      by : (v : Value) → is_set v ≡ false → bound_set (Some v) ≡ None
-      by (character c) h = refl
-      by (string_value t) h = refl
-      by (set_value members) h = absurd (let e = h in cc)
+      seen : (v : Option VariableValue) → some_value_in v m ≡ in_some (bound_set (option_map value_seen v)) m
+      seen None = refl
+      seen (Some (UnicodeSet set)) = refl
+      seen (Some (Spelled t)) = refl
+      seen (Some (Char c)) = refl
 
 abbrev over : List Leaf → List Step → Member → Bool
 over leaves steps m = top (steps_over m (listed_at (map lists_of_leaf leaves) m) steps [])

@@ -302,7 +302,7 @@ module _ (source : List ℕ) (outer left : List CodeBracket) (b around new : Cod
     set_item = nested (tree_of o.header (shuts l o stands).steps)
 
     is_set_item : IsItem l around.gathered (Set (Inner made)) set_item
-    is_set_item = record { tree = tree_of o.header (shuts l o stands).steps; same = λ m. sym ((shuts l o stands).members m); is = refl }
+    is_set_item = record { meant = record { tree = tree_of o.header (shuts l o stands).steps; text = [] }; same = λ m. sym ((shuts l o stands).members m); is = refl }
 
     closed_turn : (x : Bool) → fit (inside.next.items ++ set_item ∷ []) ≡ x →
         closed l units (chars source) o os (chars text) (chars rest.now) (arrange o.items) ≡ nested_turn l units (chars source) o inside.next inside.further (c ∷ t) set_item x

@@ -17,9 +17,9 @@ use Rattle.uset_grammar.specs.EscapeSlips.{in_bracket, fits_in, so_many, allowed
 use Rattle.uset_grammar.specs.BracedString.{StringOutcome}
 use Rattle.uset_grammar.specs.Property.{Query, PropertyBegins, PropertyOutcome}
 use Rattle.uset_grammar.specs.Unit.{Meaning, an_escape, a_string, a_property, begins_property, UnitBegins, brace_begins, posix_begins, backslash_begins, UnitOutcome}
-use Rattle.uset_grammar.specs.Tree.{Tree, Member, given}
+use Rattle.uset_grammar.specs.Tree.{Tree, Member, given, is_text}
 use Rattle.uset_grammar.specs.Item.{chars as item_chars, text as item_text, nested, text_item}
-use Rattle.uset_grammar.specs.Language.{set as value_set, Language, resolves, lacks, property_tree}
+use Rattle.uset_grammar.specs.Language.{string as value_string, set as value_set, Language, resolves, lacks, property_tree}
 use Rattle.uset_grammar.specs.Laws.{KindsTell, UnitsOfKinds}
 use Rattle.cp_strset.specs.StringSet.{StringSet}
 use Rattle.uset_gather.specs.Gathered.{in_set}
@@ -39,10 +39,10 @@ use Rattle.uset_read.specs.UnitRead.{StopsAt}
 use Rattle.uset_reader.specs.declared.syntax.Syntax.{Syntax}
 use Rattle.uset_reader.specs.declared.item.Operand.{Operand}
 use Rattle.uset_reader.specs.declared.item.Item.{Item as CodeItem}
-use Rattle.uset_reader.specs.declared.item.Item.TheVariants.{Single, Several, Text as Spelled_text, Set}
+use Rattle.uset_reader.specs.declared.item.Item.TheVariants.{Single, Several, Text as Spelled_text, NamedText, Set}
 use Rattle.uset_reader.specs.declared.item.Codes.{Codes}
 use Rattle.uset_reader.specs.declared.code_point.CodePoint.{CodePoint}
-use Rattle.uset_reader.specs.Items.{number_of, IsTreeOf, item_seen}
+use Rattle.uset_reader.specs.Items.{number_of, Meant, Means, item_seen}
 use Rattle.uset_reader.specs.Brackets.{IsItem}
 use Rattle.uset_reader.specs.Syntaxes.{language_seen}
 use Rattle.uset_reader.specs.Units.{begins_with, AreCodePoints, chars_of, IsString, IsEscape, IsProperty, OperandIn, OperandStops, UnitIs, UnitStops}
@@ -72,22 +72,25 @@ allowed_within several (Itself c) h = tt
 allowed_within several (Numbers first more) h = all_within several (first ∷ more.items) (and_parts (list_all (fits_in (in_bracket several)) (first ∷ more.items)) (so_many (in_bracket several) (first ∷ more.items)) h).0
 
 -- what no item has that is no set
-pub no_tree : Tree
+no_tree : Tree
 no_tree = given (λ m. false)
 
+pub nothing_meant : Meant
+nothing_meant = record { tree = no_tree; text = [] }
+
 -- an item that is no set
-pub plain_item : (l : Language) (g : Gathering) (item : CodeItem) → IsTreeOf l g item no_tree → IsItem l g item (item_seen no_tree item)
-plain_item l g item h = record { tree = no_tree; same = h; is = refl }
+pub plain_item : (l : Language) (g : Gathering) (item : CodeItem) → Means l g item nothing_meant → IsItem l g item (item_seen nothing_meant item)
+plain_item l g item h = record { meant = nothing_meant; same = h; is = refl }
 
 -- ITEMS
 pub single_item : (l : Language) (g : Gathering) (c : CodePoint) (n : ℕ) → number_of c ≡ n → IsItem l g (Single c) (item_chars (n ∷ []))
-single_item l g c n e = record { tree = no_tree; same = tt; is = ap (λ z. item_chars (z ∷ [])) (sym e) }
+single_item l g c n e = record { meant = nothing_meant; same = tt; is = ap (λ z. item_chars (z ∷ [])) (sym e) }
 
 pub one_item : (l : Language) (g : Gathering) (c : CodePoint) (n : ℕ) (more : List ℕ) → number_of c ≡ n → more ≡ [] → IsItem l g (Single c) (item_chars (n ∷ more))
 one_item l g c n more e none = subst (λ ns. IsItem l g (Single c) (item_chars (n ∷ ns))) (sym none) (single_item l g c n e)
 
 pub several_item : (l : Language) (g : Gathering) (codes : Codes) → IsItem l g (Several codes) (item_chars (codes.first ∷ codes.more.items))
-several_item l g codes = record { tree = no_tree; same = tt; is = refl }
+several_item l g codes = record { meant = nothing_meant; same = tt; is = refl }
 
 pub none_left : (xs ys : List ℕ) (b : Bool) → ys ≡ xs → b ≡ (length ys == 0) → b ≡ true → xs ≡ []
 none_left xs ys b same is h = nil_from_length xs (eqb-true (length xs) 0 (sym (is ∙ ap (λ zs. length zs == 0) same) ∙ h))
@@ -106,7 +109,7 @@ pub sole_item : (l : Language) (g : Gathering) (c : CodePoint) (t : Text) (d : �
 sole_item l g c t d h e = subst (IsItem l g (Single c)) (sym (sole_text t d h)) (single_item l g c d e)
 
 pub string_item : (l : Language) (g : Gathering) (s : String Global) → sole_of (chars (string_bytes s)) ≡ None → IsItem l g (Spelled_text s) (text_item (chars (string_bytes s)))
-string_item l g s h = record { tree = no_tree; same = tt; is = other_text (chars (string_bytes s)) h }
+string_item l g s h = record { meant = nothing_meant; same = tt; is = other_text (chars (string_bytes s)) h }
 
 pub none_kept : (o : Option ℕ) → not (is_some o) ≡ true → o ≡ None
 none_kept None h = refl
@@ -114,7 +117,7 @@ none_kept (Some c) h = absurd (let g : false ≡ true = h in cc)
 
 -- a copy of a string
 pub copied_item : (l : Language) (g : Gathering) (s : String Global) (bytes : List ℕ) → string_bytes s ≡ bytes → IsItem l g (Spelled_text s) (item_text (chars bytes))
-copied_item l g s bytes e = record { tree = no_tree; same = tt; is = ap (λ bs. item_text (chars bs)) (sym e) }
+copied_item l g s bytes e = record { meant = nothing_meant; same = tt; is = ap (λ bs. item_text (chars bs)) (sym e) }
 
 -- a variable that is bound to a set stands for it
 pub variable_set : (l : Language) (named : NamedOperand) (name : List ℕ) (set : StringSet) → name_seen named.name ≡ variable name → ((m : Member) → named_in named.set m ≡ in_set set m) →
@@ -125,8 +128,17 @@ variable_set l named name set called same bound = record { members = in_set set;
 pub set_item : (l : Language) (g : Gathering) (named : Box NamedOperand Global) (name : List ℕ) (set : StringSet) → name_seen named.value.name ≡ variable name → ((m : Member) → named_in named.value.set m ≡ in_set set m) →
     l.variable (chars name) ≡ Some (value_set (in_set set)) → IsItem l g (Set (Named named)) (nested (given (in_set set)))
 set_item l g named name set called same bound = record {
-  tree = given (in_set set);
+  meant = record { tree = given (in_set set); text = [] };
   same = (λ m. sym (same m), variable_set l named.value name set called same bound);
+  is = refl;
+}
+
+-- a variable that is bound to a string, and the set of it alone
+pub named_text_item : (l : Language) (g : Gathering) (named : Box NamedOperand Global) (name bytes : List ℕ) → name_seen named.value.name ≡ variable name → ((m : Member) → named_in named.value.set m ≡ is_text (chars bytes) m) →
+    l.variable (chars name) ≡ Some (value_string (chars bytes)) → IsItem l g (NamedText named) (item_text (chars bytes))
+named_text_item l g named name bytes called same bound = record {
+  meant = record { tree = no_tree; text = chars bytes };
+  same = (same, record { members = is_text (chars bytes); is = ap (sets_of l) called ∙ ap bound_set bound; same = same });
   is = refl;
 }
 
@@ -211,7 +223,7 @@ module _ (s : Syntax) (kinds : KindsTell) (several : Bool) (text : List ℕ) whe
       let found = h (property_begins b other) in record {
         unit = a_property found.query;
         outcome = of_property b other (got found.query (chars rest)) found.outcome;
-        item_is = record { tree = property_tree l found.query; same = found.members; is = refl };
+        item_is = record { meant = record { tree = property_tree l found.query; text = [] }; same = found.members; is = refl };
       }
 
   pub property_stops : IsProperty (chars text) → (stop : Stop) → OperandStops l text stop → UnitStops l several text stop

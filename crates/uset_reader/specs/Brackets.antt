@@ -1,7 +1,7 @@
 -- The open brackets of the code as those of the grammar, and what becomes of an item.
 use Rattle.std.specs.Prelude.{◌≡◌, ℕ, Bool, true, false, [], ◌∷◌, ◌++◌, Option, Some, None}
 use Rattle.uset_grammar.specs.Text.{Text}
-use Rattle.uset_grammar.specs.Tree.{Tree, Member, has, Steps, gathers, leading_hyphen}
+use Rattle.uset_grammar.specs.Tree.{Member, has, Steps, gathers, leading_hyphen}
 use Rattle.uset_grammar.specs.Item.{Item, Opening, tree_of}
 use Rattle.uset_grammar.specs.Arranging.{Awaits, element, stuck, on, next, went, run, fit, arrange}
 use Rattle.uset_grammar.specs.Reached.{OpenBracket, with_item}
@@ -15,14 +15,13 @@ use Rattle.uset_reader.specs.declared.bracket.OpenBracket.{OpenBracket as CodeBr
 use Rattle.uset_reader.specs.declared.bracket.Taken.{Taken}
 use Rattle.uset_reader.specs.declared.bracket.Taken.TheVariants.{Fits, Reversed, Unfit}
 use Rattle.uset_reader.specs.declared.item.Item.{Item as CodeItem}
-use Rattle.uset_reader.specs.declared.item.Operand.{Operand}
 use Rattle.uset_steps.specs.declared.gathering.Gathering.{Gathering}
 use Rattle.uset_steps.specs.declared.step.Operation.{Operation}
 use Rattle.uset_steps.specs.declared.gathering.Place.{Place}
 use Rattle.uset_steps.specs.Names.{Name, Sets}
 use Rattle.uset_steps.specs.Gathering.{gathering_in, IsPlaceOf, Fits as NamesFit}
 use Rattle.uset_reader.specs.Named.{sets_of}
-use Rattle.uset_reader.specs.Items.{number_of, item_seen, IsTreeOf, IsOperand, awaits_seen, operated, own_steps}
+use Rattle.uset_reader.specs.Items.{number_of, Meant, item_seen, Means, awaits_seen, own_steps}
 
 abbrev pub opening_seen : CodeOpening → Opening
 opening_seen o = record { negated = o.negated; leading = o.leading }
@@ -45,13 +44,8 @@ pub record Becomes (old : Gathering) (steps : Steps → Steps) (new : Gathering)
 -- the set is what an item's own steps make of another, or an operation with an operand
 abbrev pub GathersItem : Operation → CodeItem → Gathering → Gathering → Type 0
 GathersItem operation item old new =
-    (l : Language) (tree : Tree) → NamesFit (sets_of l) old → IsTreeOf l old item tree →
-    BecomesWith (sets_of l) old (own_steps operation (item_seen tree item)) new
-
-abbrev pub GathersSet : Operation → Operand → Gathering → Gathering → Type 0
-GathersSet operation operand old new =
-    (l : Language) (tree : Tree) → NamesFit (sets_of l) old → IsOperand l old operand tree →
-    BecomesWith (sets_of l) old (operated operation tree) new
+    (l : Language) (meant : Meant) → NamesFit (sets_of l) old → Means l old item meant →
+    BecomesWith (sets_of l) old (own_steps operation (item_seen meant item)) new
 
 -- What the code keeps of an open bracket: what it begins with and where, what is awaited behind its items, and what
 -- they gather, with sets that their names stand for.
@@ -83,9 +77,9 @@ begun before opening = record { before = before; header = opening_seen opening; 
 
 -- an item of the grammar that the item of the code is
 pub record IsItem (l : Language) (g : Gathering) (item : CodeItem) (i : Item) : Type 0 where
-  pub tree : Tree
-  pub same : IsTreeOf l g item tree
-  pub is : i ≡ item_seen tree item
+  pub meant : Meant
+  pub same : Means l g item meant
+  pub is : i ≡ item_seen meant item
 
 -- the item fits, and was taken
 pub record Took (l : Language) (old new : CodeBracket) (o : OpenBracket) (i : Item) : Type 0 where

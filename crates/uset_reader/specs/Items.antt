@@ -4,7 +4,8 @@ use Rattle.std.specs.Str.{chars as characters}
 use Rattle.std.specs.String.{string_bytes}
 use Rattle.cp_invlist.specs.declared.ranges.CodePointRange.{CodePointRange}
 use Rattle.cp_strset.specs.StringList.{sole_of}
-use Rattle.uset_grammar.specs.Tree.{Tree, has, Member, Steps, add, add_text, join, remove, keep}
+use Rattle.uset_grammar.specs.Text.{Text}
+use Rattle.uset_grammar.specs.Tree.{Tree, has, Member, is_text, Steps, add, add_text, join, remove, keep}
 use Rattle.uset_grammar.specs.Item.{Item, chars, text, nested, minus, ampersand, dollar}
 use Rattle.uset_grammar.specs.Body.{add_each}
 use Rattle.uset_grammar.specs.Arranging.{Awaits, element, after_single, range_end, hyphen_end, anchor_end, after_set, remove_or_end, keep_set, Next, stuck, on}
@@ -21,7 +22,7 @@ use Rattle.uset_reader.specs.declared.code_point.CodePoint.{CodePoint}
 use Rattle.uset_reader.specs.declared.item.Operand.{Operand}
 use Rattle.uset_reader.specs.declared.item.Operand.TheVariants.{Inner, Named, Again}
 use Rattle.uset_reader.specs.declared.item.Item.{Item as CodeItem}
-use Rattle.uset_reader.specs.declared.item.Item.TheVariants.{Minus, Ampersand, Dollar, Single, Several, Text as Spelled, Set}
+use Rattle.uset_reader.specs.declared.item.Item.TheVariants.{Minus, Ampersand, Dollar, Single, Several, Text as Spelled, NamedText, Set}
 use Rattle.uset_reader.specs.declared.arrange.Awaits.{Awaits as CodeAwaits}
 use Rattle.uset_reader.specs.declared.arrange.Awaits.TheVariants.{Element, AfterSingle, RangeEnd, End, AnchorEnd, AfterSet, RemoveOrEnd, Keep}
 use Rattle.uset_reader.specs.declared.arrange.Arranged.{Arranged}
@@ -31,15 +32,21 @@ use Rattle.uset_reader.specs.Named.{sets_of}
 abbrev pub number_of : CodePoint → ℕ
 number_of c = c.number
 
--- an item as the grammar has it, where a set is this tree
-abbrev pub item_seen : Tree → CodeItem → Item
-item_seen tree Minus = minus
-item_seen tree Ampersand = ampersand
-item_seen tree Dollar = dollar
-item_seen tree (Single c) = chars (number_of c ∷ [])
-item_seen tree (Several codes) = chars (codes.first ∷ codes.more.items)
-item_seen tree (Spelled t) = text (characters (string_bytes t))
-item_seen tree (Set operand) = nested tree
+-- what an item is in the grammar that is known by its members: a set or a string
+pub record Meant : Type 0 where
+  pub tree : Tree
+  pub text : Text
+
+-- an item as the grammar has it, where a set or a string with a name is this
+abbrev pub item_seen : Meant → CodeItem → Item
+item_seen meant Minus = minus
+item_seen meant Ampersand = ampersand
+item_seen meant Dollar = dollar
+item_seen meant (Single c) = chars (number_of c ∷ [])
+item_seen meant (Several codes) = chars (codes.first ∷ codes.more.items)
+item_seen meant (Spelled t) = text (characters (string_bytes t))
+item_seen meant (NamedText named) = text meant.text
+item_seen meant (Set operand) = nested meant.tree
 
 -- the tree has the members of the set
 abbrev pub IsNamed : NamedSet → Tree → Type 0
@@ -56,20 +63,26 @@ IsOperand l g (Inner set) tree = (m : Member) → has tree m ≡ closed_in (sets
 IsOperand l g (Named named) tree = IsNamedOf l named.value tree
 IsOperand l g (Again place) tree = (name : Name) × IsPlaceOf g name place × StandsFor (sets_of l) name (has tree)
 
--- where the item is a set, the tree has its members
-abbrev pub IsTreeOf : Language → Gathering → CodeItem → Tree → Type 0
-IsTreeOf l g (Set operand) tree = IsOperand l g operand tree
-IsTreeOf l g Minus tree = Unit {0}
-IsTreeOf l g Ampersand tree = Unit {0}
-IsTreeOf l g Dollar tree = Unit {0}
-IsTreeOf l g (Single c) tree = Unit {0}
-IsTreeOf l g (Several codes) tree = Unit {0}
-IsTreeOf l g (Spelled t) tree = Unit {0}
+-- the set has the string alone, and is the one that the name stands for
+abbrev pub IsNamedText : Language → NamedOperand → Text → Type 0
+IsNamedText l named t = ((m : Member) → named_in named.set m ≡ is_text t m) × IsSetOf (sets_of l) named
+
+-- where the item is a set, the tree has its members, and where it is a string with a name, it is that text
+abbrev pub Means : Language → Gathering → CodeItem → Meant → Type 0
+Means l g (Set operand) meant = IsOperand l g operand meant.tree
+Means l g (NamedText named) meant = IsNamedText l named.value meant.text
+Means l g Minus meant = Unit {0}
+Means l g Ampersand meant = Unit {0}
+Means l g Dollar meant = Unit {0}
+Means l g (Single c) meant = Unit {0}
+Means l g (Several codes) meant = Unit {0}
+Means l g (Spelled t) meant = Unit {0}
 
 -- a string isn't one character, and codes are code points
 abbrev pub IsProper : CodeItem → Type 0
 IsProper (Spelled t) = sole_of (characters (string_bytes t)) ≡ None
 IsProper (Several codes) = All (λ n. n ≤ 0x10FFFF) (codes.first ∷ codes.more.items)
+IsProper (NamedText named) = Unit {0}
 IsProper (Set operand) = Unit {0}
 IsProper Minus = Unit {0}
 IsProper Ampersand = Unit {0}

@@ -1,8 +1,7 @@
 //! How the items of a bracket are arranged.
 ghost use Rattle.std.specs.Prelude.{◌≤◌, IfSome};
-ghost use Rattle.uset_grammar.specs.Tree.{Tree};
 ghost use Rattle.uset_grammar.specs.Arranging.{next};
-ghost use Rattle.uset_reader.specs.Items.{item_seen, awaits_seen, Arranges};
+ghost use Rattle.uset_reader.specs.Items.{Meant, item_seen, awaits_seen, Arranges};
 
 use crate::code_point::CodePoint;
 use crate::item::Item;
@@ -103,8 +102,8 @@ impl Arranged {
 
 /// What becomes of an item behind those that were read. `None` where it doesn't fit.
 pub(crate) fn arranged_behind(awaits: Awaits, item: &Item<'_>) -> Option<Arranged>
-    ensures arranged { (tree : Tree) →
-        Arranges (next (awaits_seen awaits) (item_seen tree item.now)) (item_seen tree item.now) result }
+    ensures arranged { (meant : Meant) →
+        Arranges (next (awaits_seen awaits) (item_seen meant item.now)) (item_seen meant item.now) result }
     ensures within { IfSome result (λ a. IfSome a.adds (λ r. r.end ≤ 0x10FFFF)) }
 {
     match (awaits, item) {
@@ -123,13 +122,12 @@ pub(crate) fn arranged_behind(awaits: Awaits, item: &Item<'_>) -> Option<Arrange
         ),
         (Awaits::RangeEnd(first), Item::Single(last)) if first.number() <= last.number() =>
             Arranged::adds(first, *last, Awaits::Element),
-        (Awaits::Element | Awaits::AfterSet, Item::Several(_) | Item::Text(_)) => Arranged::goes_on(
-            Awaits::Element,
-        ),
-        (Awaits::AfterSingle(first), Item::Several(_) | Item::Text(_)) => Arranged::adds_one(
-            first,
-            Awaits::Element,
-        ),
+        (
+            Awaits::Element | Awaits::AfterSet,
+            Item::Several(_) | Item::Text(_) | Item::NamedText(_),
+        ) => Arranged::goes_on(Awaits::Element),
+        (Awaits::AfterSingle(first), Item::Several(_) | Item::Text(_) | Item::NamedText(_)) =>
+            Arranged::adds_one(first, Awaits::Element),
         (Awaits::Element | Awaits::AfterSet, Item::Set(_)) => Arranged::gathers(Operation::Join),
         (Awaits::AfterSingle(first), Item::Set(_)) => Arranged::adds_one(first, Awaits::AfterSet),
         (Awaits::RemoveOrEnd, Item::Set(_)) => Arranged::gathers(Operation::Remove),

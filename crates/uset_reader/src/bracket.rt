@@ -71,11 +71,11 @@ pub(crate) enum Taken {
 
 impl<'a> OpenBracket<'a> {
     ghost use Rattle.std.specs.Prelude.{◌≡◌, ◌≤◌, ◌∷◌, All, IfOk, IfSome, OnOk};
-    ghost use Rattle.uset_grammar.specs.Tree.{Tree, add};
+    ghost use Rattle.uset_grammar.specs.Tree.{add};
     ghost use Rattle.uset_grammar.specs.Body.{add_each};
     ghost use Rattle.uset_grammar.specs.Arranging.{went, next, ending};
     ghost use Rattle.uset_grammar.specs.Turn.{two};
-    ghost use Rattle.uset_reader.specs.Items.{awaits_seen, item_seen, range_steps, IsProper};
+    ghost use Rattle.uset_reader.specs.Items.{awaits_seen, Meant, item_seen, range_steps, IsProper};
     ghost use Rattle.uset_reader.specs.Brackets.{Becomes, GathersItem, IsBegun, Takes, Closes, Refuses, KeepsFrame, EndedAs};
 
     /// A bracket behind what it begins with.
@@ -137,7 +137,7 @@ impl<'a> OpenBracket<'a> {
 
     /// How an item doesn't fit.
     fn refusal(&self, item: &Item<'_>) -> Taken
-        ensures { (tree : Tree) → Refuses (awaits_seen self.now.awaits) (item_seen tree item.now) result }
+        ensures { (meant : Meant) → Refuses (awaits_seen self.now.awaits) (item_seen meant item.now) result }
     {
         match (self.awaits, item) {
             (Awaits::RangeEnd(_), Item::Single(c)) => Taken::Reversed(*c),
@@ -159,6 +159,10 @@ impl<'a> OpenBracket<'a> {
         match item {
             Item::Several(codes) => self.add_each(codes.first, &codes.more),
             Item::Text(text) => self.gathered.add_text(alloc, text),
+            Item::NamedText(named) => {
+                let named = Box::into_inner(named);
+                self.gathered.gather_named(alloc, Operation::Join, named)
+            }
             Item::Set(Operand::Inner(set)) => self.gathered.gather(alloc, operation, set),
             Item::Set(Operand::Named(named)) => {
                 let named = Box::into_inner(named);

@@ -29,22 +29,29 @@ use uset_gather::Gathered;
 use uset_read::Query;
 use uset_resolve::Resolver;
 use uset_steps::{Closed, Name, NamedSet, NumberedTerm, Term, TermSet};
+use uset_variables::VariableValue;
 
-/// The set that the variable is bound to, if it is bound to one, with the numbers of its strings where they are kept.
-fn find_variable<'v>(syntax: &Syntax<'v>, name: &str) -> Option<FoundSet<'v>>
-    ensures members { (m : Member) →
-        some_found_in result m ≡ in_meant (sets_of (language_seen syntax.now)) (variable name.now) m }
-    ensures fits { IfSome result (FoundFits (numbered_strings syntax.now.variables.now)) }
+/// The set that the variable is bound to, if it is bound to one, or that of its string alone, with the numbers of its
+/// strings where they are kept.
+fn find_variable<'v>(
+    alloc: Global,
+    syntax: &Syntax<'v>,
+    name: &str,
+) -> Result<Option<FoundSet<'v>>, NoMemory>
+    ensures members { IfOk result (λ found. (m : Member) →
+        some_found_in found m ≡ in_meant (sets_of (language_seen syntax.now)) (variable name.now) m) }
+    ensures fits { IfOk result (λ found. IfSome found (FoundFits (numbered_strings syntax.now.variables.now))) }
 {
+    if let Some((set, numbers)) = syntax.variables.numbered_set(name) {
+        return Ok(Some(FoundSet::Numbered(set, numbers)));
+    }
     let Some(value) = syntax.variables.get(name) else {
-        return None;
+        return Ok(None);
     };
-    let Some(set) = value.as_set() else {
-        return None;
-    };
-    match syntax.variables.numbers_of(name) {
-        Some(numbers) => Some(FoundSet::Numbered(set, numbers)),
-        None => Some(FoundSet::Named(NamedSet::Set(set))),
+    match value {
+        VariableValue::UnicodeSet(set) => Ok(Some(FoundSet::Named(NamedSet::Set(set)))),
+        VariableValue::String(string) => Ok(Some(FoundSet::Gathered(string.alone(alloc)?))),
+        VariableValue::Char(_) => Ok(None),
     }
 }
 
@@ -80,7 +87,7 @@ fn find_named<'v, 'd: 'v>(
     ensures fits { IfOk result (λ found. IfSome found (FoundFits (numbered_strings syntax.now.variables.now))) }
 {
     match name {
-        Name::Variable(name) => Ok(find_variable(syntax, name.as_str())),
+        Name::Variable(name) => find_variable(alloc, syntax, name.as_str()),
         Name::Property(query) => find_property(alloc, resolver, query),
     }
 }

@@ -72,6 +72,8 @@ pub(crate) enum Item<'a> {
     Several(Codes),
     /// A string that isn't one character.
     Text(String),
+    /// Such a string that a variable is bound to, as the set of it alone, which is not copied.
+    NamedText(Box<Named<'a>>),
     /// A set.
     Set(Operand<'a>),
 }

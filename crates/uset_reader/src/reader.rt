@@ -11,7 +11,7 @@ use crate::fault::{fault_at, fault_before, stopped};
 use crate::front::{First, look_at_first};
 use crate::property::read_named;
 use crate::syntax::Syntax;
-use crate::turn::{Progress, turn};
+use crate::turn::{Progress, named_variable, turn};
 use cp_invlist::NoMemory;
 use cp_strset::CodePointInversionListAndStringList;
 use std::alloc::Global;
@@ -19,7 +19,7 @@ use uset_fault::{ParseError, ParseErrorKind};
 use uset_grammar::laws;
 use uset_read::Cursor;
 use uset_resolve::Resolver;
-use uset_steps::{Closed, Name, Named, NamedSet};
+use uset_steps::Closed;
 
 /// Reads the bracket that begins the source, up to its `]`.
 fn read_bracket<'v, 'd: 'v, 'a>(
@@ -63,9 +63,7 @@ fn variable_set(
 ) -> Result<Closed, NoMemory>
     ensures { IfOk result (IsSetOfVariable name.now set.now) }
 {
-    let name = Name::Variable(String::from_str(alloc, name)?);
-    let set = NamedSet::Set(set);
-    Named { name, set }.closed(alloc)
+    named_variable(alloc, name, set)?.closed(alloc)
 }
 
 /// Reads the variable of this name, which begins the source, as a set.

@@ -1,6 +1,7 @@
 //! One turn of the reader: what stands in front in the innermost bracket.
-ghost use Rattle.std.specs.Prelude.{◌≡◌, ◌≤◌, ◌<◌, [], length, IfOk, true};
+ghost use Rattle.std.specs.Prelude.{◌≡◌, ◌≤◌, ◌<◌, [], length, Some, None, IfOk, true};
 ghost use Rattle.std.specs.Str.{chars};
+ghost use Rattle.cp_strset.specs.StringList.{sole_of};
 ghost use Rattle.uset_read.specs.Cursors.{source_of, left_of};
 ghost use Rattle.uset_reader.specs.Items.{IsProper};
 ghost use Rattle.uset_reader.specs.Syntaxes.{language_seen};
@@ -8,9 +9,14 @@ ghost use Rattle.uset_grammar.specs.Item.{Item as GrammarItem};
 ghost use Rattle.uset_grammar.specs.Language.{Language};
 ghost use Rattle.uset_grammar.specs.Grammar.{of_unit};
 ghost use Rattle.uset_grammar.specs.Reached.{is_last_property};
+ghost use Rattle.uset_grammar.specs.Tree.{Member};
+ghost use Rattle.uset_gather.specs.Gathered.{in_set};
+ghost use Rattle.uset_steps.specs.Names.{variable, name_seen, named_in};
 ghost use Rattle.uset_steps.specs.declared.gathering.Gathering.{Gathering};
 ghost use Rattle.uset_reader.specs.Brackets.{IsItem};
+ghost use Rattle.uset_variables.specs.declared.value.VariableValue.TheVariants.{String as Spelled};
 ghost use Rattle.uset_variables.specs.Values.{is_kept};
+ghost use Rattle.uset_variables.specs.Variables.{bound};
 ghost use Rattle.uset_reader.specs.Turns.{IsVariable, TurnsAt, IsShorter, IsUnfit, TakesAs, TakesVariable, TakesUnit, Opens, ClosesAs};
 
 use crate::bracket::{OpenBracket, Opening, Taken};
@@ -21,6 +27,7 @@ use crate::item::{Item, Operand};
 use crate::syntax::Syntax;
 use crate::unit::read_unit;
 use cp_invlist::NoMemory;
+use cp_strset::CodePointInversionListAndStringList;
 use std::alloc::Global;
 use std::mem::replace;
 use uset_fault::{ParseError, ParseErrorKind};
@@ -28,7 +35,7 @@ use uset_grammar::laws;
 use uset_read::{Cursor, split_first};
 use uset_resolve::Resolver;
 use uset_steps::{Closed, Name, Named, NamedSet};
-use uset_variables::VariableValue;
+use uset_variables::{VariableString, VariableValue};
 
 /// What a turn made of the open brackets.
 #[derive(Drop)]
@@ -89,23 +96,59 @@ fn take<'v, 'a>(
     }
 }
 
-/// The item that the variable of this name stands for.
+/// The set, under the name of a variable.
+pub(crate) fn named_variable<'v>(
+    alloc: Global,
+    name: &str,
+    set: &'v CodePointInversionListAndStringList,
+) -> Result<Named<'v>, NoMemory>
+    ensures name { IfOk result (λ named. name_seen named.name ≡ variable name.now) }
+    ensures set { IfOk result (λ named. (m : Member) → named_in named.set m ≡ in_set set.now m) }
+{
+    let name = Name::Variable(String::from_str(alloc, name)?);
+    let set = NamedSet::Set(set);
+    Ok(Named { name, set })
+}
+
+/// The item of the string that the variable of this name is bound to, which is copied where it is short.
+fn string_item<'v>(
+    alloc: Global,
+    syntax: &Syntax<'v>,
+    name: &str,
+    string: &VariableString,
+) -> Result<Item<'v>, NoMemory>
+    requires bound { bound syntax.now.variables.now name.now ≡ Some (Spelled string.now) }
+    requires proper { sole_of (chars string.now) ≡ None }
+    ensures item { IfOk result (IsVariable name.now (Spelled string.now)) }
+    ensures proper { IfOk result IsProper }
+{
+    match syntax.variables.numbered_set(name) {
+        Some((set, _)) => {
+            let named = named_variable(alloc, name, set)?;
+            Ok(Item::NamedText(Box::new(alloc, named)?))
+        }
+        None => Ok(Item::Text(String::from_str(alloc, string.as_str())?)),
+    }
+}
+
+/// The item that the variable of this name stands for, which is bound to the value.
 fn variable_item<'v>(
     alloc: Global,
+    syntax: &Syntax<'v>,
     name: &str,
     value: &'v VariableValue,
 ) -> Result<Item<'v>, NoMemory>
-    requires { is_kept value.now ≡ true }
+    requires bound { bound syntax.now.variables.now name.now ≡ Some value.now }
+    requires kept { is_kept value.now ≡ true }
     ensures item { IfOk result (IsVariable name.now value.now) }
     ensures proper { IfOk result IsProper }
 {
     match value {
         VariableValue::Char(c) => Ok(Item::Single(CodePoint::from_char(*c))),
-        VariableValue::String(s) => Ok(Item::Text(String::from_str(alloc, s.as_str())?)),
+        VariableValue::String(string) => string_item(alloc, syntax, name, string),
         VariableValue::UnicodeSet(set) => {
-            let name = Name::Variable(String::from_str(alloc, name)?);
-            let set = NamedSet::Set(set);
-            Ok(Item::Set(Operand::Named(Box::new(alloc, Named { name, set })?)))
+            let named = named_variable(alloc, name, set)?;
+            Ok(Item::Set(Operand::Named(Box::new(alloc, named)?)))
         }
     }
 }
@@ -130,7 +173,7 @@ fn take_variable<'v, 'a>(
     let Some(value) = syntax.variables.get(name) else {
         return Err(fault_before(cursor, ParseErrorKind::UnknownVariable, rest));
     };
-    let item = variable_item(alloc, name, value)?;
+    let item = variable_item(alloc, syntax, name, value)?;
     take(alloc, cursor, bracket, Sort::Variable, item, text, rest)
 }
 

@@ -32,6 +32,8 @@ mod huge;
 #[cfg(test)]
 mod indexed;
 #[cfg(test)]
+mod long_strings;
+#[cfg(test)]
 mod patterns;
 #[cfg(test)]
 mod properties;

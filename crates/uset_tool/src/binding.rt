@@ -2,7 +2,6 @@
 ghost use Rattle.std.specs.Prelude.{◌≡◌, None, true, false, IfOk, OnOk};
 ghost use Rattle.std.specs.String.{string_bytes};
 ghost use Rattle.uset_variables.specs.Values.{value_seen, kept};
-ghost use Rattle.uset_variables.specs.declared.value.VariableValue.TheVariants.{UnicodeSet};
 ghost use Rattle.uset_variables.specs.Variables.{bound, variables_of};
 ghost use Rattle.uset_tool.specs.Script.{script_line, set as set_definition};
 ghost use Rattle.uset_tool.specs.Lines.{definition_seen};
@@ -12,7 +11,6 @@ ghost use Rattle.uset_tool.specs.Answered.{AnswersDefinition, AnswersBinding, An
 use crate::answer::{Answer, answer_err, answer_fault, answer_pattern};
 use crate::line::{Definition, Line, read_line};
 use cp_invlist::NoMemory;
-use cp_strset::CodePointInversionListAndStringList;
 use std::alloc::Global;
 use uset_parse::{
     InsertError, Resolver, VariableMap, VariableString, VariableValue, WholeSource,
@@ -67,7 +65,7 @@ fn bind(
     }
 }
 
-/// Binds a name that is bound to nothing, and answers that.
+/// Binds a name that is bound to nothing, gives its strings numbers where they are many or long, and answers that it is bound.
 fn answer_value(
     alloc: Global,
     name: &str,
@@ -80,21 +78,6 @@ fn answer_value(
 {
     let answer = answer_bound(alloc, name)?;
     bind(alloc, name, value, variables)?;
-    Ok(answer)
-}
-
-/// Binds a name that is bound to nothing to a set, gives its strings numbers where there are many, and answers that it is bound.
-fn answer_indexed(
-    alloc: Global,
-    name: &str,
-    set: CodePointInversionListAndStringList,
-    variables: &mut VariableMap,
-) -> Result<Answer, NoMemory>
-    requires { bound variables.old name.now ≡ None }
-    ensures { IfOk result
-        (IsBound name.now (value_seen (UnicodeSet set)) (variables_of variables.old) (variables_of variables.new)) }
-{
-    let answer = answer_value(alloc, name, VariableValue::UnicodeSet(set), variables)?;
     variables.index(alloc, name)?;
     Ok(answer)
 }
@@ -115,7 +98,7 @@ fn answer_set(
     match parse_whole_with_resolver(alloc, source, variables, resolver) {
         Ok(WholeSource::Pattern(mut set)) => {
             set.index(alloc)?;
-            answer_indexed(alloc, name, set, variables)
+            answer_value(alloc, name, VariableValue::UnicodeSet(set), variables)
         }
         Ok(WholeSource::TextBehind(length)) => answer_text_after(alloc, length),
         Err(error) => answer_fault(alloc, source, error),

@@ -1,32 +1,30 @@
--- Numbers of strings after a name is bound, freed or indexed.
-use Rattle.std.proofs.Common.{◌≡◌, ℕ, ◌&&◌, ◌||◌, Bool, true, false, List, Option, None, Some, Result, Ok, Err, OnOk, OnErr, cond, option_map, refl, sym, ap, subst, ◌∙◌, nat_cmp, IfSome}
+-- Indices of names after a name is bound, freed or indexed.
+use Rattle.std.proofs.Common.{◌≡◌, ℕ, ◌&&◌, ◌||◌, Bool, true, false, List, Option, None, Some, Result, Ok, Err, OnOk, OnErr, cond, option_map, refl, sym, ap, subst, ◌∙◌, nat_cmp}
 use Rattle.std.specs.Global.{Global}
 use Rattle.std.specs.Prelude.{is_some}
 use Rattle.std.specs.BTreeMap.{BTreeMap, get_by_text, IsUnchanged}
-use Rattle.std.specs.Borrow.{Bor}
 use Rattle.std.specs.Cmp.Lexicographic.{slice_cmp}
 use Rattle.std.specs.Map.{lookup}
-use Rattle.std.specs.Option.{option_copied}
 use Rattle.std.specs.Ordering.{is_eq}
 use Rattle.std.specs.Str.{bytes_eq}
 use Rattle.std.specs.String.{string_bytes}
 use Rattle.std.specs.declared.string.String.{String}
 use Rattle.std.proofs.lemmas.Bool.{false_from_ne_true, true≢false}
 use Rattle.std.proofs.lemmas.Slice.Eq.{bytes_eq-Decides}
-use Rattle.cp_strset.specs.StringSet.{StringSet}
-use Rattle.cp_strset_terms.specs.Numbers.{AreNumbersOf, KeepsNumbers}
+use Rattle.cp_strset_terms.specs.Numbers.{KeepsNumbers}
+use Rattle.uset_variables.specs.declared.index.Index.{Index}
 use Rattle.uset_variables.specs.declared.value.KeptValue.{KeptValue}
-use Rattle.uset_variables.specs.declared.value.VariableValue.TheVariants.{UnicodeSet}
-use Rattle.uset_variables.specs.Numbered.{value_at, is_a_set, AreNumbersOfSets}
+use Rattle.uset_variables.specs.declared.value.VariableValue.{VariableValue}
+use Rattle.uset_variables.specs.Numbered.{value_at, some_indexed_set, IsIndexOf, AreIndices}
 use Rattle.uset_variables.proofs.VariableLemmas.{value_among}
 
 -- the values by name
 abbrev pub Values : Type 0
 Values = BTreeMap (String Global) KeptValue
 
--- the sets of numbers by name
-abbrev pub Numbers : Type 0
-Numbers = BTreeMap (String Global) (List (List ℕ))
+-- the indices by name
+abbrev pub Indices : Type 0
+Indices = BTreeMap (String Global) Index
 
 -- what holds after success and after a refusal holds in any case
 pub after_either : {T E P Q R : Type 0} (r : Result T E) → OnOk r P → OnErr r Q → (P → R) → (Q → R) → R
@@ -46,79 +44,54 @@ other : {A : Type 0} (b : Bool) (o : Option A) (x : A) → cond b None o ≡ Som
 other true o x found = (cc, cc)
 other false o x found = (refl, found)
 
--- a name that is bound to nothing has no numbers, so that it may be bound to anything
-module _ (key : List ℕ) (old new : Values) (strings : List (List ℕ)) (numbers : Numbers) where
-  pub numbers_beside : AreNumbersOfSets old strings numbers → value_at old key ≡ None → ((name : List ℕ) → bytes_eq key name ≡ false → value_at new name ≡ value_at old name) → AreNumbersOfSets new strings numbers
-  numbers_beside numbered free keep = record {
-    sets = λ name list found. ap is_a_set (keep name (apart name list found)) ∙ numbered.sets name list found;
-    theirs = λ name list set found bound. numbered.theirs name list set found (sym (keep name (apart name list found)) ∙ bound);
-  }
-    where
-      apart : (name : List ℕ) (list : List (List ℕ)) → get_by_text numbers name ≡ Some list → bytes_eq key name ≡ false
-      apart name list found = false_from_ne_true (bytes_eq key name)
-          (λ same. true≢false (sym (numbered.sets name list found) ∙ ap is_a_set (ap (value_at old) (sym ((bytes_eq-Decides key name).0 same)) ∙ free)))
+-- an index is that of an equal value
+index_of_equal : (strings : List (List ℕ)) (v w : Option VariableValue) (index : Index) → w ≡ v → IsIndexOf strings v index → IsIndexOf strings w index
+index_of_equal strings v w index same is = subst (λ value. IsIndexOf strings value index) (sym same) is
 
--- once a name has no numbers, it may be bound to anything
-module _ (key : List ℕ) (old new : Values) (strings : List (List ℕ)) (before after : Numbers) where
-  pub numbers_of_others : AreNumbersOfSets old strings before → ((name : List ℕ) → get_by_text after name ≡ cond (bytes_eq key name) None (get_by_text before name)) → ((name : List ℕ) → bytes_eq key name ≡ false → value_at new name ≡ value_at old name) → AreNumbersOfSets new strings after
-  numbers_of_others numbered freed keep = record {
-    sets = λ name list found.
-        let there = was_there name list found in
-        ap is_a_set (keep name there.0) ∙ numbered.sets name list there.1;
-    theirs = λ name list set found bound.
-        let there = was_there name list found in
-        numbered.theirs name list set there.1 (sym (keep name there.0) ∙ bound);
-  }
+-- a name that is bound to nothing has no index, so that it may be bound to anything
+module _ (key : List ℕ) (old new : Values) (strings : List (List ℕ)) (indices : Indices) where
+  pub indices_beside : AreIndices old strings indices → value_at old key ≡ None → ((name : List ℕ) → bytes_eq key name ≡ false → value_at new name ≡ value_at old name) → AreIndices new strings indices
+  indices_beside indexed free keep name index found = index_of_equal strings (value_at old name) (value_at new name) index (keep name apart) (indexed name index found)
     where
-      was_there : (name : List ℕ) (list : List (List ℕ)) → get_by_text after name ≡ Some list → (bytes_eq key name ≡ false) × (get_by_text before name ≡ Some list)
-      was_there name list found = other (bytes_eq key name) (get_by_text before name) list (sym (freed name) ∙ found)
+      apart : bytes_eq key name ≡ false
+      apart = false_from_ne_true (bytes_eq key name)
+          (λ same. true≢false (sym (indexed name index found).indexed ∙ ap (λ value. is_some (some_indexed_set value index)) (ap (value_at old) (sym ((bytes_eq-Decides key name).0 same)) ∙ free)))
 
--- more strings have numbers
-pub numbers_kept : (values : Values) (old new : List (List ℕ)) (numbers : Numbers) → KeepsNumbers old new → AreNumbersOfSets values old numbers → AreNumbersOfSets values new numbers
-numbers_kept values old new numbers keeps numbered = record {
-  sets = numbered.sets;
-  theirs = λ name list set found bound. keeps set.strings list (numbered.theirs name list set found bound);
+-- once a name has no index, it may be bound to anything
+module _ (key : List ℕ) (old new : Values) (strings : List (List ℕ)) (before after : Indices) where
+  pub indices_of_others : AreIndices old strings before → ((name : List ℕ) → get_by_text after name ≡ cond (bytes_eq key name) None (get_by_text before name)) → ((name : List ℕ) → bytes_eq key name ≡ false → value_at new name ≡ value_at old name) → AreIndices new strings after
+  indices_of_others indexed freed keep name index found =
+      let there = other (bytes_eq key name) (get_by_text before name) index (sym (freed name) ∙ found) in
+      index_of_equal strings (value_at old name) (value_at new name) index (keep name there.0) (indexed name index there.1)
+
+-- an index stays that of its value where more strings have numbers
+index_kept : (old new : List (List ℕ)) (v : Option VariableValue) (index : Index) → KeepsNumbers old new → IsIndexOf old v index → IsIndexOf new v index
+index_kept old new v index keeps is = record {
+  indexed = is.indexed;
+  members = is.members;
+  theirs = λ set at. keeps set.strings index.numbers (is.theirs set at);
 }
 
--- the lists stay
-pub numbers_unchanged : (values : Values) (strings : List (List ℕ)) (before after : Numbers) → IsUnchanged before after → AreNumbersOfSets values strings before → AreNumbersOfSets values strings after
-numbers_unchanged values strings before after same numbered = record {
-  sets = λ name list found. numbered.sets name list (there name ∙ found);
-  theirs = λ name list set found bound. numbered.theirs name list set (there name ∙ found) bound;
-}
-  where
-    there : (name : List ℕ) → get_by_text before name ≡ get_by_text after name
-    there name = sym (ap (λ entries. lookup (λ k. is_eq (slice_cmp nat_cmp name (string_bytes k))) entries) same)
+pub indices_kept : (values : Values) (old new : List (List ℕ)) (indices : Indices) → KeepsNumbers old new → AreIndices values old indices → AreIndices values new indices
+indices_kept values old new indices keeps indexed name index found = index_kept old new (value_at values name) index keeps (indexed name index found)
 
--- one more set has numbers
-module _ (key : List ℕ) (values : Values) (strings : List (List ℕ)) (before after : Numbers) (set : StringSet) (list : List (List ℕ)) where
-  pub numbers_of_one_more : AreNumbersOfSets values strings before → value_at values key ≡ Some (UnicodeSet set) → AreNumbersOf strings set.strings list → ((name : List ℕ) → get_by_text after name ≡ cond (bytes_eq key name) (Some list) (get_by_text before name)) → AreNumbersOfSets values strings after
-  numbers_of_one_more numbered is_bound theirs updates = record {
-    sets = λ name l found. is_of_set name l (bytes_eq key name) refl (sym (updates name) ∙ found);
-    theirs = λ name l s found bound. has_theirs name l s (bytes_eq key name) refl (sym (updates name) ∙ found) bound;
-  }
+-- the indices stay
+pub indices_unchanged : (values : Values) (strings : List (List ℕ)) (before after : Indices) → IsUnchanged before after → AreIndices values strings before → AreIndices values strings after
+indices_unchanged values strings before after same indexed name index found =
+    indexed name index (sym (ap (λ entries. lookup (λ k. is_eq (slice_cmp nat_cmp name (string_bytes k))) entries) same) ∙ found)
+
+-- one more name has an index
+module _ (key : List ℕ) (values : Values) (strings : List (List ℕ)) (before after : Indices) (added : Index) where
+  pub indices_of_one_more : AreIndices values strings before → IsIndexOf strings (value_at values key) added → ((name : List ℕ) → get_by_text after name ≡ cond (bytes_eq key name) (Some added) (get_by_text before name)) → AreIndices values strings after
+  indices_of_one_more indexed is updates name index found = by (bytes_eq key name) refl (sym (updates name) ∙ found)
     where
-      at_key : (name : List ℕ) → bytes_eq key name ≡ true → value_at values name ≡ Some (UnicodeSet set)
-      at_key name same = subst (λ n. value_at values n ≡ Some (UnicodeSet set)) ((bytes_eq-Decides key name).0 same) is_bound
-
-      is_of_set : (name : List ℕ) (l : List (List ℕ)) (b : Bool) → bytes_eq key name ≡ b → cond b (Some list) (get_by_text before name) ≡ Some l → is_a_set (value_at values name) ≡ true
-      is_of_set name l true same found = ap is_a_set (at_key name same)
-      is_of_set name l false differ found = numbered.sets name l found
-
-      has_theirs : (name : List ℕ) (l : List (List ℕ)) (s : StringSet) (b : Bool) → bytes_eq key name ≡ b → cond b (Some list) (get_by_text before name) ≡ Some l → value_at values name ≡ Some (UnicodeSet s) → AreNumbersOf strings s.strings l
-      has_theirs name l s true same found bound =
-          let same_list : list ≡ l = cc in
-          let there : value_at values name ≡ Some (UnicodeSet set) = at_key name same in
-          let same_set : set ≡ s = cc in
-          subst (λ n. AreNumbersOf strings s.strings n) same_list (subst (λ t. AreNumbersOf strings t.strings list) same_set theirs)
-      has_theirs name l s false differ found bound = numbered.theirs name l s found bound
-
--- the numbers that are found at a name are those of the strings of its set
-pub numbers_told : (values : Values) (strings : List (List ℕ)) (numbers : Numbers) (key : List ℕ) (result : Option (Bor (List (List ℕ)))) → AreNumbersOfSets values strings numbers → option_copied result ≡ get_by_text numbers key → IfSome result (λ list. (set : StringSet) → value_at values key ≡ Some (UnicodeSet set) → AreNumbersOf strings set.strings list.now)
-numbers_told values strings numbers key None numbered found = tt
-numbers_told values strings numbers key (Some list) numbered found = λ set bound. numbered.theirs key list.now set (sym found) bound
+      by : (b : Bool) → bytes_eq key name ≡ b → cond b (Some added) (get_by_text before name) ≡ Some index → IsIndexOf strings (value_at values name) index
+      by true same at =
+          let one : added ≡ index = cc in
+          subst (λ n. IsIndexOf strings (value_at values n) index) ((bytes_eq-Decides key name).0 same) (subst (IsIndexOf strings (value_at values key)) one is)
+      by false differ at = indexed name index at
 
 -- where a value is put at a name, some value is there exactly where it is that name or some value was there
-pub is_some-cond : {A : Type 0} (here many : Bool) (x : A) (old : Option A) → many ≡ true → is_some (cond here (Some x) old) ≡ ((here && many) || is_some old)
-is_some-cond true many x old h = sym (ap (λ m. m || is_some old) h)
-is_some-cond false many x old h = refl
+pub is_some-cond : {A B : Type 0} (f : A → B) (here many : Bool) (x : A) (old : Option A) → many ≡ true → is_some (option_map f (cond here (Some x) old)) ≡ ((here && many) || is_some (option_map f old))
+is_some-cond f true many x old h = sym (ap (λ m. m || is_some (option_map f old)) h)
+is_some-cond f false many x old h = refl

@@ -1,40 +1,76 @@
--- Numbers of the strings of sets that names are bound to.
-use Rattle.std.specs.Prelude.{◌≡◌, ℕ, Bool, true, false, nat_le, List, length, Option, None, Some, option_map}
+-- Numbers of the strings of what names are bound to.
+use Rattle.std.specs.Prelude.{◌≡◌, ℕ, Bool, true, false, ◌||◌, nat_le, List, length, Option, None, Some, option_map, is_some}
 use Rattle.std.specs.BTreeMap.{BTreeMap, get_by_text}
 use Rattle.std.specs.Global.{Global}
+use Rattle.std.specs.List.{sum_by}
 use Rattle.std.specs.declared.string.String.{String}
 use Rattle.cp_strset.specs.StringSet.{StringSet}
 use Rattle.cp_strset_terms.specs.Numbers.{AreNumbersOf}
-use Rattle.uset_grammar.specs.Language.{is_set}
+use Rattle.uset_grammar.specs.Tree.{Member}
+use Rattle.uset_gather.specs.Gathered.{in_set, is_string}
+use Rattle.uset_variables.specs.declared.index.Index.{Index}
 use Rattle.uset_variables.specs.declared.value.KeptValue.{KeptValue}
 use Rattle.uset_variables.specs.declared.value.VariableValue.{VariableValue}
 use Rattle.uset_variables.specs.declared.value.VariableValue.TheVariants.{UnicodeSet, Char, String as Spelled}
-use Rattle.uset_variables.specs.Values.{value_seen}
 
 -- the value at the name with these bytes
 abbrev pub value_at : BTreeMap (String Global) KeptValue → List ℕ → Option VariableValue
 value_at values name = option_map (λ kept. kept.value) (get_by_text values name)
 
--- whether there is a value, which is a set
-abbrev pub is_a_set : Option VariableValue → Bool
-is_a_set None = false
-is_a_set (Some value) = is_set (value_seen value)
+-- the value is a set that has the member, or a string that is the member
+abbrev pub value_in : VariableValue → Member → Bool
+value_in (UnicodeSet set) m = in_set set m
+value_in (Spelled s) m = is_string s m
+value_in (Char c) m = false
 
--- from so many strings on a set has many
-abbrev pub are_many : VariableValue → Bool
-are_many (UnicodeSet set) = nat_le 64 (length set.strings)
-are_many (Char c) = false
-are_many (Spelled s) = false
+-- the same where there is a value
+abbrev pub some_value_in : Option VariableValue → Member → Bool
+some_value_in None m = false
+some_value_in (Some value) m = value_in value m
 
--- whether there is a value, which is a set of many strings
-abbrev pub has_many_strings : Option VariableValue → Bool
-has_many_strings None = false
-has_many_strings (Some value) = are_many value
+-- how many bytes the strings have together
+abbrev pub bytes_of : List (List ℕ) → ℕ
+bytes_of strings = sum_by (λ s. length s) strings
 
--- the numbers are at the names of sets, and those of their strings
-pub record AreNumbersOfSets (values : BTreeMap (String Global) KeptValue) (strings : List (List ℕ))
-    (numbers : BTreeMap (String Global) (List (List ℕ))) : Type 0 where
-  pub sets : (name : List ℕ) (found : List (List ℕ)) → get_by_text numbers name ≡ Some found →
-      is_a_set (value_at values name) ≡ true
-  pub theirs : (name : List ℕ) (found : List (List ℕ)) (set : StringSet) → get_by_text numbers name ≡ Some found →
-      value_at values name ≡ Some (UnicodeSet set) → AreNumbersOf strings set.strings found
+-- A set of so many strings, or of strings of so many bytes, gets numbers, and so does a string of so many bytes.
+abbrev pub gets_numbers : VariableValue → Bool
+gets_numbers (UnicodeSet set) = nat_le 64 (length set.strings) || nat_le 4096 (bytes_of set.strings)
+gets_numbers (Spelled s) = nat_le 4096 (length s)
+gets_numbers (Char c) = false
+
+-- whether there is a value that gets numbers
+abbrev pub some_gets_numbers : Option VariableValue → Bool
+some_gets_numbers None = false
+some_gets_numbers (Some value) = gets_numbers value
+
+-- the set that the value is
+abbrev pub own_set : VariableValue → Option StringSet
+own_set (UnicodeSet set) = Some set
+own_set (Spelled s) = None
+own_set (Char c) = None
+
+abbrev pub set_or : Option StringSet → Option StringSet → Option StringSet
+set_or None other = other
+set_or (Some set) other = Some set
+
+-- the set whose strings have the numbers of the index: the one that it keeps, or the value
+abbrev pub indexed_set : VariableValue → Index → Option StringSet
+indexed_set value index = set_or index.alone (own_set value)
+
+-- the same where there is a value
+abbrev pub some_indexed_set : Option VariableValue → Index → Option StringSet
+some_indexed_set None index = None
+some_indexed_set (Some value) index = indexed_set value index
+
+-- There is a value, and the index has the numbers of the strings of a set, whose members are those of the value.
+pub record IsIndexOf (strings : List (List ℕ)) (value : Option VariableValue) (index : Index) : Type 0 where
+  pub indexed : is_some (some_indexed_set value index) ≡ true
+  pub members : (set : StringSet) → some_indexed_set value index ≡ Some set →
+      (m : Member) → in_set set m ≡ some_value_in value m
+  pub theirs : (set : StringSet) → some_indexed_set value index ≡ Some set →
+      AreNumbersOf strings set.strings index.numbers
+
+-- the index at each name is that of its value
+abbrev pub AreIndices : BTreeMap (String Global) KeptValue → List (List ℕ) → BTreeMap (String Global) Index → Type 0
+AreIndices values strings indices =
+    (name : List ℕ) (index : Index) → get_by_text indices name ≡ Some index → IsIndexOf strings (value_at values name) index

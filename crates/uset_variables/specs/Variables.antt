@@ -16,9 +16,9 @@ bound map name = option_map (λ kept. kept.value) (get_by_text map.values name)
 abbrev pub numbered_strings : VariableMap → List (List ℕ)
 numbered_strings map = map.strings
 
--- the numbers of the strings of the set that the name is bound to, where it has them
+-- the numbers of the strings of what the name is bound to, where it has them
 abbrev pub numbers_at : VariableMap → List ℕ → Option (List (List ℕ))
-numbers_at map name = get_by_text map.numbers name
+numbers_at map name = option_map (λ index. index.numbers) (get_by_text map.indices name)
 
 -- what each name is bound to
 abbrev pub variables_of : VariableMap → Text → Option Value

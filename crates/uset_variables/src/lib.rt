@@ -1,6 +1,7 @@
 //! The variables of UnicodeSet patterns (UTS 35, Unicode Sets).
 #![tactic(auto)]
 
+mod index;
 mod map;
 mod value;
 

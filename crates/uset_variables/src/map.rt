@@ -1,18 +1,16 @@
 //! The variables of a pattern (UTS 35, Unicode Sets).
-ghost use Rattle.std.specs.Prelude.{◌≡◌, ℕ, List, Some, IfSome, IfOk, OnOk, cond, is_some};
+ghost use Rattle.std.specs.Prelude.{◌≡◌, ℕ, List, Some, IfSome, IfOk, OnOk, cond, is_some, option_map};
 ghost use Rattle.std.specs.Str.{bytes_eq};
 ghost use Rattle.uset_variables.specs.declared.value.VariableValue.TheVariants.{UnicodeSet};
-ghost use Rattle.uset_variables.specs.Numbered.{value_at, has_many_strings, AreNumbersOfSets};
+ghost use Rattle.uset_variables.specs.Numbered.{value_at, some_value_in, some_gets_numbers, AreIndices};
 
+use crate::index::Index;
 use crate::value::{KeptValue, VariableString, VariableValue};
 use cp_invlist::NoMemory;
 use cp_strset::CodePointInversionListAndStringList;
 use cp_strset_terms::{NumberSet, StringNumbers};
 use std::alloc::Global;
 use std::collections::BTreeMap;
-
-/// A set with fewer strings gets no numbers: they are gathered or looked up as fast without.
-const MANY_STRINGS: usize = 64;
 
 /// Why a name is not bound anew.
 #[derive(Clone, Copy, Drop)]
@@ -24,15 +22,15 @@ pub enum InsertError<'a> {
 }
 
 /// A map from the names of variables to their values. A string of exactly one character is kept as that character. For names
-/// that were asked to be indexed it keeps the numbers of the strings of their sets.
+/// that were asked to be indexed it keeps the numbers of the strings of their sets, and those of long strings.
 #[derive(Drop)]
 pub struct VariableMap {
     values: BTreeMap<String, KeptValue>,
     /// The strings that have numbers.
     strings: StringNumbers,
-    /// The numbers of the strings of a variable's set, by its name.
-    numbers: BTreeMap<String, NumberSet>,
-    ghost numbered: { AreNumbersOfSets values strings numbers },
+    /// The numbers of the strings of a variable, by its name.
+    indices: BTreeMap<String, Index>,
+    ghost indexed: { AreIndices values strings indices },
 }
 
 impl VariableMap {
@@ -42,7 +40,8 @@ impl VariableMap {
     ghost use Rattle.std.specs.String.{string_bytes};
     ghost use Rattle.uset_variables.specs.declared.value.VariableValue.TheVariants.{Char, String as Spelled};
     ghost use Rattle.uset_variables.specs.Values.{is_kept, kept};
-    ghost use Rattle.cp_strset.specs.StringSet.{StringSet};
+    ghost use Rattle.uset_grammar.specs.Tree.{Member};
+    ghost use Rattle.uset_gather.specs.Gathered.{in_set};
     ghost use Rattle.cp_strset_terms.specs.Numbers.{AreNumbersOf, KeepsNumbers};
     ghost use Rattle.uset_variables.specs.Variables.{bound, numbered_strings, numbers_at};
     ghost use Rattle.uset_variables.specs.Variables.{Binds, IsSame, HasSameNumbers};
@@ -56,7 +55,7 @@ impl VariableMap {
         VariableMap {
             values: BTreeMap::new(alloc),
             strings: StringNumbers::new(alloc),
-            numbers: BTreeMap::new(alloc),
+            indices: BTreeMap::new(alloc),
         }
     }
 
@@ -135,29 +134,33 @@ impl VariableMap {
             numbers_at self.new name ≡ cond (bytes_eq key.now name) None (numbers_at self.old name) }
         ensures strings { numbered_strings self.new ≡ numbered_strings self.old }
     {
-        let _ = self.numbers.remove(key);
+        let _ = self.indices.remove(key);
         match self.values.remove(key) {
             Some(kept) => Some(kept.into_value()),
             None => None,
         }
     }
 
-    /// Gives the strings of the set that the name is bound to numbers, where there are at least 64: with these, set
-    /// expressions over the variable needn't go along its strings. Names that are bound to nothing or to another value
-    /// get none, and all names are bound as they were. After a refusal each name has the numbers that it had.
+    /// Gives the strings of the set that the name is bound to numbers, where there are at least 64 or they have at least 4,096
+    /// bytes together, and so a string of as many bytes that it is bound to. With these, set expressions over the
+    /// variable needn't go along its strings. Names that are bound to nothing or to another value get none, and all names are
+    /// bound as they were. After a refusal each name has the numbers that it had.
     pub fn index(&mut self, alloc: Global, key: &str) -> Result<(), NoMemory>
         ensures same { IsSame self.old self.new }
         ensures strings { KeepsNumbers (numbered_strings self.old) (numbered_strings self.new) }
         ensures ok { OnOk result ((name : List ℕ) → is_some (numbers_at self.new name) ≡
-            ((bytes_eq key.now name && has_many_strings (bound self.old key.now))
+            ((bytes_eq key.now name && some_gets_numbers (bound self.old key.now))
             || is_some (numbers_at self.old name))) }
         ensures err { OnErr result ((name : List ℕ) → numbers_at self.new name ≡ numbers_at self.old name) }
     {
-        if let Some(set) = set_of_many(&self.values, key) {
-            let numbers = self.strings.number(alloc, set)?;
-            let name = String::from_str(alloc, key)?;
-            self.numbers.insert(name, numbers)?;
-        }
+        let Some(kept) = self.values.get(key) else {
+            return Ok(());
+        };
+        let Some(index) = Index::of(alloc, &mut self.strings, kept)? else {
+            return Ok(());
+        };
+        let name = String::from_str(alloc, key)?;
+        self.indices.insert(name, index)?;
         Ok(())
     }
 
@@ -168,14 +171,21 @@ impl VariableMap {
         &self.strings
     }
 
-    /// The numbers of the strings of the set that the name is bound to, where it was indexed and has many strings.
-    pub fn numbers_of(&self, key: &str) -> Option<&NumberSet>
-        ensures value { option_copied result ≡ numbers_at self.now key.now }
-        ensures theirs { IfSome result (λ numbers. (set : StringSet) →
-            bound self.now key.now ≡ Some (UnicodeSet set) →
-            AreNumbersOf (numbered_strings self.now) set.strings numbers.now) }
+    /// The set that the name is bound to, or that of the string alone that it is bound to, with the numbers of its strings,
+    /// where it was indexed and got some.
+    pub fn numbered_set(
+        &self,
+        key: &str,
+    ) -> Option<(&CodePointInversionListAndStringList, &NumberSet)>
+        ensures numbers { option_map (λ found. found.1.now) result ≡ numbers_at self.now key.now }
+        ensures members { IfSome result (λ found. (m : Member) →
+            in_set found.0.now m ≡ some_value_in (bound self.now key.now) m) }
+        ensures theirs { IfSome result (λ found.
+            AreNumbersOf (numbered_strings self.now) found.0.now.strings found.1.now) }
     {
-        self.numbers.get(key)
+        let index = self.indices.get(key)?;
+        let set = index.set(self.get(key)?)?;
+        Some((set, &index.numbers))
     }
 
     /// A map that binds the same names to equal values. No strings have numbers in it until names are indexed again.
@@ -186,7 +196,7 @@ impl VariableMap {
         Ok(VariableMap {
             values: copied_values(alloc, &self.values)?,
             strings: StringNumbers::new(alloc),
-            numbers: BTreeMap::new(alloc),
+            indices: BTreeMap::new(alloc),
         })
     }
 
@@ -239,19 +249,4 @@ fn copied_values(
         insert_copy(alloc, &mut copied, key.as_str(), kept)?;
     }
     Ok(copied)
-}
-
-/// The set that the name is bound to, where it has many strings.
-fn set_of_many<'a>(
-    values: &'a BTreeMap<String, KeptValue>,
-    key: &str,
-) -> Option<&'a CodePointInversionListAndStringList>
-    ensures found { IfSome result (λ set. value_at values.now key.now ≡ Some (UnicodeSet set.now)) }
-    ensures many { is_some result ≡ has_many_strings (value_at values.now key.now) }
-{
-    let set = values.get(key)?.as_value().as_set()?;
-    if set.strings().len() < MANY_STRINGS {
-        return None;
-    }
-    Some(set)
 }

@@ -6,6 +6,7 @@ use cp_invlist::NoMemory;
 use cp_strset::{CodePointInversionListAndStringList, sole_char};
 use std::alloc::Global;
 use std::marker::Model;
+use uset_gather::Gathered;
 
 /// A string that a variable is bound to. A contract sees it by its bytes.
 #[derive(Drop)]
@@ -23,8 +24,12 @@ impl Model for VariableString {
 }
 
 impl VariableString {
-    ghost use Rattle.std.specs.Prelude.{IfOk};
+    ghost use Rattle.std.specs.Prelude.{None, IfOk};
+    ghost use Rattle.std.specs.Str.{chars};
     ghost use Rattle.std.specs.String.{string_bytes};
+    ghost use Rattle.cp_strset.specs.StringList.{sole_of};
+    ghost use Rattle.uset_grammar.specs.Tree.{Member};
+    ghost use Rattle.uset_gather.specs.Gathered.{in_set, is_string};
 
     /// The string.
     pub fn new(s: String) -> VariableString
@@ -38,6 +43,16 @@ impl VariableString {
         ensures { result.now ≡ self.now }
     {
         self.text.as_str()
+    }
+
+    /// The set of this string alone, which isn't one character.
+    pub fn alone(&self, alloc: Global) -> Result<CodePointInversionListAndStringList, NoMemory>
+        requires { sole_of (chars self.now) ≡ None }
+        ensures { IfOk result (λ set. (m : Member) → in_set set m ≡ is_string self.now m) }
+    {
+        let mut gathered = Gathered::new(alloc);
+        gathered.add_text(String::from_str(alloc, self.as_str())?)?;
+        gathered.into_set(alloc)
     }
 
     /// An equal string.

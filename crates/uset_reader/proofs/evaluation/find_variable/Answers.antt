@@ -1,16 +1,29 @@
-use Rattle.std.proofs.Common.{sym}
+use Rattle.std.proofs.Common.{Some, sym, ap, refl, ◌∙◌}
 use Rattle.std.proofs.lemmas.Str.{encodes-chars}
-use Rattle.uset_reader.proofs.EvaluationLemmas.{meant_unbound, meant_set, meant_other}
+use Rattle.uset_variables.specs.declared.value.VariableValue.TheVariants.{UnicodeSet, Char, String as Spelled}
+use Rattle.uset_reader.proofs.EvaluationLemmas.{value_meant}
 use Rattle.uset_reader.proofs.evaluation.find_variable.Goals as goal
 
-pub returns-in_default-clause-members : goal.returns-in_default-clause-members
-returns-in_default-clause-members c = λ m. meant_unbound c.args.syntax.now c.args.name.now (encodes-chars c.args.name.now c.utf8.name) m (sym c.in_default.ensures.value)
+pub returns-in-Some-clause-members : goal.returns-in-Some-clause-members
+returns-in-Some-clause-members c = λ m.
+    c.in-Some.ensures.members m ∙ value_meant c.args.syntax.now c.args.name.now (encodes-chars c.args.name.now c.utf8.name) m _ refl
 
-pub returns-in_default-as_set-clause-members : goal.returns-in_default-as_set-clause-members
-returns-in_default-as_set-clause-members c = λ m. meant_other c.args.syntax.now c.args.name.now (encodes-chars c.args.name.now c.utf8.name) m c.in-Some.value.now (sym c.in-Some.ensures.value) c.in_default-as_set.ensures
+pub returns-in_default-get-clause-members : goal.returns-in_default-get-clause-members
+returns-in_default-get-clause-members c = λ m.
+    value_meant c.args.syntax.now c.args.name.now (encodes-chars c.args.name.now c.utf8.name) m _ (sym c.in_default-get.ensures.value)
 
-pub returns-in-Some-numbers_of-clause-members : goal.returns-in-Some-numbers_of-clause-members
-returns-in-Some-numbers_of-clause-members c = λ m. meant_set c.args.syntax.now c.args.name.now (encodes-chars c.args.name.now c.utf8.name) m c.in-Some.value.now c.in-Some-as_set.set.now (sym c.in-Some.ensures.value) c.in-Some-as_set.ensures
+pub returns-in-UnicodeSet-clause-members : goal.returns-in-UnicodeSet-clause-members
+returns-in-UnicodeSet-clause-members c = λ m.
+    value_meant c.args.syntax.now c.args.name.now (encodes-chars c.args.name.now c.utf8.name) m (Some (UnicodeSet c.in-UnicodeSet.set))
+    (sym c.in-Some-get.ensures.value ∙ ap Some c.in-UnicodeSet.is)
 
-pub returns-in-None-clause-members : goal.returns-in-None-clause-members
-returns-in-None-clause-members c = λ m. meant_set c.args.syntax.now c.args.name.now (encodes-chars c.args.name.now c.utf8.name) m c.in-Some.value.now c.in-Some-as_set.set.now (sym c.in-Some.ensures.value) c.in-Some-as_set.ensures
+pub returns-in_ok-alone-in-String-clause-members : goal.returns-in_ok-alone-in-String-clause-members
+returns-in_ok-alone-in-String-clause-members c = λ m.
+    c.in_ok-alone-in-String.ensures m
+    ∙ value_meant c.args.syntax.now c.args.name.now (encodes-chars c.args.name.now c.utf8.name) m (Some (Spelled c.in-String.string))
+    (sym c.in-Some-get.ensures.value ∙ ap Some c.in-String.is)
+
+pub returns-in-Char-clause-members : goal.returns-in-Char-clause-members
+returns-in-Char-clause-members c = λ m.
+    value_meant c.args.syntax.now c.args.name.now (encodes-chars c.args.name.now c.utf8.name) m (Some (Char c.in-Char.field-0))
+    (sym c.in-Some-get.ensures.value ∙ ap Some c.in-Char.is)

@@ -22,12 +22,12 @@ returns-in-Err-clause-answer c =
 pub returns-in_ok-index-in-Ok-Pattern-clause-answer : goal.returns-in_ok-index-in-Ok-Pattern-clause-answer
 returns-in_ok-index-in-Ok-Pattern-clause-answer c =
     let old = variables_of c.args.variables.now in
-    let new = variables_of c.answer_indexed.new.variables in
+    let new = variables_of c.answer_value.new.variables in
     let tables = tables_of c.args.resolver.now in
-    IfOk-weaker c.answer_indexed.result (IsBound c.args.name.now (set (in_set c.index.new.self)) old new) (λ (a : Answer). DefinitionAnswer tables old c.args.name.now (set_definition c.args.source.now) (string_bytes a.text) a.is_err new)
+    IfOk-weaker c.answer_value.result (IsBound c.args.name.now (set (in_set c.index.new.self)) old new) (λ (a : Answer). DefinitionAnswer tables old c.args.name.now (set_definition c.args.source.now) (string_bytes a.text) a.is_err new)
     (λ a h. set_answer tables old new c.args.name.now c.args.source.now _ a (rw c.in-Ok-Pattern.field-0-is at c.in-Ok-Pattern.ensures.read)
     (subst (λ s. IsBound c.args.name.now (set (in_set s)) old new a) c.index.ensures h))
-    c.answer_indexed.ensures
+    c.answer_value.ensures
 
 pub returns-in-Ok-TextBehind-clause-answer : goal.returns-in-Ok-TextBehind-clause-answer
 returns-in-Ok-TextBehind-clause-answer c =

@@ -4,14 +4,14 @@ use Rattle.std.specs.Str.{bytes_eq}
 use Rattle.std.specs.String.{string_bytes}
 use Rattle.std.proofs.lemmas.Map.Text.{btree_map_updates_text}
 use Rattle.uset_variables.proofs.VariableLemmas.{option_map-cond}
-use Rattle.uset_variables.proofs.NumberLemmas.{after_either, others_keep, all_keep, numbers_beside}
+use Rattle.uset_variables.proofs.NumberLemmas.{after_either, others_keep, all_keep, indices_beside}
 use Rattle.uset_variables.proofs.map.VariableMap.bind.Goals as goal
 
 pub invariant_of-self : goal.invariant_of-self
 invariant_of-self c = record {
-  numbered =
-      numbers_beside (string_bytes c.args.key) c.args.self.now.values c.insert.new.self c.args.self.now.strings c.args.self.now.numbers
-      c.args.self.now.numbered c.requires
+  indexed =
+      indices_beside (string_bytes c.args.key) c.args.self.now.values c.insert.new.self c.args.self.now.strings c.args.self.now.indices
+      c.args.self.now.indexed c.requires
       (after_either c.insert.result c.insert.ensures.updates c.insert.ensures.err
       (λ updates. others_keep (string_bytes c.args.key) c.args.self.now.values c.insert.new.self (Some c.args.value)
       (btree_map_updates_text (string_bytes c.args.key) c.args.self.now.values c.insert.new.self (Some c.args.value) updates))
