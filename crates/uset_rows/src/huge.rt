@@ -126,6 +126,38 @@ fn a_set_of_many_strings_may_be_named_in_a_thousand_brackets(rt: HostRuntime) {
     }
 }
 
+/// Patterns with many strings of their own, for which `N` stands, and what they denote.
+const BESIDE_MANY: &[(&str, &str)] = &[
+    ("[[$wN]&[a-c{aa}]]", "0061-0063 {0061_0061}"),
+    ("[[$wN{zz}]-[N]-$w]", "{007A_007A}"),
+    ("[$w&[{aa}N]]", "{0061_0061}"),
+    ("[[N{ab}]&$w]", "{0061_0062}"),
+    ("[[N]-[$wN]]", ""),
+];
+
+/// More than a thousand strings of four digits, as they stand in a bracket.
+fn numerals(alloc: Global) -> Result<String, AllocError> {
+    let mut text = String::new(alloc);
+    for number in 1000..2100 {
+        text.push_str(&format!(in alloc; "{{{number}}}")?)?;
+    }
+    Ok(text)
+}
+
+/// Whether the pattern denotes its members.
+fn denotes_beside_many(alloc: Global, pattern: &str, members: &str) -> Result<bool, AllocError> {
+    let pattern = pattern.replace(alloc, "N", &numerals(alloc)?)?;
+    denotes(alloc, HUGE, "w", &pattern, members)
+}
+
+#[test]
+fn it_may_stand_beside_more_strings_than_it_has(rt: HostRuntime) {
+    for (pattern, members) in BESIDE_MANY {
+        let holds = denotes_beside_many(rt.alloc(), pattern, members);
+        assert_holds(&rt, holds, pattern, members);
+    }
+}
+
 /// The lines that bind what names the set, or have text behind it.
 const BOUND: &str = "let n set $w!\nlet n set [$w-[b]]]\nlet n set $w\npat [$n&[ad]]";
 
