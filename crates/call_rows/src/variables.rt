@@ -1,7 +1,7 @@
 //! Maps of variables.
 use crate::fixtures::{assert_equal, set_of, set_of_numerals, string_of};
 use cp_invlist::NoMemory;
-use cp_strset::CodePointInversionListAndStringList;
+use cp_strset::{CodePointInversionListAndStringList, sole_char};
 use std::alloc::Global;
 use std::process::Abort;
 use uset_variables::{InsertError, VariableMap, VariableString, VariableValue};
@@ -539,4 +539,22 @@ fn strings_have_numbers_from_4096_bytes_on(rt: HostRuntime) {
     assert_equal(&rt, short, Some(None));
     let long = numbers_of_long(rt.alloc(), Long::Set, 4094);
     assert_equal(&rt, long, Some(Some(2)));
+}
+
+/// Whether the set of the text alone is that of this one string. `None` where the text is one character.
+fn is_alone(alloc: Global, text: &str) -> Option<bool> {
+    let expected = set_of(alloc, &[], &[text])?;
+    let string = VariableString::new(string_of(alloc, text)?);
+    match sole_char(string.as_str()) {
+        None => Some(string.alone(alloc).ok()? == expected),
+        Some(_) => None,
+    }
+}
+
+#[test]
+fn the_set_of_a_string_alone_has_this_string(rt: HostRuntime) {
+    let alone = is_alone(rt.alloc(), "ab");
+    assert_equal(&rt, alone, Some(true));
+    let empty = is_alone(rt.alloc(), "");
+    assert_equal(&rt, empty, Some(true));
 }
