@@ -3,6 +3,7 @@ use Rattle.std.specs.Prelude.{◌≡◌, ℕ, Bool, true, false, ◌||◌, nat_l
 use Rattle.std.specs.BTreeMap.{BTreeMap, get_by_text}
 use Rattle.std.specs.Global.{Global}
 use Rattle.std.specs.List.{sum_by}
+use Rattle.std.specs.Option.{option_or}
 use Rattle.std.specs.declared.string.String.{String}
 use Rattle.cp_strset.specs.StringSet.{StringSet}
 use Rattle.cp_strset_terms.specs.Numbers.{AreNumbersOf}
@@ -49,13 +50,9 @@ own_set (UnicodeSet set) = Some set
 own_set (Spelled s) = None
 own_set (Char c) = None
 
-abbrev pub set_or : Option StringSet → Option StringSet → Option StringSet
-set_or None other = other
-set_or (Some set) other = Some set
-
 -- the set whose strings have the numbers of the index: the one that it keeps, or the value
 abbrev pub indexed_set : VariableValue → Index → Option StringSet
-indexed_set value index = set_or index.alone (own_set value)
+indexed_set value index = option_or index.alone (own_set value)
 
 -- the same where there is a value
 abbrev pub some_indexed_set : Option VariableValue → Index → Option StringSet

@@ -45,7 +45,7 @@ impl VariableString {
         self.text.as_str()
     }
 
-    /// The set of this string alone, which isn't one character.
+    /// The set of this string alone, which isn't one character. `NoMemory` says that a request for memory was refused.
     pub fn alone(&self, alloc: Global) -> Result<CodePointInversionListAndStringList, NoMemory>
         requires { sole_of (chars self.now) ≡ None }
         ensures { IfOk result (λ set. (m : Member) → in_set set m ≡ is_string self.now m) }
