@@ -7,30 +7,18 @@ use Rattle.std.proofs.lemmas.Grind.{common_steps}
 use Rattle.cp_invlist.specs.WordLaws.{has_bit-zero}
 use Rattle.cp_terms.specs.declared.block.Block.{Block}
 use Rattle.cp_invlist.specs.Words.{has_bit}
-use Rattle.cp_terms.specs.Terms.{top}
-use Rattle.cp_terms.specs.Blocks.{block_has, block_marks, block_holds}
+use Rattle.cp_terms.specs.Blocks.{block_has, block_marks}
 
 -- a block on top of others
 pub block_marks-push : (i j : ℕ) (blocks : List Block) (block : Block) → block_marks i j (blocks ++ block ∷ []) ≡ block_has block i j ∷ block_marks i j blocks
 block_marks-push i j blocks block = grind (arith, common_steps)
 
--- where there are no blocks the one on top has no bits
-pub block_marks-none : (i j : ℕ) (blocks : List Block) → length blocks ≡ 0 → top (block_marks i j blocks) ≡ false
-block_marks-none i j [] none = refl
-block_marks-none i j (block ∷ blocks) none = absurd (omega (arith, none))
-
--- a block that has no bits stands for the ones that there are not
-pub block_holds-get_or : (blocks : List Block) (empty : Block) (i j index : ℕ) → block_has empty i j ≡ false → block_holds blocks i j index ≡ block_has (get_or blocks index empty) i j
-block_holds-get_or [] empty i j index none = sym none
-block_holds-get_or (block ∷ blocks) empty i j zero none = refl
-block_holds-get_or (block ∷ blocks) empty i j (suc index) none = block_holds-get_or blocks empty i j index none
-
 -- the block of no members
 abbrev pub empty : Block
-empty = record { words = replicate 16 0 }
+empty = record { words = replicate 256 0 }
 
-pub empty_has : (i j : ℕ) → i < 16 → block_has empty i j ≡ false
-empty_has i j short = ap (λ n. has_bit n j) (get_or-replicate 16 i 0 0 short) ∙ has_bit-zero j
+pub empty_has : (i j : ℕ) → i < 256 → block_has empty i j ≡ false
+empty_has i j short = ap (λ n. has_bit n j) (get_or-replicate 256 i 0 0 short) ∙ has_bit-zero j
 
 -- The block on top is exchanged for another.
 pub record TopSet (i j : ℕ) (blocks : List Block) (k : ℕ) (last new : Block) : Type 0 where

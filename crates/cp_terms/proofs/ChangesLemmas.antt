@@ -45,7 +45,7 @@ tell_kept m place end inside xs before is tell constant = record {
 }
 
 -- on a block that has all or none nothing changes
-pub constant_of_block : (m : ℕ → Bool) (place : ℕ) (inside : Bool) (block : Block) → ((i j : ℕ) → i < 16 → j < 64 → m (place + 64 * i + j) ≡ block_has block i j) → ((i j : ℕ) → i < 16 → j < 64 → block_has block i j ≡ inside) → IsConstant m place (place + 1024) inside
+pub constant_of_block : (m : ℕ → Bool) (place : ℕ) (inside : Bool) (block : Block) → ((i j : ℕ) → i < 256 → j < 64 → m (place + 64 * i + j) ≡ block_has block i j) → ((i j : ℕ) → i < 256 → j < 64 → block_has block i j ≡ inside) → IsConstant m place (place + 0x4000) inside
 constant_of_block m place inside block bits all c le lt =
     let i = (c - place) / 64 in
     let j = (c - place) % 64 in

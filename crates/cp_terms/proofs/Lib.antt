@@ -6,5 +6,4 @@ pub mod ShortenLemmas
 pub mod ChangesLemmas
 pub mod CopyLemmas
 pub mod StretchLemmas
-pub mod MixedLemmas
 pub mod WrittenLemmas

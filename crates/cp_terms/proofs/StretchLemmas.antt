@@ -9,13 +9,10 @@ use Rattle.cp_invlist.specs.declared.window.Window.{Window}
 use Rattle.cp_terms.specs.declared.step.Step.{Step}
 use Rattle.cp_terms.specs.declared.shorten.Shortened.{Shortened}
 use Rattle.cp_terms.specs.Terms.{steps_done, top, value_of, holds_at}
-use Rattle.cp_terms.specs.declared.block.Block.{Block}
-use Rattle.cp_terms.specs.Blocks.{block_has, block_holds}
-use Rattle.cp_terms.specs.Windows.{AreWindows, HasBlock, HoldsMixed}
+use Rattle.cp_terms.specs.Windows.{AreWindows}
 use Rattle.cp_terms.specs.Shorten.{Agree, AgreesAt, FitsTerm}
 use Rattle.cp_terms.specs.Changes.{IsConstant, AreMade, AreOfSet, members_of}
 use Rattle.cp_terms.proofs.WindowLemmas.{window_tells}
-use Rattle.cp_terms.proofs.BlockLemmas.{block_holds-get_or}
 use Rattle.cp_terms.proofs.TermsLemmas.{holds_at-reference, holds_at-past}
 
 -- the set with an index
@@ -33,35 +30,24 @@ set_there sets windows i window same at =
     found o is (inl h) = record { set = h.0; at = h.2 }
     found o is (inr h) = absurd (omega (arith, slice_get_within windows i window at, same, h.0))
 
--- the blocks of the sets that change are right
-pub holds_mixed : (sets : List (Bor CodePointInversionList)) (windows : List Window) (end place i j : ℕ) (blocks : List Block) (mixed : List ℕ) (empty : Block) → block_has empty i j ≡ false → length blocks ≡ length sets →
-    ((k : ℕ) (window : Window) → slice_get windows k ≡ Some window → window.next < end → Contains mixed k) → ((k : ℕ) → Contains mixed k → HasBlock sets place blocks k) → i < 16 → j < 64 →
-    HoldsMixed sets windows end (place + 64 * i + j) (block_holds blocks i j)
-holds_mixed sets windows end place i j blocks mixed empty none same listed right short lt k set window at of_it below =
-    let within : k < length blocks = omega (arith, slice_get_within sets k set at, same) in
-    block_holds-get_or blocks empty i j k none ∙ right k (listed k window of_it below) set (get_or blocks k empty) at (slice_get-get_or blocks k empty within) i j short lt
-
--- on a stretch the windows and the blocks of the sets that change tell all members
-pub agree_from : (sets : List (Bor CodePointInversionList)) (windows : List Window) (start end c : ℕ) (w : ℕ → Bool) → length windows ≡ length sets → AreWindows sets start windows → start ≤ c → c < end →
-    HoldsMixed sets windows end c w → Agree windows end (holds_at (map (λ s. s.now) sets) c) w
-agree_from sets windows start end c w same are le lt mixed = record { at = λ i. told i (slice_get windows i) refl }
+-- on a stretch the windows tell the members of the sets that don't change
+pub agree_from : (sets : List (Bor CodePointInversionList)) (windows : List Window) (start end c : ℕ) → length windows ≡ length sets → AreWindows sets start windows → start ≤ c → c < end →
+    Agree windows end (holds_at (map (λ s. s.now) sets) c) (holds_at (map (λ s. s.now) sets) c)
+agree_from sets windows start end c same are le lt = record { at = λ i. told i (slice_get windows i) refl }
   where
-    told : (i : ℕ) (o : Option Window) → slice_get windows i ≡ o → AgreesAt o end (holds_at (map (λ s. s.now) sets) c i) (w i)
+    v : ℕ → Bool
+    v = holds_at (map (λ s. s.now) sets) c
+    told : (i : ℕ) (o : Option Window) → slice_get windows i ≡ o → AgreesAt o end (v i) (v i)
     told i None is = holds_at-past sets c i (past (slice_get_cases windows i).1)
       where
         past : ((x : Window) × (i < length windows) × (slice_get windows i ≡ Some x) × (get_or windows i x ≡ x)) ⊎ ((length windows ≤ i) × (slice_get windows i ≡ None)) → length sets ≤ i
         past (inl h) = absurd (let e = is in let f = h.2 in cc)
         past (inr h) = omega (arith, h.0, same)
     told i (Some window) is =
-        let there = set_there sets windows i window same is in
-        let holds = holds_at-reference sets c i there.set there.at in (
-          λ far. holds ∙ window_tells there.set.now start c window (are i there.set window there.at is) le (omega (arith, far)),
-          λ near. holds ∙ sym (mixed i there.set window there.at is near),
+        let there = set_there sets windows i window same is in (
+          λ far. holds_at-reference sets c i there.set there.at ∙ window_tells there.set.now start c window (are i there.set window there.at is) le (omega (arith, far)),
+          λ near. refl,
         )
-
--- the sets themselves tell their members
-pub holds_itself : (sets : List (Bor CodePointInversionList)) (windows : List Window) (end c : ℕ) → HoldsMixed sets windows end c (holds_at (map (λ s. s.now) sets) c)
-holds_itself sets windows end c i set window at of_it below = holds_at-reference sets c i set at
 
 -- the set that the steps make has a code point as the shortened term says
 pub members_told : (sets : List (Bor CodePointInversionList)) (ss : List Step) (c : ℕ) (b : Bool) → c < 0x110000 → value_of (holds_at (map (λ s. s.now) sets) c) ss ≡ b → members_of sets ss c ≡ b
@@ -76,22 +62,18 @@ pub stretch_constant : (sets : List (Bor CodePointInversionList)) (windows : Lis
 stretch_constant sets windows start ss term inside within same are shortens told c le lt =
     let v = holds_at (map (λ s. s.now) sets) c in
     members_told sets ss c inside (omega arith)
-    (told v (steps_done v ss []) (shortens.fits v v (agree_from sets windows start (start + 0x4000) c v same are le lt (holds_itself sets windows (start + 0x4000) c))))
+    (told v (steps_done v ss []) (shortens.fits v v (agree_from sets windows start (start + 0x4000) c same are le lt)))
 
 pub stretch_of_set : (sets : List (Bor CodePointInversionList)) (windows : List Window) (start : ℕ) (ss : List Step) (term : Shortened) (index : ℕ) (complemented : Bool) → start + 0x4000 ≤ 0x110000 → length windows ≡ length sets →
     AreWindows sets start windows → Shortens windows (start + 0x4000) ss term → ((w : ℕ → Bool) (stack : List Bool) → FitsTerm w term stack → top stack ≡ differ complemented (w index)) → AreOfSet sets start index complemented (members_of sets ss)
 stretch_of_set sets windows start ss term index complemented within same are shortens told c le lt =
     let v = holds_at (map (λ s. s.now) sets) c in
     members_told sets ss c (differ complemented (v index)) (omega arith)
-    (told v (steps_done v ss []) (shortens.fits v v (agree_from sets windows start (start + 0x4000) c v same are le lt (holds_itself sets windows (start + 0x4000) c))))
+    (told v (steps_done v ss []) (shortens.fits v v (agree_from sets windows start (start + 0x4000) c same are le lt)))
 
 pub stretch_made : (sets : List (Bor CodePointInversionList)) (windows : List Window) (start : ℕ) (ss : List Step) (term : Shortened) → start + 0x4000 ≤ 0x110000 → length windows ≡ length sets →
-    AreWindows sets start windows → Shortens windows (start + 0x4000) ss term → ((w : ℕ → Bool) (stack : List Bool) → FitsTerm w term stack → top stack ≡ value_of w term.steps.items) → AreMade sets windows start term.steps.items (members_of sets ss)
-stretch_made sets windows start ss term within same are shortens told c w le lt mixed =
+    AreWindows sets start windows → Shortens windows (start + 0x4000) ss term → ((w : ℕ → Bool) (stack : List Bool) → FitsTerm w term stack → top stack ≡ value_of w term.steps.items) → AreMade sets start term.steps.items (members_of sets ss)
+stretch_made sets windows start ss term within same are shortens told c le lt =
     let v = holds_at (map (λ s. s.now) sets) c in
-    members_told sets ss c (value_of w term.steps.items) (omega arith)
-    (told w (steps_done v ss []) (shortens.fits v w (agree_from sets windows start (start + 0x4000) c w same are le lt mixed)))
-
--- the indices are read as a slice
-pub listed_by_slice : (mixed slice : List ℕ) (i : ℕ) → slice ≡ mixed → Contains mixed i → Contains slice i
-listed_by_slice mixed slice i same h = subst (λ (l : List ℕ). Contains l i) (sym same) h
+    members_told sets ss c (value_of v term.steps.items) (omega arith)
+    (told v (steps_done v ss []) (shortens.fits v v (agree_from sets windows start (start + 0x4000) c same are le lt)))

@@ -14,7 +14,7 @@ use Rattle.cp_terms.specs.declared.block.Block.{Block}
 use Rattle.cp_invlist.specs.declared.window.Window.{Window}
 use Rattle.cp_invlist.specs.Windows.{IsWindow, is_inside}
 use Rattle.cp_invlist.specs.WindowLaws.{window_later}
-use Rattle.cp_terms.specs.Windows.{HasWindow, AreWindows, HasBlock}
+use Rattle.cp_terms.specs.Windows.{HasWindow, AreWindows}
 
 pub windows_later : (sets : List (Bor CodePointInversionList)) (place later : ℕ) (windows : List Window) → place ≤ later → AreWindows sets place windows → AreWindows sets later windows
 windows_later sets place later windows le are i set window at of_it = window_later set.now place later window le (are i set window at of_it)
@@ -25,33 +25,6 @@ window_tells xs place c window is le lt = contains-cut c xs window.taken is.with
   before = λ k d below. omega (arith, is.before k d below);
   behind = λ k d below. omega (arith, is.behind k d below);
 })
-
--- one window more is moved on
-pub windows_more : (sets : List (Bor CodePointInversionList)) (place : ℕ) (old new : List Window) (index : ℕ) → AreWindows sets place old → HasWindow sets place new index → ((i : ℕ) → i ≢ index → slice_get new i ≡ slice_get old i) → AreWindows sets place new
-windows_more sets place old new index are here others i set window at of_it = elim (cases_eq i index) [
-  | inl same ↦ subst (HasWindow sets place new) (sym same) here set window at of_it
-  | inr other ↦ are i set window at (sym (others i other) ∙ of_it)
-]
-
--- and those of later indices are as they were
-pub windows_left : (sets : List (Bor CodePointInversionList)) (place : ℕ) (old new : List Window) (mixed : List ℕ) (k : ℕ) → AllPairs (λ i j. i < j) mixed →
-    ((n : ℕ) → k ≤ n → n < length mixed → HasWindow sets place old (get_or mixed n 0)) → ((i : ℕ) → i ≢ get_or mixed k 0 → slice_get new i ≡ slice_get old i) → (n : ℕ) → k + 1 ≤ n → n < length mixed → HasWindow sets place new (get_or mixed n 0)
-windows_left sets place old new mixed k ascending left others n le lt set window at of_it =
-    let apart = ascending k n 0 (omega arith) lt in
-    left n (omega arith) lt set window at (sym (others (get_or mixed n 0) (omega (arith, apart))) ∙ of_it)
-
-one_listed : (x i : ℕ) → Contains (x ∷ []) i → x ≡ i
-one_listed x i (zero, lt, is) = is
-one_listed x i (suc k, lt, is) = absurd (omega (arith, lt))
-
--- one block more is right
-pub blocks_more : (sets : List (Bor CodePointInversionList)) (place : ℕ) (old new : List Block) (mixed : List ℕ) (k : ℕ) → k < length mixed → ((i : ℕ) → Contains (take k mixed) i → HasBlock sets place old i) →
-    HasBlock sets place new (get_or mixed k 0) → ((i : ℕ) → HasBlock sets place old i → HasBlock sets place new i) → (i : ℕ) → Contains (take (k + 1) mixed) i → HasBlock sets place new i
-blocks_more sets place old new mixed k lt before here others i listed =
-    elim (Contains-append_cases (take k mixed) (get_or mixed k 0 ∷ []) i (subst (λ (l : List ℕ). Contains l i) (take_more mixed k 0 lt) listed)) [
-      | inl was ↦ others i (before i was)
-      | inr is ↦ subst (HasBlock sets place new) (one_listed (get_or mixed k 0) i is) here
-    ]
 
 -- a window that has its next element ahead
 pub record IsAhead (xs : List ℕ) (place : ℕ) (window : Window) : Type 0 where
@@ -68,14 +41,14 @@ window_of sets windows place index set none same are ahead at =
     }
 
 -- the words of an index from a place on make the block there
-pub block_of_words : (xs words part chunk : List ℕ) (place : ℕ) → AreWords xs words → part ≡ slice_range words (place / 64) (length words) → length part + place / 64 ≡ length words → chunk ≡ take 16 part → 16 ≤ length part → place % 64 ≡ 0 → IsBlock xs place (record { words = chunk })
+pub block_of_words : (xs words part chunk : List ℕ) (place : ℕ) → AreWords xs words → part ≡ slice_range words (place / 64) (length words) → length part + place / 64 ≡ length words → chunk ≡ take 256 part → 256 ≤ length part → place % 64 ≡ 0 → IsBlock xs place (record { words = chunk })
 block_of_words xs words part chunk place are cut sized front enough aligned i j hi hj =
     let start = place / 64 in
     let word = get_or words (start + i) 0 in
     let at : slice_get words (start + i) ≡ Some word = slice_get-get_or words (start + i) 0 (omega arith) in
     let same : get_or chunk i 0 ≡ word =
     ap (λ (l : List ℕ). get_or l i 0) front
-    ∙ (get_or-take 16 part i 0 hi
+    ∙ (get_or-take 256 part i 0 hi
     ∙ (ap (λ (l : List ℕ). get_or l i 0) cut
     ∙ (get_or-take (length words - start) (drop start words) i 0 (omega arith)
     ∙ get_or-drop start words i 0))) in

@@ -1,4 +1,4 @@
--- What windows and blocks are at first, and what a write of one changes.
+-- What windows are at first, and what a write of one changes.
 use Rattle.std.proofs.Common.{◌≡◌, ℕ, zero, suc, ◌<◌, ◌≤◌, ◌≢◌, List, [], ◌∷◌, Some, set, length, replicate, get_or, Bor, refl, sym, ap, ◌∙◌, arith, subst, inl, inr}
 use Rattle.std.specs.List.{slice_get}
 use Rattle.std.proofs.lemmas.Option.{same_Some, slice_get_within, get_or_from_slice_get}
@@ -8,9 +8,7 @@ use Rattle.std.proofs.lemmas.Bool.{cases_eq}
 use Rattle.cp_invlist.specs.declared.set.CodePointInversionList.{CodePointInversionList}
 use Rattle.cp_invlist.specs.declared.window.Window.{Window}
 use Rattle.cp_invlist.specs.Windows.{IsWindow}
-use Rattle.cp_terms.specs.declared.block.Block.{Block}
-use Rattle.cp_terms.specs.Blocks.{IsBlock}
-use Rattle.cp_terms.specs.Windows.{HasWindow, HasBlock, AreWindows}
+use Rattle.cp_terms.specs.Windows.{HasWindow, AreWindows}
 
 -- what is written at an index stands there
 pub written_there : {X : Type 0} → (xs : List X) (k : ℕ) (x y : X) → slice_get (set xs k x) k ≡ Some y → x ≡ y
@@ -32,21 +30,7 @@ pub window_written : (sets : List (Bor CodePointInversionList)) (place : ℕ) (w
 window_written sets place windows index found new there is of_set window at of_it =
     subst (λ (w : Window). IsWindow of_set.now place w) (written_there windows index new window of_it) (subst (λ (s : Bor CodePointInversionList). IsWindow s.now place new) (same_Some found of_set (sym there ∙ at)) is)
 
--- the right block is written at an index
-pub block_written : (sets : List (Bor CodePointInversionList)) (place : ℕ) (blocks : List Block) (index : ℕ) (found : Bor CodePointInversionList) (new : Block) →
-    slice_get sets index ≡ Some found → IsBlock found.now place new → HasBlock sets place (set blocks index new) index
-block_written sets place blocks index found new there is of_set block at of_it =
-    subst (λ (b : Block). IsBlock of_set.now place b) (written_there blocks index new block of_it) (subst (λ (s : Bor CodePointInversionList). IsBlock s.now place new) (same_Some found of_set (sym there ∙ at)) is)
-
--- and no other block is lost by it
-pub blocks_kept : (sets : List (Bor CodePointInversionList)) (place : ℕ) (blocks : List Block) (index : ℕ) (found : Bor CodePointInversionList) (new : Block) →
-    slice_get sets index ≡ Some found → IsBlock found.now place new → (i : ℕ) → HasBlock sets place blocks i → HasBlock sets place (set blocks index new) i
-blocks_kept sets place blocks index found new there is i was of_set block at of_it = elim (cases_eq i index) [
-  | inl same ↦ subst (HasBlock sets place (set blocks index new)) (sym same) (block_written sets place blocks index found new there is) of_set block at of_it
-  | inr other ↦ was of_set block at (sym (others_stay blocks index i new other) ∙ of_it)
-]
-
--- nor is any window
+-- and no other window is lost by it
 pub windows_kept : (sets : List (Bor CodePointInversionList)) (place : ℕ) (windows : List Window) (index : ℕ) (found : Bor CodePointInversionList) (new : Window) →
     slice_get sets index ≡ Some found → IsWindow found.now place new → AreWindows sets place windows → AreWindows sets place (set windows index new)
 windows_kept sets place windows index found new there is are i of_set window at of_it = elim (cases_eq i index) [

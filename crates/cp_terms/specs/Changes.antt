@@ -4,9 +4,7 @@ use Rattle.std.specs.Borrow.{Bor}
 use Rattle.cp_invlist.specs.InversionList.{contains, differ, is_code_point}
 use Rattle.cp_invlist.specs.declared.set.CodePointInversionList.{CodePointInversionList}
 use Rattle.cp_terms.specs.declared.step.Step.{Step}
-use Rattle.cp_invlist.specs.declared.window.Window.{Window}
 use Rattle.cp_terms.specs.Terms.{value_of, holds_at}
-use Rattle.cp_terms.specs.Windows.{HoldsMixed}
 
 -- the changes lie before the place
 abbrev pub AreBefore : ℕ → List ℕ → Type 0
@@ -24,10 +22,10 @@ IsConstant m place end inside = (c : ℕ) → place ≤ c → c < end → m c �
 abbrev pub members_of : List (Bor CodePointInversionList) → List Step → ℕ → Bool
 members_of sets ss c = is_code_point c && value_of (holds_at (map (λ s. s.now) sets) c) ss
 
--- On a stretch the members are those that the steps make of the sets that change there.
-abbrev pub AreMade : List (Bor CodePointInversionList) → List Window → ℕ → List Step → (ℕ → Bool) → Type 0
-AreMade sets windows start ss m = (c : ℕ) (w : ℕ → Bool) → start ≤ c → c < start + 0x4000 →
-    HoldsMixed sets windows (start + 0x4000) c w → m c ≡ value_of w ss
+-- On a stretch the members are those that the steps make.
+abbrev pub AreMade : List (Bor CodePointInversionList) → ℕ → List Step → (ℕ → Bool) → Type 0
+AreMade sets start ss m = (c : ℕ) → start ≤ c → c < start + 0x4000 →
+    m c ≡ value_of (holds_at (map (λ s. s.now) sets) c) ss
 
 -- On a stretch the members are those of the set with the index, or where it is complemented the others.
 abbrev pub AreOfSet : List (Bor CodePointInversionList) → ℕ → ℕ → Bool → (ℕ → Bool) → Type 0

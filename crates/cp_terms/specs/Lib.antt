@@ -2,6 +2,7 @@ pub mod Terms
 pub mod TermLaws
 pub mod Blocks
 pub mod Windows
+pub mod Stretches
 pub mod Shorten
 pub mod Changes
 pub mod ShortenParts

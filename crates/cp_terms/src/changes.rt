@@ -100,19 +100,19 @@ impl Changes {
         Ok(())
     }
 
-    /// Writes the 1,024 code points from the place on. Where nothing changes in them, no word is looked at alone.
-    pub(crate) fn write_block(&mut self, block: Block, place: u32) -> Result<(), NoMemory>
-        requires place { place + 1024 ≤ 0x11_0000 }
+    /// Writes the 16,384 code points from the place on. Where nothing changes in them, no word is looked at alone.
+    pub(crate) fn write_block(&mut self, block: &Block, place: u32) -> Result<(), NoMemory>
+        requires place { place + 0x4000 ≤ 0x11_0000 }
         requires before { AreBefore place self.old }
-        ensures before { OnOk result (AreBefore (place + 1024) self.new) }
+        ensures before { OnOk result (AreBefore (place + 0x4000) self.new) }
         ensures members { OnOk result ((m : ℕ → Bool) → TellBelow m place self.old →
-            ((i j : ℕ) → i < 16 → j < 64 → m (place + 64 * i + j) ≡ block_has block i j) →
-            TellBelow m (place + 1024) self.new) }
+            ((i j : ℕ) → i < 256 → j < 64 → m (place + 64 * i + j) ≡ block_has block.now i j) →
+            TellBelow m (place + 0x4000) self.new) }
     {
         if block.is_filled(self.is_inside()) {
             return Ok(());
         }
-        for index in 0..16u32 {
+        for index in 0..256u32 {
             self.write(block.words[index as usize], place + 64 * index)?;
         }
         Ok(())

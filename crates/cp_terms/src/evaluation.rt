@@ -6,16 +6,14 @@ ghost use Rattle.cp_terms.specs.Windows.{AreWindows};
 ghost use Rattle.cp_terms.specs.Changes.{AreBefore, TellBelow, AreMade, AreOfSet, members_of};
 
 use crate::block::Block;
-use crate::blocks::evaluate_blocks;
 use crate::changes::Changes;
 use crate::shorten::{Outcome, Shortened};
+use crate::stack::Stack;
 use crate::step::Step;
-use crate::windows::{fill_blocks, list_mixed, move_all};
+use crate::stretch::{STRETCH, Stretch};
+use crate::windows::move_all;
 use cp_invlist::{CodePointInversionList, LAST_CODE_POINT, NoMemory, Window};
 use std::alloc::Global;
-
-/// How many code points are looked at with one shortened term: 16 blocks of 16 words of 64 bits.
-const STRETCH: u32 = 16 * 1024;
 
 /// How many stretches there are.
 const STRETCHES: u32 = 68;
@@ -24,53 +22,30 @@ const STRETCHES: u32 = 68;
 struct Room {
     /// The term, shortened.
     term: Shortened,
-    /// The indices of the sets that change there.
-    mixed: Vec<usize>,
-    /// The stack of blocks.
-    stack: Vec<Block>,
+    /// The sets that its steps make.
+    stack: Stack,
 }
 
 // By hand, so that letting a value go is one call in each proof.
 impl Drop for Room {
     fn drop(self) {
-        let Self {
-            term: _,
-            mixed: _,
-            stack: _,
-        } = self;
+        let Self { term: _, stack: _ } = self;
     }
 }
 
-/// Writes a stretch block by block, by the term in the room.
-fn write_blocks(
-    sets: &[&CodePointInversionList],
-    windows: &mut [Window],
-    blocks: &mut [Block],
-    room: &mut Room,
-    start: u32,
-    changes: &mut Changes,
-) -> Result<(), NoMemory>
-    requires start { start + 0x4000 ≤ 0x11_0000 }
-    requires aligned { start % 64 ≡ 0 }
-    requires windows_each { length windows.old ≡ length sets.now }
-    requires blocks_each { length blocks.old ≡ length sets.now }
-    requires windows { AreWindows sets.now start windows.old }
-    requires before { AreBefore start changes.old }
-    ensures windows_each { length windows.new ≡ length sets.now }
-    ensures blocks_each { length blocks.new ≡ length sets.now }
-    ensures windows { OnOk result (AreWindows sets.now (start + 0x4000) windows.new) }
-    ensures before { OnOk result (AreBefore (start + 0x4000) changes.new) }
-    ensures members { OnOk result ((m : ℕ → Bool) → TellBelow m start changes.old →
-        AreMade sets.now windows.old start room.old.term.steps.items m → TellBelow m (start + 0x4000) changes.new) }
+/// Writes the members on a stretch that the term in the room makes.
+fn write_made(stretch: &Stretch<'_>, room: &mut Room, changes: &mut Changes) -> Result<(), NoMemory>
+    requires { AreBefore stretch.now.start changes.old }
+    ensures before { OnOk result (AreBefore (stretch.now.start + 0x4000) changes.new) }
+    ensures members { OnOk result ((m : ℕ → Bool) → TellBelow m stretch.now.start changes.old →
+        AreMade stretch.now.sets.now stretch.now.start room.old.term.steps.items m →
+        TellBelow m (stretch.now.start + 0x4000) changes.new) }
 {
-    list_mixed(windows, start + STRETCH, &mut room.mixed)?;
-    for index in 0..16 {
-        let place = start + 1024 * index;
-        fill_blocks(sets, &room.mixed, windows, blocks, place);
-        let block = evaluate_blocks(blocks, &room.term.steps, &mut room.stack)?;
-        changes.write_block(block, place)?;
+    room.stack.evaluate(stretch, &room.term.steps)?;
+    match room.stack.last() {
+        Some(block) => changes.write_block(block, stretch.start),
+        None => changes.write_block(&Block::EMPTY, stretch.start),
     }
-    Ok(())
 }
 
 /// Writes the members of the set with the index on a stretch, or where it is complemented the others.
@@ -105,7 +80,6 @@ fn write_stretch(
     sets: &[&CodePointInversionList],
     steps: &[Step],
     windows: &mut [Window],
-    blocks: &mut [Block],
     room: &mut Room,
     start: u32,
     changes: &mut Changes,
@@ -113,11 +87,9 @@ fn write_stretch(
     requires start { start + 0x4000 ≤ 0x11_0000 }
     requires aligned { start % 64 ≡ 0 }
     requires windows_each { length windows.old ≡ length sets.now }
-    requires blocks_each { length blocks.old ≡ length sets.now }
     requires windows { AreWindows sets.now start windows.old }
     requires before { AreBefore start changes.old }
     ensures windows_each { length windows.new ≡ length sets.now }
-    ensures blocks_each { length blocks.new ≡ length sets.now }
     ensures windows { OnOk result (AreWindows sets.now (start + 0x4000) windows.new) }
     ensures before { OnOk result (AreBefore (start + 0x4000) changes.new) }
     ensures members { OnOk result (TellBelow (members_of sets.now steps.now) start changes.old →
@@ -131,7 +103,14 @@ fn write_stretch(
             index,
             complemented,
         } => write_set(sets, windows, index, complemented, start, changes),
-        Outcome::Mixed => write_blocks(sets, windows, blocks, room, start, changes),
+        Outcome::Mixed => {
+            let stretch = Stretch {
+                sets,
+                windows,
+                start,
+            };
+            write_made(&stretch, room, changes)
+        }
     }
 }
 
@@ -140,12 +119,10 @@ fn write_all(
     sets: &[&CodePointInversionList],
     steps: &[Step],
     windows: &mut [Window],
-    blocks: &mut [Block],
     room: &mut Room,
     changes: &mut Changes,
 ) -> Result<(), NoMemory>
     requires windows_each { length windows.old ≡ length sets.now }
-    requires blocks_each { length blocks.old ≡ length sets.now }
     requires windows { AreWindows sets.now 0 windows.old }
     requires before { AreBefore 0 changes.old }
     ensures before { OnOk result (AreBefore 0x11_0000 changes.new) }
@@ -157,7 +134,6 @@ fn write_all(
             sets,
             steps,
             windows,
-            blocks,
             room,
             stretch * STRETCH,
             changes,
@@ -177,18 +153,15 @@ pub fn evaluate(
         (λ set. (c : ℕ) → contains set c ≡ (is_code_point c && value_of (holds_at (map (λ s. s.now) sets.now) c) steps.now)) }
 {
     let mut windows = vec![in alloc; Window::UNKNOWN; sets.len()]?;
-    let mut blocks = vec![in alloc; Block::EMPTY; sets.len()]?;
     let mut room = Room {
         term: Shortened::new(alloc),
-        mixed: Vec::new(alloc),
-        stack: Vec::new(alloc),
+        stack: Stack::new(alloc),
     };
     let mut changes = Changes::new(alloc);
     write_all(
         sets,
         steps,
         &mut windows,
-        &mut blocks,
         &mut room,
         &mut changes,
     )?;

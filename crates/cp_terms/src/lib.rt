@@ -2,11 +2,12 @@
 #![tactic(auto)]
 
 mod block;
-mod blocks;
 mod changes;
 mod evaluation;
 mod shorten;
+mod stack;
 mod step;
+mod stretch;
 mod windows;
 mod word;
 

@@ -19,14 +19,8 @@ returns c =
 pub returns-in_err-windows : goal.returns-in_err-windows
 returns-in_err-windows c = IfOk-from_err c.from_residual.result _ c.from_residual.ensures.0
 
-pub returns-in_err-blocks : goal.returns-in_err-blocks
-returns-in_err-blocks c = IfOk-from_err c.from_residual-in_err-blocks.result _ c.from_residual-in_err-blocks.ensures.0
-
 pub write_all-requires-clause-windows_each : goal.write_all-requires-clause-windows_each
 write_all-requires-clause-windows_each c = c.deref_mut.ensures.len ∙ c.in_ok-windows.ensures.len
-
-pub write_all-requires-clause-blocks_each : goal.write_all-requires-clause-blocks_each
-write_all-requires-clause-blocks_each c = c.deref_mut-2.ensures.len ∙ c.in_ok-blocks.ensures.len
 
 pub write_all-requires-clause-windows : goal.write_all-requires-clause-windows
 write_all-requires-clause-windows c = windows_unknown c.args.sets.now (length c.args.sets.now) c.deref_mut.result.now (c.deref_mut.ensures.value ∙ c.in_ok-windows.ensures.items_if_clones_equal (λ y same. same))

@@ -10,7 +10,6 @@ loop-stretch-preserved c =
     let next = (c.loop-stretch.stretch + 1) * 0x4000 in
     record {
       windows_each = c.in_ok-write_stretch.ensures.windows_each;
-      blocks_each = c.in_ok-write_stretch.ensures.blocks_each;
       windows = windows_later c.args.sets.now (place + 0x4000) next c.write_stretch.new.windows (omega arith) c.in_ok-write_stretch.ensures.windows;
       before = before_later (place + 0x4000) next c.write_stretch.new.changes (omega arith) c.in_ok-write_stretch.ensures.before;
       members = λ tell. tell_at (members_of c.args.sets.now c.args.steps.now) c.write_stretch.new.changes (place + 0x4000) next (omega arith) (c.in_ok-write_stretch.ensures.members (c.loop-stretch.invariant.members tell));

@@ -31,11 +31,11 @@ returns-in-Set-clause-members c =
 
 pub returns-in-Mixed-clause-members : goal.returns-in-Mixed-clause-members
 returns-in-Mixed-clause-members c =
-    on_ok_weaker c.write_blocks.result
+    on_ok_weaker c.write_made.result
     (λ h tell. h (members_of c.args.sets.now c.args.steps.now) tell
     (stretch_made c.args.sets.now c.move_all.new.windows c.args.start c.args.steps.now c.shorten.new.self c.requires.start c.move_all.ensures.one_each c.move_all.ensures.windows (record { fits = c.in_ok-shorten.ensures })
     (λ w stack fits. c.outcome.ensures w stack fits ∙ ap (λ o. outcome_value w o c.shorten.new.self.steps.items) c.in-Mixed.is)))
-    c.write_blocks.ensures.members
+    c.write_made.ensures.members
 
 pub returns-in_err-shorten-clause-members : goal.returns-in_err-shorten-clause-members
 returns-in_err-shorten-clause-members c = IfOk-from_err c.from_residual.result _ c.from_residual.ensures.0
@@ -52,9 +52,6 @@ write_set-requires-clause-windows c = c.move_all.ensures.windows
 pub write_set-requires-clause-ahead : goal.write_set-requires-clause-ahead
 write_set-requires-clause-ahead c = c.move_all.ensures.ahead
 
-pub write_blocks-requires-clause-windows : goal.write_blocks-requires-clause-windows
-write_blocks-requires-clause-windows c = c.move_all.ensures.windows
-
 pub returns-in-Constant-clause-before : goal.returns-in-Constant-clause-before
 returns-in-Constant-clause-before c = on_ok_weaker c.turn.result (before_later (c.args.start + 1) (c.args.start + 0x4000) c.turn.new.self (omega arith)) c.turn.ensures.before
 
@@ -65,10 +62,10 @@ pub returns-in-Set-clause-before : goal.returns-in-Set-clause-before
 returns-in-Set-clause-before c = c.write_set.ensures.before
 
 pub returns-in-Mixed-clause-windows : goal.returns-in-Mixed-clause-windows
-returns-in-Mixed-clause-windows c = c.write_blocks.ensures.windows
+returns-in-Mixed-clause-windows c = on_ok_weaker c.write_made.result (λ h. windows_later c.args.sets.now c.args.start (c.args.start + 0x4000) c.move_all.new.windows (omega arith) c.move_all.ensures.windows) c.write_made.ensures.members
 
 pub returns-in-Mixed-clause-before : goal.returns-in-Mixed-clause-before
-returns-in-Mixed-clause-before c = c.write_blocks.ensures.before
+returns-in-Mixed-clause-before c = c.write_made.ensures.before
 
 pub move_all-requires-clause-place : goal.move_all-requires-clause-place
 move_all-requires-clause-place c = omega (arith, c.requires.start)
@@ -81,9 +78,6 @@ move_all-requires-clause-windows c = c.requires.windows
 
 pub returns-in_err-shorten-clause-windows_each : goal.returns-in_err-shorten-clause-windows_each
 returns-in_err-shorten-clause-windows_each c = c.move_all.ensures.one_each
-
-pub returns-in_err-shorten-clause-blocks_each : goal.returns-in_err-shorten-clause-blocks_each
-returns-in_err-shorten-clause-blocks_each c = c.requires.blocks_each
 
 pub returns-in_err-shorten-clause-windows : goal.returns-in_err-shorten-clause-windows
 returns-in_err-shorten-clause-windows c = IfOk-from_err c.from_residual.result _ c.from_residual.ensures.0
@@ -103,32 +97,8 @@ write_set-requires-clause-windows_each c = c.move_all.ensures.one_each
 pub write_set-requires-clause-before : goal.write_set-requires-clause-before
 write_set-requires-clause-before c = c.requires.before
 
-pub write_blocks-requires-clause-start : goal.write_blocks-requires-clause-start
-write_blocks-requires-clause-start c = c.requires.start
-
-pub write_blocks-requires-clause-aligned : goal.write_blocks-requires-clause-aligned
-write_blocks-requires-clause-aligned c = c.requires.aligned
-
-pub write_blocks-requires-clause-windows_each : goal.write_blocks-requires-clause-windows_each
-write_blocks-requires-clause-windows_each c = c.move_all.ensures.one_each
-
-pub write_blocks-requires-clause-blocks_each : goal.write_blocks-requires-clause-blocks_each
-write_blocks-requires-clause-blocks_each c = c.requires.blocks_each
-
-pub write_blocks-requires-clause-before : goal.write_blocks-requires-clause-before
-write_blocks-requires-clause-before c = c.requires.before
-
 pub returns-in-Constant-clause-windows_each : goal.returns-in-Constant-clause-windows_each
 returns-in-Constant-clause-windows_each c = c.move_all.ensures.one_each
 
-pub returns-in-Constant-clause-blocks_each : goal.returns-in-Constant-clause-blocks_each
-returns-in-Constant-clause-blocks_each c = c.requires.blocks_each
-
-pub returns-in-Set-clause-blocks_each : goal.returns-in-Set-clause-blocks_each
-returns-in-Set-clause-blocks_each c = c.requires.blocks_each
-
 pub returns-in-Mixed-clause-windows_each : goal.returns-in-Mixed-clause-windows_each
-returns-in-Mixed-clause-windows_each c = c.write_blocks.ensures.windows_each
-
-pub returns-in-Mixed-clause-blocks_each : goal.returns-in-Mixed-clause-blocks_each
-returns-in-Mixed-clause-blocks_each c = c.write_blocks.ensures.blocks_each
+returns-in-Mixed-clause-windows_each c = c.move_all.ensures.one_each

@@ -14,6 +14,3 @@ loop-index-preserved c =
       sized = length-set c.loop-index.words c.loop-index.index c.word.result ∙ c.loop-index.invariant.sized;
       words = words_more (λ i word. IsWord c.args.set.now (c.args.place + 64 * i) word) c.loop-index.words c.loop-index.index c.word.result (omega (arith, c.loop-index.invariant.sized)) c.loop-index.invariant.words c.word.ensures.word;
     }
-
-pub returns-clause-window : goal.returns-clause-window
-returns-clause-window c = window_later c.args.set.now (c.args.place + 64 * c.loop-index.index) (c.args.place + 1024) c.loop-index.window (omega arith) c.loop-index.invariant.window

@@ -8,6 +8,6 @@ abbrev pub invariant-loop-index : goal.invariant-loop-index
 invariant-loop-index l = record {
   window : IsWindow l.set (l.place + 64 * l.index) l.window;
   ahead : l.place + 64 * l.index ≤ l.window.next;
-  sized : length l.words ≡ 16;
+  sized : length l.words ≡ 256;
   words : (i : ℕ) → i < l.index → IsWord l.set (l.place + 64 * i) (slice_index l.words i);
 }

@@ -3,10 +3,10 @@ use Rattle.std.specs.Vec.{vec_len}
 use Rattle.cp_terms.specs.Terms.{both_done}
 use Rattle.cp_terms.specs.Blocks.{block_has, block_marks}
 use Rattle.cp_terms.proofs.BlockLemmas.{block_marks-push, top_set}
-use Rattle.cp_terms.proofs.blocks.merge_top.Goals as goal
+use Rattle.cp_terms.proofs.stack.Stack.merge_made.Goals as goal
 
-pub returns : goal.returns
-returns c = λ i j short h.
+pub returns-clause-marks : goal.returns-clause-marks
+returns-clause-marks c = λ i j short h.
     let below = c.pop.new.self.items in
     let top = top_set i j below (vec_len c.pop.new.self - 1) c.in-Some-last_mut.lower.now c.combine.new.self (omega (arith, c.in-Some-last_mut.ensures.variant.0 refl)) c.in-Some-last_mut.ensures.value in
     top.is
