@@ -1,9 +1,11 @@
 -- What operations on words do to their bits.
-use Rattle.std.proofs.Common.{◌≡◌, ℕ, zero, suc, ◌-◌, ◌^◌, ◌≤◌, ◌<◌, max, min, true, false, not, ◌&&◌, ◌||◌, ◌==◌, refl, ap, ◌∙◌, arith, bit_and, bit_or, inl, inr}
+use Rattle.std.proofs.Common.{◌≡◌, ℕ, zero, suc, ◌-◌, ◌^◌, ◌≤◌, ◌<◌, max, min, true, false, not, ◌&&◌, ◌||◌, ◌==◌, refl, ap, ◌∙◌, arith, bit_and, bit_or, ◌+◌, ◌%◌, inl, inr}
 use Rattle.std.specs.Int.{bit_at, w64, trailing_zeros}
+use Rattle.std.specs.Int.RustNames.{bit_xor}
 use Rattle.std.specs.Int.Count.{trailing_of_zero}
 use Rattle.std.proofs.lemmas.Bool.{cases_lt}
-use Rattle.std.proofs.lemmas.Nat.Bits.{bit_at_and, bit_at_or, bit_at_not, bit_at-lt, bit_at-trailing_zeros}
+use Rattle.std.proofs.lemmas.Nat.Bits.{bit_at_and, bit_at_or, bit_at_xor, bit_at_not, bit_at-lt, bit_at-trailing_zeros}
+use Rattle.cp_invlist.specs.InversionList.{differ}
 use Rattle.cp_invlist.specs.Words.{has_bit}
 
 or_of : (x y : ℕ) → x < 2 → y < 2 → (max x y == 1) ≡ (x == 1 || y == 1)
@@ -34,6 +36,18 @@ has_bit-or a b j = ap (λ n. n == 1) (bit_at_or a b j) ∙ or_of (bit_at a j) (b
 
 pub has_bit-and : (a b j : ℕ) → has_bit (bit_and a b) j ≡ (has_bit a j && has_bit b j)
 has_bit-and a b j = ap (λ n. n == 1) (bit_at_and a b j) ∙ and_of (bit_at a j) (bit_at b j) (bit_at-lt a j) (bit_at-lt b j)
+
+sum_of : (x y : ℕ) → x < 2 → y < 2 → ((x + y) % 2 == 1) ≡ differ (y == 1) (x == 1)
+sum_of zero zero hx hy = refl
+sum_of zero (suc zero) hx hy = refl
+sum_of (suc zero) zero hx hy = refl
+sum_of (suc zero) (suc zero) hx hy = refl
+sum_of (suc (suc x)) y hx hy = absurd (omega arith)
+sum_of zero (suc (suc y)) hx hy = absurd (omega arith)
+sum_of (suc zero) (suc (suc y)) hx hy = absurd (omega arith)
+
+pub has_bit-xor : (a b j : ℕ) → has_bit (bit_xor a b) j ≡ differ (has_bit b j) (has_bit a j)
+has_bit-xor a b j = ap (λ n. n == 1) (bit_at_xor a b j) ∙ sum_of (bit_at a j) (bit_at b j) (bit_at-lt a j) (bit_at-lt b j)
 
 pub has_bit-not : (a j : ℕ) → a < 2 ^ 64 → j < 64 → has_bit (18446744073709551615 - a) j ≡ not (has_bit a j)
 has_bit-not a j ha hj = ap (λ n. n == 1) (bit_at_not w64 a j ha hj) ∙ not_of (bit_at a j) (bit_at-lt a j)

@@ -14,14 +14,18 @@ use Rattle.cp_terms.specs.Changes.{AreBefore, TellBelow}
 use Rattle.cp_terms.proofs.WindowLemmas.{IsAhead}
 use Rattle.cp_terms.proofs.ChangesLemmas.{before_later, contains-behind}
 
--- the elements that are left before the end go on above the place
-left_ascends : (xs part : List ℕ) (start end : ℕ) (window : Window) → IsWindow xs start window → AreLeftBefore xs window.taken end part → ascends_from window.next part ≡ true
-left_ascends xs part start end window is left =
+-- the elements that are left before the end are not in front of the next one
+pub left_ahead : (xs part : List ℕ) (start end : ℕ) (window : Window) → IsWindow xs start window → AreLeftBefore xs window.taken end part → All (λ x. window.next ≤ x) part
+left_ahead xs part start end window is left =
     let whole = subst (All (λ x. window.next ≤ x)) left.split is.behind in
-    ascends_from-raise 0 window.next part (subst (All (λ x. window.next ≤ x)) (take-append_seam part left.others) (All-take (λ x. window.next ≤ x) (length part) (part ++ left.others) whole)) left.ascends
+    subst (All (λ x. window.next ≤ x)) (take-append_seam part left.others) (All-take (λ x. window.next ≤ x) (length part) (part ++ left.others) whole)
+
+-- so they go on above the place
+left_ascends : (xs part : List ℕ) (start end : ℕ) (window : Window) → IsWindow xs start window → AreLeftBefore xs window.taken end part → ascends_from window.next part ≡ true
+left_ascends xs part start end window is left = ascends_from-raise 0 window.next part (left_ahead xs part start end window is left) left.ascends
 
 -- and they tell the members there
-contains-left : (xs part : List ℕ) (start end c : ℕ) (window : Window) → IsWindow xs start window → AreLeftBefore xs window.taken end part → start ≤ c → c < end → contains xs c ≡ differ (is_inside window) (contains part c)
+pub contains-left : (xs part : List ℕ) (start end c : ℕ) (window : Window) → IsWindow xs start window → AreLeftBefore xs window.taken end part → start ≤ c → c < end → contains xs c ≡ differ (is_inside window) (contains part c)
 contains-left xs part start end c window is left le lt =
     ap (λ l. contains l c) (sym (take-append-drop window.taken xs))
     ∙ (contains-append (take window.taken xs) (drop window.taken xs) c

@@ -5,5 +5,6 @@ pub mod WindowLemmas
 pub mod ShortenLemmas
 pub mod ChangesLemmas
 pub mod CopyLemmas
+pub mod TurnedLemmas
 pub mod StretchLemmas
 pub mod WrittenLemmas

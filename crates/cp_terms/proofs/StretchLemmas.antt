@@ -37,6 +37,7 @@ agree_from sets windows start end c same are le lt = record { at = λ i. told i 
   where
     v : ℕ → Bool
     v = holds_at (map (λ s. s.now) sets) c
+
     told : (i : ℕ) (o : Option Window) → slice_get windows i ≡ o → AgreesAt o end (v i) (v i)
     told i None is = holds_at-past sets c i (past (slice_get_cases windows i).1)
       where

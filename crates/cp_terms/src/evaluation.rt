@@ -130,14 +130,7 @@ fn write_all(
         TellBelow (members_of sets.now steps.now) 0x11_0000 changes.new) }
 {
     for stretch in 0..STRETCHES {
-        write_stretch(
-            sets,
-            steps,
-            windows,
-            room,
-            stretch * STRETCH,
-            changes,
-        )?;
+        write_stretch(sets, steps, windows, room, stretch * STRETCH, changes)?;
     }
     Ok(())
 }
@@ -158,13 +151,7 @@ pub fn evaluate(
         stack: Stack::new(alloc),
     };
     let mut changes = Changes::new(alloc);
-    write_all(
-        sets,
-        steps,
-        &mut windows,
-        &mut room,
-        &mut changes,
-    )?;
+    write_all(sets, steps, &mut windows, &mut room, &mut changes)?;
     changes.turn(false, LAST_CODE_POINT + 1)?;
     changes.to_set(alloc)
 }

@@ -36,7 +36,9 @@ impl Stack {
     {
         if let Some(index) = self.named {
             self.named = None;
-            self.made.push(stretch.block(index))?;
+            let mut block = Block::EMPTY;
+            stretch.read(index, &mut block);
+            self.made.push(block)?;
         }
         Ok(())
     }
@@ -121,11 +123,7 @@ impl Stack {
     }
 
     /// Makes the set that the steps make. What was there before goes.
-    pub(crate) fn evaluate(
-        &mut self,
-        stretch: &Stretch<'_>,
-        steps: &[Step],
-    ) -> Result<(), NoMemory>
+    pub(crate) fn evaluate(&mut self, stretch: &Stretch<'_>, steps: &[Step]) -> Result<(), NoMemory>
         ensures { OnOk result ((i j : ℕ) → i < 256 → j < 64 →
             block_marks i j self.new.made.items ≡ steps_done (stretch_has stretch.now i j) steps.now []) }
     {

@@ -3,7 +3,7 @@ ghost use Rattle.cp_terms.specs.Windows.{AreKnown};
 
 use crate::block::Block;
 use crate::step::Way;
-use crate::windows::block_at;
+use crate::windows::read_block;
 use cp_invlist::{CodePointInversionList, Window};
 
 /// How many code points are looked at with one shortened term.
@@ -29,19 +29,22 @@ impl Stretch<'_> {
         ensures { IfSome result (λ words. (i j : ℕ) → i < 256 → j < 64 → word_has words.now i j ≡ stretch_has self.now i j index) }
     {
         let set = self.sets.get(index)?;
-        set.words().get(self.start as usize / 64..)?.first_chunk::<256>()
+        set.words()
+            .get(self.start as usize / 64..)?
+            .first_chunk::<256>()
     }
 
-    /// The block of the set with the index, the empty one where there is none.
-    pub(crate) fn block(&self, index: usize) -> Block
-        ensures { (i j : ℕ) → i < 256 → j < 64 → block_has result i j ≡ stretch_has self.now i j index }
+    /// Reads the block of the set with the index, the empty one where there is none.
+    pub(crate) fn read(&self, index: usize, block: &mut Block)
+        ensures { (i j : ℕ) → i < 256 → j < 64 → block_has block.new i j ≡ stretch_has self.now i j index }
     {
         if let Some(words) = self.words(index) {
-            return Block { words: *words };
+            block.words = *words;
+            return;
         }
         match self.sets.get(index) {
-            Some(set) => block_at(set, self.windows[index], self.start),
-            None => Block::EMPTY,
+            Some(set) => read_block(block, set, self.windows[index], self.start),
+            None => *block = Block::EMPTY,
         }
     }
 
@@ -50,9 +53,12 @@ impl Stretch<'_> {
         ensures { (i j : ℕ) → i < 256 → j < 64 →
             block_has lower.new i j ≡ combined way (block_has lower.old i j) (stretch_has self.now i j index) }
     {
-        match self.words(index) {
-            Some(words) => lower.combine(way, words),
-            None => lower.combine(way, &self.block(index).words),
+        if let Some(words) = self.words(index) {
+            lower.combine(way, words);
+            return;
         }
+        let mut upper = Block::EMPTY;
+        self.read(index, &mut upper);
+        lower.combine(way, &upper.words);
     }
 }

@@ -7,19 +7,24 @@ ghost use Rattle.cp_terms.specs.Windows.{AreWindows};
 use crate::block::Block;
 use cp_invlist::{CodePointInversionList, Window};
 
-/// Which of the 16,384 code points from the place on are members, by a window of the set.
-pub(crate) fn block_at(set: &CodePointInversionList, window: Window, place: u32) -> Block
+/// Reads into the block which of the 16,384 code points from the place on are members, by a window of the set.
+pub(crate) fn read_block(
+    block: &mut Block,
+    set: &CodePointInversionList,
+    window: Window,
+    place: u32,
+)
     requires place { place + 0x4000 ≤ 0x11_0000 }
     requires window { IsWindow set.now place window }
     requires ahead { place < window.next }
-    ensures { IsBlock set.now place result }
+    ensures { IsBlock set.now place block.new }
 {
-    let mut words = [0u64; 256];
-    let mut window = window;
-    for index in 0..256u32 {
-        words[index as usize] = window.word(set, place + 64 * index);
+    *block = Block::EMPTY;
+    // First each word by itself, so that nothing depends on where the elements stand.
+    for element in window.elements_before(set, place + 0x4000) {
+        block.turn_word(*element - place);
     }
-    Block { words }
+    block.carry(window.is_inside());
 }
 
 /// Moves all windows on to the place.
