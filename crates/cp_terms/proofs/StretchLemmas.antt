@@ -1,7 +1,7 @@
 -- What is known of terms on a stretch.
-use Rattle.std.proofs.Common.{◌≡◌, ℕ, ◌+◌, ◌*◌, ◌<◌, ◌≤◌, Bool, false, List, [], Option, None, Some, map, Contains, ◌⊎◌, ◌&&◌, length, get_or, Bor, refl, sym, ap, ◌∙◌, arith, subst, inl, inr}
+use Rattle.std.proofs.Common.{◌≡◌, ℕ, ◌+◌, ◌<◌, ◌≤◌, Bool, List, [], Option, None, Some, map, ◌⊎◌, ◌&&◌, length, get_or, Bor, refl, ap, ◌∙◌, arith, inl, inr}
 use Rattle.std.specs.List.{slice_get}
-use Rattle.std.proofs.lemmas.Option.{slice_get_within, slice_get_cases, slice_get-get_or}
+use Rattle.std.proofs.lemmas.Option.{slice_get_within, slice_get_cases}
 use Rattle.std.proofs.lemmas.Bool.{le-leb}
 use Rattle.cp_invlist.specs.InversionList.{differ}
 use Rattle.cp_invlist.specs.declared.set.CodePointInversionList.{CodePointInversionList}

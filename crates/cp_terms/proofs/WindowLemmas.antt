@@ -1,20 +1,17 @@
 -- What windows say of sets.
-use Rattle.std.proofs.Common.{◌≡◌, ℕ, zero, suc, ◌+◌, ◌-◌, ◌/◌, ◌%◌, ◌<◌, ◌≤◌, ◌≢◌, List, [], ◌∷◌, Some, AllPairs, Contains, length, take, drop, get_or, All, Bor, sym, ap, ◌∙◌, arith, subst, inl, inr}
+use Rattle.std.proofs.Common.{◌≡◌, ℕ, ◌+◌, ◌-◌, ◌/◌, ◌%◌, ◌<◌, ◌≤◌, List, Some, length, take, drop, get_or, All, Bor, ap, ◌∙◌, arith}
 use Rattle.std.specs.List.{slice_get, slice_range}
 use Rattle.std.proofs.lemmas.Option.{slice_get_within, slice_get-get_or}
-use Rattle.std.proofs.lemmas.Bool.{cases_eq}
-use Rattle.std.proofs.lemmas.List.{get_or-drop, get_or-take, take_more}
-use Rattle.std.proofs.lemmas.List.Elements.{Contains-append_cases}
+use Rattle.std.proofs.lemmas.List.{get_or-drop, get_or-take}
 use Rattle.cp_invlist.specs.InversionList.{contains}
 use Rattle.cp_invlist.specs.declared.set.CodePointInversionList.{CodePointInversionList}
 use Rattle.cp_invlist.specs.CutLaws.{contains-cut}
 use Rattle.cp_invlist.specs.Words.{has_bit, AreWords}
 use Rattle.cp_terms.specs.Blocks.{IsBlock}
-use Rattle.cp_terms.specs.declared.block.Block.{Block}
 use Rattle.cp_invlist.specs.declared.window.Window.{Window}
 use Rattle.cp_invlist.specs.Windows.{IsWindow, is_inside}
 use Rattle.cp_invlist.specs.WindowLaws.{window_later}
-use Rattle.cp_terms.specs.Windows.{HasWindow, AreWindows}
+use Rattle.cp_terms.specs.Windows.{AreWindows}
 
 pub windows_later : (sets : List (Bor CodePointInversionList)) (place later : ℕ) (windows : List Window) → place ≤ later → AreWindows sets place windows → AreWindows sets later windows
 windows_later sets place later windows le are i set window at of_it = window_later set.now place later window le (are i set window at of_it)
