@@ -33,9 +33,13 @@ some_value_in (Some value) m = value_in value m
 abbrev pub bytes_of : List (List ℕ) → ℕ
 bytes_of strings = sum_by (λ s. length s) strings
 
--- A set of so many strings, or of strings of so many bytes, gets numbers, and so does a string of so many bytes.
+-- so many strings get numbers, and strings of so many bytes
+abbrev pub get_numbers : List (List ℕ) → Bool
+get_numbers strings = nat_le 64 (length strings) || nat_le 4096 (bytes_of strings)
+
+-- a set gets numbers by its strings, and a string by its bytes
 abbrev pub gets_numbers : VariableValue → Bool
-gets_numbers (UnicodeSet set) = nat_le 64 (length set.strings) || nat_le 4096 (bytes_of set.strings)
+gets_numbers (UnicodeSet set) = get_numbers set.strings
 gets_numbers (Spelled s) = nat_le 4096 (length s)
 gets_numbers (Char c) = false
 

@@ -1,7 +1,7 @@
 //! The numbers of the strings of what a name is bound to.
-ghost use Rattle.std.specs.Prelude.{◌≡◌, ◌||◌, map, nat_le, length};
+ghost use Rattle.std.specs.Prelude.{◌≡◌, map, nat_le};
 ghost use Rattle.std.specs.String.{string_bytes};
-ghost use Rattle.uset_variables.specs.Numbered.{bytes_of};
+ghost use Rattle.uset_variables.specs.Numbered.{bytes_of, get_numbers};
 
 use crate::value::{KeptValue, VariableValue};
 use cp_invlist::NoMemory;
@@ -46,8 +46,7 @@ fn have_bytes(strings: &[String], count: usize) -> bool
 
 /// Whether the strings get numbers.
 fn get_numbers(strings: &[String]) -> bool
-    ensures { result ≡ (nat_le 64 (length (map string_bytes strings.now))
-        || nat_le 4096 (bytes_of (map string_bytes strings.now))) }
+    ensures { result ≡ get_numbers (map string_bytes strings.now) }
 {
     strings.len() >= MANY_STRINGS || have_bytes(strings, MANY_BYTES)
 }
