@@ -153,9 +153,9 @@ const TERMS: &[(&[Step], &[u32])] = &[
     ),
 ];
 
-/// Sets at the borders of words of 128 code points and of blocks of 1024.
+/// Sets at the borders of words of 64 code points.
 const BORDER_SETS: &[&[u32]] = &[
-    // 0: the last code point of a block
+    // 0: the last code point of a word
     &[0x3FF, 0x400],
     // 1: the first of the next
     &[0x400, 0x401],
@@ -211,6 +211,26 @@ const BORDER_TERMS: &[(&[Step], &[u32])] = &[
         ],
         &[0x3C0, 0x440],
     ),
+    // the upper set is one of those that are given
+    (
+        &[Step::Push(2), Step::Push(3), Step::Both(Way::Join)],
+        &[0x300, 0x301, 0x302, 0x303, 0x37F, 0x381, 0x3C0, 0x440],
+    ),
+    // both are made
+    (
+        &[
+            Step::Push(0),
+            Step::Push(1),
+            Step::Both(Way::Join),
+            Step::Push(3),
+            Step::Push(2),
+            Step::Both(Way::Join),
+            Step::Both(Way::RemoveFrom),
+        ],
+        &[
+            0x300, 0x301, 0x302, 0x303, 0x37F, 0x381, 0x3C0, 0x3FF, 0x401, 0x440,
+        ],
+    ),
     // there are fewer sets than the step takes
     (&[Step::Push(2), Step::Both(Way::Join)], &[0x3C0, 0x440]),
     // there is no set with this index
@@ -228,7 +248,7 @@ const STRETCH_SETS: &[&[u32]] = &[
     &[0x3FFF, 0x4001, 0x7FFE, 0x8001],
     // 2: over several stretches
     &[0x50, 0x1_4001],
-    // 3: from the border of a word, of a block and of a stretch on
+    // 3: from the borders of words and of a stretch on
     &[0x80, 0x81, 0x400, 0x401, 0x4000, 0x4400, 0x8000, 0x8080],
     // 4: one code point
     &[0x62, 0x63],
