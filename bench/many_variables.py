@@ -1,0 +1,64 @@
+#!/usr/bin/env python3
+"""Times `uset eval` on lines that each name many variables, which are large sets: `many_variables.py PROGRAM [LINES]`.
+
+The variables have so many ranges each, all over the code points, and each lacks another one of a larger set. A line
+keeps what all have in common. What the variables take alone is taken off, and behind each time stands how long an input
+of 8 MB of such lines would take.
+"""
+
+import sys
+
+from growth import seconds
+from large_tables import SYNTAX
+
+# The most bytes that the program takes.
+MOST_BYTES = 1 << 23
+
+# How many variables there are, and how many ranges each has.
+CASES = [(2, 16_384), (2, 4_096), (2, 4_095), (50, 16_384), (50, 4_096), (50, 4_095), (50, 1_024), (50, 136), (600, 16_384)]
+
+LETTERS = "abcdefghijklmnopqrstuvwxyz"
+
+
+def name(number):
+    """The name of a variable: one letter where that is enough."""
+    return LETTERS[number] if number < 26 else LETTERS[number // 26 - 1] + LETTERS[number % 26]
+
+
+def spelled(code_point):
+    """A code point as a pattern may have it."""
+    return f"\\U{code_point:08X}"
+
+
+def variables(count, ranges):
+    """The lines that bind them: a set of one range more, at even distances, and each variable to that without one."""
+    points = [spelled(place * (0x110000 // (ranges + 1)) + 7) for place in range(ranges + 1)]
+    bound = f"let base set [{''.join(points)}]\n"
+    for number in range(count):
+        bound += f"let {name(number)} set [$base-[{points[number]}]]\n"
+    return SYNTAX + "end\n" + bound
+
+
+def line_of(count):
+    """A line that keeps what all of them have in common, and of that one code point that they lack."""
+    return "pat [[" + "&".join("$" + name(number) for number in range(count)) + "]&[a]]\n"
+
+
+def main():
+    program = sys.argv[1]
+    count = int(sys.argv[2]) if len(sys.argv) > 2 else 200
+    print("| lines | ms each | us a name | s for 8 MB |")
+    print("|---|---|---|---|")
+    for number, ranges in CASES:
+        before = variables(number, ranges)
+        start, size = seconds(program, before)
+        line = line_of(number)
+        lines = max(1, count * 50 // number)
+        taken, _ = seconds(program, before + line * lines)
+        each = max(taken - start, 0.0) / lines
+        whole = (MOST_BYTES - size) // len(line)
+        print(f"| {lines:,} over {number} variables of {ranges:,} ranges | {each * 1e3:.3f} | {each * 1e6 / number:.1f} | {each * whole:.0f} |", flush=True)
+
+
+if __name__ == "__main__":
+    main()
