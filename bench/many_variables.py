@@ -1,9 +1,9 @@
 #!/usr/bin/env python3
 """Times `uset eval` on lines that each name many variables, which are large sets: `many_variables.py PROGRAM [LINES]`.
 
-The variables have so many ranges each, all over the code points, and each lacks another one of a larger set. A line
-keeps what all have in common. What the variables take alone is taken off, and behind each time stands how long an input
-of 8 MB of such lines would take.
+The variables have so many ranges each, all over the code points, and a line keeps what all have in common, which is
+nothing. What the variables take alone is taken off, and behind each time stands how long an input of 8 MB of such lines
+would take.
 """
 
 import sys
@@ -31,17 +31,19 @@ def spelled(code_point):
 
 
 def variables(count, ranges):
-    """The lines that bind them: a set of one range more, at even distances, and each variable to that without one."""
-    points = [spelled(place * (0x110000 // (ranges + 1)) + 7) for place in range(ranges + 1)]
-    bound = f"let base set [{''.join(points)}]\n"
+    """The lines that bind them, by turns to one of two sets that have nothing in common, without one of its ranges."""
+    distance = 0x110000 // (ranges + 1)
+    points = [[spelled(place * distance + first) for place in range(ranges + 1)] for first in (7, 9)]
+    bound = "".join(f"let base{'ab'[turn]} set [{''.join(points[turn])}]\n" for turn in (0, 1))
     for number in range(count):
-        bound += f"let {name(number)} set [$base-[{points[number]}]]\n"
+        turn = number % 2
+        bound += f"let {name(number)} set [$base{'ab'[turn]}-[{points[turn][number]}]]\n"
     return SYNTAX + "end\n" + bound
 
 
 def line_of(count):
-    """A line that keeps what all of them have in common, and of that one code point that they lack."""
-    return "pat [[" + "&".join("$" + name(number) for number in range(count)) + "]&[a]]\n"
+    """A line that keeps what all of them have in common, which is nothing."""
+    return "pat [" + "&".join("$" + name(number) for number in range(count)) + "]\n"
 
 
 def main():
@@ -53,7 +55,7 @@ def main():
         before = variables(number, ranges)
         start, size = seconds(program, before)
         line = line_of(number)
-        lines = max(1, count * 50 // number)
+        lines = max(50, count * 50 // number)
         taken, _ = seconds(program, before + line * lines)
         each = max(taken - start, 0.0) / lines
         whole = (MOST_BYTES - size) // len(line)
