@@ -1,6 +1,6 @@
 -- A list after a range is added: everything from the range's start to the number past it is cut out, and an end of the range
 -- is put there where it lies in no range of the list.
-use Rattle.std.proofs.Common.{◌≡◌, ℕ, suc, ◌+◌, ◌-◌, ◌%◌, ◌<◌, ◌≤◌, Bool, true, false, not, ◌||◌, ◌&&◌, nat_le, nat_lt, min, List, [], ◌∷◌, ◌++◌, length, take, drop, All, refl, sym, ap, ap₂, ◌∙◌, arith, append_assoc, inl, inr, Result, Ok, Err, OnOk, OnErr}
+use Rattle.std.proofs.Common.{◌≡◌, ℕ, suc, ◌+◌, ◌-◌, ◌%◌, ◌<◌, ◌≤◌, ◌==◌, Bool, true, false, not, ◌||◌, ◌&&◌, nat_le, nat_lt, min, List, [], ◌∷◌, ◌++◌, length, take, drop, get_or, All, refl, sym, ap, ap₂, ◌∙◌, arith, append_assoc, inl, inr, Result, Ok, Err, OnOk, OnErr}
 use Rattle.std.specs.List.{splice}
 use Rattle.std.proofs.lemmas.Bool.{le-leb, lt-leb, cases_lt, and_left, and_right, and_from}
 use Rattle.std.proofs.lemmas.Bool.Decides.{nat_tests}
@@ -13,7 +13,7 @@ use Rattle.cp_invlist.specs.declared.error.NoMemory.{NoMemory}
 use Rattle.cp_invlist.specs.declared.ranges.CodePointRange.{CodePointRange}
 use Rattle.cp_invlist.specs.Cuts.{CutAfter, CutBefore}
 use Rattle.cp_invlist.specs.ListLaws.{ascends_from-lower, ascends_from-raise, ascends_from-take, ascends_from-drop, ascends_from-append, ascends_from-cons, contains-append, contains-all_at_most, contains-all_above, has_even_length-append, IsInversionList-parts, IsInversionList-from}
-use Rattle.cp_invlist.specs.CutLaws.{CutAfter-all, CutBefore-all, has_even_length-take, has_odd_length-take, cases_parity}
+use Rattle.cp_invlist.specs.CutLaws.{IsNonDecreasingBy-ascends, CutAfter-all, CutBefore-all, CutBefore-last, odd_length, has_even_length-take, has_odd_length-take, cases_parity}
 
 -- an end, where it is to be written
 abbrev pub written : Bool → ℕ → List ℕ
@@ -181,6 +181,12 @@ with_range-splice xs ends start past low high e =
     ap (λ l. take low xs ++ (l ++ drop high xs)) e
     ∙ ap (λ l. take low xs ++ l) (append_assoc (written (has_even_length (take low xs)) start) (written (has_even_length (take high xs)) past) (drop high xs))
 
+-- the place of the last element is odd
+odd_before_last : (xs : List ℕ) → 0 < length xs → has_even_length xs ≡ true → (length xs - 1) % 2 ≡ 1
+odd_before_last xs some even =
+    let remainder : (length xs % 2 == 1) ≡ false = sym (odd_length xs) ∙ ap not even in
+    grind (arith, nat_tests, remainder)
+
 -- behind all elements both ends are written
 pub with_range-behind : (xs : List ℕ) (start past : ℕ) → has_even_length xs ≡ true → xs ++ (start ∷ past ∷ []) ≡ with_range xs start past (length xs) (length xs)
 with_range-behind xs start past even =
@@ -212,6 +218,18 @@ Added-behind xs new r past h le bound e all is =
     Added-from_cuts xs new r past (length xs) (length xs) h le bound e (CutBefore-all r.start xs all)
     (CutAfter-all past xs (All-weaker (λ x. x < r.start) (λ x. x ≤ past) (λ x lt. omega arith) xs all))
     (is ∙ with_range-behind xs r.start past (IsInversionList-parts xs h).1)
+
+-- a range that starts where the last one ends goes on with it
+pub Added-touching : (xs new : List ℕ) (r : CodePointRange) (past : ℕ) → IsInversionList xs → r.start ≤ r.end → r.start ≤ 0x10_FFFF →
+    past ≡ min r.end 0x10_FFFF + 1 → 0 < length xs → ((d : ℕ) → get_or xs (length xs - 1) d ≡ r.start) →
+    new ≡ splice xs (length xs - 1) (length xs) (past ∷ []) → Added xs new r
+Added-touching xs new r past h le bound e some last is =
+    let parts = IsInversionList-parts xs h in
+    let all : All (λ x. x ≤ past) xs = λ k d lt. omega (arith, last d, IsNonDecreasingBy-ascends 0 xs parts.0 k (length xs - 1) d (omega arith) (omega arith)) in
+    let odd = has_odd_length-take xs (length xs - 1) (omega arith) (odd_before_last xs some parts.1) in
+    let whole = take_all (length xs) xs (omega arith) in
+    Added-from_cuts xs new r past (length xs - 1) (length xs) h le bound e (CutBefore-last r.start xs parts.0 some last) (CutAfter-all past xs all)
+    (is ∙ with_range-splice xs (past ∷ []) r.start past (length xs - 1) (length xs) (rw (odd, whole, parts.1) refl))
 
 -- after a change that may have failed
 pub Added-list : (xs new : List ℕ) (r : CodePointRange) (b : Result (Unit {0}) NoMemory) → IsInversionList xs → OnOk b (Added xs new r) → OnErr b (new ≡ xs) → IsInversionList new

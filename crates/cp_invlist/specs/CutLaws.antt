@@ -12,7 +12,7 @@ use Rattle.cp_invlist.specs.InversionList.{differ, contains, ascends_from, has_e
 use Rattle.cp_invlist.specs.Cuts.{CutAfter, CutBefore}
 use Rattle.cp_invlist.specs.ListLaws.{ascends_from-parts, IsInversionList-parts, contains-append, contains-all_at_most, contains-all_above}
 
--- an ascending list is non-decreasing, element by element
+-- an ascending list ascends element by element
 ascends_from-at : (n k d : ℕ) (xs : List ℕ) → ascends_from n xs ≡ true → k < length xs → n ≤ get_or xs k d
 ascends_from-at n k d [] h lt = absurd (omega arith)
 ascends_from-at n zero d (x ∷ xs) h lt = (ascends_from-parts n x xs h).0
@@ -21,16 +21,18 @@ ascends_from-at n (suc k) d (x ∷ xs) h lt =
     let rest = ascends_from-at (suc x) k d xs parts.2 (omega arith) in
     omega arith
 
+pub IsAscending-ascends : (n : ℕ) (xs : List ℕ) → ascends_from n xs ≡ true → (i j d : ℕ) → i < j → j < length xs → get_or xs i d < get_or xs j d
+IsAscending-ascends n [] h i j d lt within = absurd (omega arith)
+IsAscending-ascends n (x ∷ xs) h i zero d lt within = absurd (omega arith)
+IsAscending-ascends n (x ∷ xs) h zero (suc j) d lt within = ascends_from-at (suc x) j d xs (ascends_from-parts n x xs h).2 (omega arith)
+IsAscending-ascends n (x ∷ xs) h (suc i) (suc j) d lt within =
+    IsAscending-ascends (suc x) xs (ascends_from-parts n x xs h).2 i j d (omega arith) (omega arith)
+
 pub IsNonDecreasingBy-ascends : (n : ℕ) (xs : List ℕ) → ascends_from n xs ≡ true → (i j d : ℕ) → i ≤ j → j < length xs → get_or xs i d ≤ get_or xs j d
-IsNonDecreasingBy-ascends n [] h i j d le lt = absurd (omega arith)
-IsNonDecreasingBy-ascends n (x ∷ xs) h zero zero d le lt = omega arith
-IsNonDecreasingBy-ascends n (x ∷ xs) h zero (suc j) d le lt =
-    let parts = ascends_from-parts n x xs h in
-    let rest = ascends_from-at (suc x) j d xs parts.2 (omega arith) in
-    omega arith
-IsNonDecreasingBy-ascends n (x ∷ xs) h (suc i) zero d le lt = absurd (omega arith)
-IsNonDecreasingBy-ascends n (x ∷ xs) h (suc i) (suc j) d le lt =
-    IsNonDecreasingBy-ascends (suc x) xs (ascends_from-parts n x xs h).2 i j d (omega arith) (omega arith)
+IsNonDecreasingBy-ascends n xs h i j d le within = elim (cases_lt i j) [
+  | inl lt ↦ omega (arith, IsAscending-ascends n xs h i j d lt within)
+  | inr ge ↦ let same : i ≡ j = omega arith in rw same (omega arith)
+]
 
 pub partitioned_at_most : (c : ℕ) (xs : List ℕ) → ascends_from 0 xs ≡ true → IsPartitionedBy (λ y. nat_le y c) xs
 partitioned_at_most c xs h = IsPartitionedBy-leb (λ y. y) xs c (IsNonDecreasingBy-ascends 0 xs h)
@@ -108,6 +110,18 @@ cuts_ordered xs start past low high le lt before after = elim (cases_lt high low
       absurd (omega arith)
   | inr ge ↦ ge
 ]
+
+-- the last element of an ascending list stands behind what is below it
+pub CutBefore-last : (c : ℕ) (xs : List ℕ) → ascends_from 0 xs ≡ true → 0 < length xs → ((d : ℕ) → get_or xs (length xs - 1) d ≡ c) → CutBefore c xs (length xs - 1)
+CutBefore-last c xs h some last = record {
+  before = λ k d lt.
+      let short : k < length xs - 1 = omega (arith, length-take-le (length xs - 1) xs (omega arith)) in
+      rw (get_or-take (length xs - 1) xs k d short) (omega (arith, last d, IsAscending-ascends 0 xs h k (length xs - 1) d short (omega arith)));
+  behind = λ k d lt.
+      let first : k ≡ 0 = omega (arith, length-drop (length xs - 1) xs) in
+      let same : get_or xs (length xs - 1 + k) d ≡ c = ap (λ i. get_or xs i d) (omega arith) ∙ last d in
+      rw (get_or-drop (length xs - 1) xs k d) (omega (arith, same));
+}
 
 -- a place behind all elements
 pub CutBefore-all : (c : ℕ) (xs : List ℕ) → All (λ x. x < c) xs → CutBefore c xs (length xs)

@@ -1,6 +1,5 @@
 //! The builder, whose list is canonical after each call.
-ghost use Rattle.std.specs.Prelude.{◌≡◌, ℕ, ◌+◌, ◌||◌, ◌&&◌, not, ◌==◌, ◌<◌, ◌≤◌, [], OnOk, OnErr, All, vec_len, length};
-ghost use Rattle.std.specs.Bool.{OnTrue};
+ghost use Rattle.std.specs.Prelude.{◌≡◌, ℕ, ◌+◌, ◌-◌, ◌||◌, ◌&&◌, not, ◌==◌, ◌<◌, ◌≤◌, [], ◌∷◌, OnOk, OnErr, vec_len, length, min};
 ghost use Rattle.std.specs.List.{splice};
 ghost use Rattle.cp_invlist.specs.InversionList.{contains, is_code_point, is_added, IsInversionList};
 ghost use Rattle.cp_invlist.specs.Merge.{IsKept};
@@ -59,9 +58,8 @@ impl CodePointInversionListBuilder {
         self.add32(c as u32)
     }
 
-    /// Adds the code points of the range up to 10FFFF. It takes a binary search and one move of what
-    /// stands behind the range, and constant time but for growth where the range starts behind the last member and doesn't touch
-    /// it.
+    /// Adds the code points of the range up to 10FFFF. Where the range starts behind the last member, it takes constant time but
+    /// for growth. Else it takes a binary search and one move of what stands behind the range.
     pub fn add_range32(&mut self, range: CodePointRange) -> Result<(), NoMemory>
         ensures ok { OnOk result ((d : ℕ) → contains self.new d ≡ (contains self.old d || in_code_points range d)) }
         ensures err { OnErr result (self.new ≡ self.old) }
@@ -69,12 +67,24 @@ impl CodePointInversionListBuilder {
         if range.start > range.end || range.start > LAST_CODE_POINT {
             return Ok(());
         }
-        let past = range.end.min(LAST_CODE_POINT) + 1;
-        let ends = [range.start, past];
-        if self.is_behind_all(range.start) {
-            self.elements.extend_from_slice(&ends)?;
-            return Ok(());
+        let past = past_end(range);
+        match self.elements.last() {
+            Some(last) if range.start < *last => self.join(range)?,
+            Some(last) if range.start == *last => put_last(&mut self.elements, past),
+            _ => self.elements.extend_from_slice(&[range.start, past])?,
         }
+        Ok(())
+    }
+
+    /// Adds a range that starts in front of the last element, with which ranges of the list may become one.
+    fn join(&mut self, range: CodePointRange) -> Result<(), NoMemory>
+        requires some { range.start ≤ range.end }
+        requires within { range.start ≤ 0x10_FFFF }
+        ensures ok { OnOk result ((d : ℕ) → contains self.new d ≡ (contains self.old d || in_code_points range d)) }
+        ensures err { OnErr result (self.new ≡ self.old) }
+    {
+        let past = past_end(range);
+        let ends = [range.start, past];
         let low = cut_before(&self.elements, range.start);
         let high = cut_after(&self.elements, past);
         // An end that lies within a range of members, or touches one, is no end of the joined range.
@@ -201,22 +211,29 @@ impl CodePointInversionListBuilder {
         Ok(())
     }
 
-    /// Whether the number is above all elements.
-    fn is_behind_all(&self, start: u32) -> bool
-        ensures { OnTrue result (All (λ x. x < start) self.now) }
-    {
-        let Some(last) = self.elements.last() else {
-            return true;
-        };
-        *last < start
-    }
-
     /// The set that was built.
     pub fn build(self) -> CodePointInversionList
         ensures list { result ≡ self }
         ensures canonical { IsInversionList result }
     {
         CodePointInversionList::from_elements(self.elements)
+    }
+}
+
+/// The number past the last code point of the range, which has one.
+fn past_end(range: CodePointRange) -> u32
+    ensures { result ≡ min range.end 0x10_FFFF + 1 }
+{
+    range.end.min(LAST_CODE_POINT) + 1
+}
+
+/// Puts the number in place of the last element.
+fn put_last(elements: &mut Vec<u32>, number: u32)
+    requires { 0 < vec_len elements.old }
+    ensures { elements.new.items ≡ splice elements.old.items (vec_len elements.old - 1) (vec_len elements.old) (number ∷ []) }
+{
+    if let Some(last) = elements.last_mut() {
+        *last = number;
     }
 }
 

@@ -1,46 +1,48 @@
-use Rattle.std.proofs.Common.{◌≡◌, ℕ, ◌<◌, arith, subst, List, All, OnOk, ◌||◌, refl}
-use Rattle.std.proofs.lemmas.Bool.{OnTrue_at}
-use Rattle.cp_invlist.specs.InversionList.{contains}
-use Rattle.cp_invlist.specs.Ranges.{in_code_points}
-use Rattle.cp_invlist.specs.CutLaws.{cuts_ordered}
-use Rattle.cp_invlist.proofs.AddRange.{Added, Added-on_ok, Added-list, Added-members, Added-behind}
+use Rattle.std.proofs.Common.{◌≡◌, ◌+◌, ◌<◌, min, arith, All, sym, ap, ◌∙◌}
+use Rattle.cp_invlist.specs.ListLaws.{IsInversionList-parts}
+use Rattle.cp_invlist.specs.CutLaws.{All-above_last}
+use Rattle.cp_invlist.proofs.AddRange.{Added, Added-behind, Added-touching}
 use Rattle.cp_invlist.proofs.builder.CodePointInversionListBuilder.add_range32.Goals as goal
+use Rattle.cp_invlist.proofs.builder.CodePointInversionListBuilder.add_range32.Goals.{in_default-via-in-Some-2+else-range-last-2, in_default-via-in_default}
 
-pub replace-requires-clause-ordered : goal.replace-requires-clause-ordered
-replace-requires-clause-ordered c =
-    let before = rw c.deref.ensures.value at c.cut_before-low.ensures.cut in
-    let after = rw c.deref-2.ensures.value at c.cut_after-high.ensures.cut in
-    cuts_ordered c.self.inside.elements.items c.args.range.start _ _ _ (rw c.deref.ensures.value at c.cut_before-low.ensures.bound)
-    (omega arith) before after
+-- what the list holds after its last range was made longer
+touching : (c : goal.After-put_last) → Added c.self.inside.elements.items c.put_last.new.elements.items c.args.range
+touching c =
+    let item = rw c.deref.ensures.value at c.in-Some.ensures.item in
+    Added-touching c.self.inside.elements.items c.put_last.new.elements.items c.args.range (min c.args.range.end 0x10_FFFF + 1) c.self.invariant
+    (omega arith) (omega arith) (omega arith) (omega arith) (λ d. sym (item.4 (omega arith) d) ∙ sym c.if-range-last-2.true)
+    (rw (sym c.deref.ensures.len, c.deref.ensures.value, c.past_end-past.ensures) at c.put_last.ensures)
 
--- what the list holds after the elements were put in place
-added : (c : goal.After-replace) → OnOk c.replace.result (Added c.self.inside.elements.items c.replace.new.elements.items c.args.range)
-added c =
-    let before = rw c.deref.ensures.value at c.cut_before-low.ensures.cut in
-    let after = rw c.deref-2.ensures.value at c.cut_after-high.ensures.cut in
-    Added-on_ok c.self.inside.elements.items c.replace.new.elements.items _ c.args.range c.replace.result _ _ _ c.self.invariant
-    (omega arith) (omega arith) (omega arith) before after (rw c.deref.ensures.value at c.cut_before-low.ensures.bound)
-    (rw c.deref-2.ensures.value at c.cut_after-high.ensures.bound) refl c.replace.ensures.ok
+pub invariant_of-self : goal.invariant_of-self
+invariant_of-self c = (touching c).list
 
-pub invariant_of-self-2 : goal.invariant_of-self-2
-invariant_of-self-2 c = Added-list c.self.inside.elements.items c.replace.new.elements.items c.args.range c.replace.result c.self.invariant (added c) c.replace.ensures.err
+pub returns-in-Some-2-clause-ok : goal.returns-in-Some-2-clause-ok
+returns-in-Some-2-clause-ok c = rw c.self.view_is at (touching c).members
 
-pub returns-clause-ok : goal.returns-clause-ok
-returns-clause-ok c =
-    subst (λ (ys : List ℕ). OnOk c.replace.result ((d : ℕ) → contains c.replace.new.elements.items d ≡ (contains ys d || in_code_points c.args.range d)))
-    c.self.view_is (Added-members c.self.inside.elements.items c.replace.new.elements.items c.args.range c.replace.result (added c))
+-- all elements are below the range where it is put behind them
+below : (c : goal.In_ok-extend_from_slice-in_default) → All (λ x. x < c.args.range.start) c.self.inside.elements.items
+below c = elim c.in_default.branch [
+  | in_default-via-in-Some-2+else-range-last-2 w ↦
+      let item = rw c.deref.ensures.value at w.in-Some.ensures.item in
+      All-above_last 0 c.args.range.start c.self.inside.elements.items (IsInversionList-parts c.self.inside.elements.items c.self.invariant).0
+      (λ some d. omega (arith, item.4 (omega arith) d, w.if-range-last.false, w.if-range-last-2.false))
+  | in_default-via-in_default w ↦ let item = rw c.deref.ensures.value at w.in_default.ensures.item in λ k d lt. omega arith
+]
+
+same : (c : goal.In_ok-extend_from_slice-in_default) → c.in_default.self-inside.elements.items ≡ c.self.inside.elements.items
+same c = elim c.in_default.branch [
+  | in_default-via-in-Some-2+else-range-last-2 w ↦ ap (λ inside. inside.elements.items) w.self-inside-is
+  | in_default-via-in_default w ↦ ap (λ inside. inside.elements.items) w.self-inside-is
+]
 
 -- what the list holds after both ends were put behind it
-added_behind : (c : goal.In_ok-extend_from_slice) → Added c.self.inside.elements.items c.extend_from_slice.new.self.items c.args.range
-added_behind c =
-    let below : All (λ x. x < c.args.range.start) c.self.inside.elements.items = rw c.self.view_is (OnTrue_at c.if-is_behind_all.true c.is_behind_all.ensures) in
-    Added-behind c.self.inside.elements.items c.extend_from_slice.new.self.items c.args.range _ c.self.invariant
-    (omega arith) (omega arith) (omega arith) below c.in_ok-extend_from_slice.ensures.items
+behind : (c : goal.In_ok-extend_from_slice-in_default) → Added c.self.inside.elements.items c.extend_from_slice.new.self.items c.args.range
+behind c = Added-behind c.self.inside.elements.items c.extend_from_slice.new.self.items c.args.range (min c.args.range.end 0x10_FFFF + 1) c.self.invariant
+    (omega arith) (omega arith) (omega arith) (below c)
+    (rw (same c, c.past_end-past.ensures) at c.in_ok-extend_from_slice-in_default.ensures.items)
 
-pub invariant_of-self-then-is_behind_all : goal.invariant_of-self-then-is_behind_all
-invariant_of-self-then-is_behind_all c = (added_behind c).list
+pub invariant_of-self-in-Continue-branch-2 : goal.invariant_of-self-in-Continue-branch-2
+invariant_of-self-in-Continue-branch-2 c = (behind c).list
 
-pub returns-then-is_behind_all-clause-ok : goal.returns-then-is_behind_all-clause-ok
-returns-then-is_behind_all-clause-ok c =
-    subst (λ (ys : List ℕ). (d : ℕ) → contains c.extend_from_slice.new.self.items d ≡ (contains ys d || in_code_points c.args.range d))
-    c.self.view_is (added_behind c).members
+pub returns-in_ok-extend_from_slice-in_default-clause-ok : goal.returns-in_ok-extend_from_slice-in_default-clause-ok
+returns-in_ok-extend_from_slice-in_default-clause-ok c = rw c.self.view_is at (behind c).members
