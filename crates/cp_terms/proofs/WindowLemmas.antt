@@ -1,7 +1,7 @@
 -- What windows say of sets.
-use Rattle.std.proofs.Common.{◌≡◌, ℕ, ◌+◌, ◌-◌, ◌/◌, ◌%◌, ◌<◌, ◌≤◌, List, Some, length, take, drop, get_or, All, Bor, ap, ◌∙◌, arith}
+use Rattle.std.proofs.Common.{◌≡◌, ℕ, ◌+◌, ◌-◌, ◌/◌, ◌%◌, ◌<◌, ◌≤◌, List, Some, length, take, drop, get_or, Bor, ap, ◌∙◌, arith}
 use Rattle.std.specs.List.{slice_get, slice_range}
-use Rattle.std.proofs.lemmas.Option.{slice_get_within, slice_get-get_or}
+use Rattle.std.proofs.lemmas.Option.{slice_get-get_or}
 use Rattle.std.proofs.lemmas.List.{get_or-drop, get_or-take}
 use Rattle.cp_invlist.specs.InversionList.{contains}
 use Rattle.cp_invlist.specs.declared.set.CodePointInversionList.{CodePointInversionList}
@@ -27,15 +27,6 @@ window_tells xs place c window is le lt = contains-cut c xs window.taken is.with
 pub record IsAhead (xs : List ℕ) (place : ℕ) (window : Window) : Type 0 where
   pub window_there : IsWindow xs place window
   pub ahead : place < window.next
-
-pub window_of : (sets : List (Bor CodePointInversionList)) (windows : List Window) (place index : ℕ) (set : Bor CodePointInversionList) (none : Window) → length windows ≡ length sets → AreWindows sets place windows → All (λ window. place < window.next) windows →
-    slice_get sets index ≡ Some set → IsAhead set.now place (get_or windows index none)
-window_of sets windows place index set none same are ahead at =
-    let within : index < length windows = omega (arith, slice_get_within sets index set at, same) in
-    record {
-      window_there = are index set (get_or windows index none) at (slice_get-get_or windows index none within);
-      ahead = ahead index none within;
-    }
 
 -- the words of an index from a place on make the block there
 pub block_of_words : (xs words part chunk : List ℕ) (place : ℕ) → AreWords xs words → part ≡ slice_range words (place / 64) (length words) → length part + place / 64 ≡ length words → chunk ≡ take 256 part → 256 ≤ length part → place % 64 ≡ 0 → IsBlock xs place (record { words = chunk })

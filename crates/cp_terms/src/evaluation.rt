@@ -1,5 +1,5 @@
 //! The set that a term stands for.
-ghost use Rattle.std.specs.Prelude.{◌≡◌, ℕ, ◌+◌, ◌%◌, ◌<◌, ◌≤◌, ◌&&◌, Bool, map, length, All, IfOk, OnOk};
+ghost use Rattle.std.specs.Prelude.{◌≡◌, ℕ, ◌+◌, ◌%◌, ◌<◌, ◌≤◌, ◌&&◌, Bool, map, length, IfOk, OnOk};
 ghost use Rattle.cp_invlist.specs.InversionList.{contains, is_code_point};
 ghost use Rattle.cp_terms.specs.Terms.{value_of, holds_at};
 ghost use Rattle.cp_terms.specs.Windows.{AreWindows};
@@ -60,7 +60,6 @@ fn write_set(
     requires start { start + 0x4000 ≤ 0x11_0000 }
     requires windows_each { length windows.now ≡ length sets.now }
     requires windows { AreWindows sets.now start windows.now }
-    requires ahead { All (λ window. start < window.next) windows.now }
     requires before { AreBefore start changes.old }
     ensures before { OnOk result (AreBefore (start + 0x4000) changes.new) }
     ensures members { OnOk result ((m : ℕ → Bool) → TellBelow m start changes.old →
@@ -70,7 +69,7 @@ fn write_set(
         // The set that there is not is empty.
         return changes.turn(complemented, start);
     };
-    let window = windows[index];
+    let window = windows[index].moved(set, start);
     changes.turn(window.is_inside() != complemented, start)?;
     changes.extend(window.elements_before(set, start + STRETCH))
 }

@@ -3,13 +3,13 @@ ghost use Rattle.cp_terms.specs.Windows.{AreKnown};
 
 use crate::block::Block;
 use crate::step::Way;
-use crate::windows::read_block;
+use crate::windows::{read_block, stretch_words};
 use cp_invlist::{CodePointInversionList, Window};
 
 /// How many code points are looked at with one shortened term.
 pub(crate) const STRETCH: u32 = 256 * 64;
 
-/// The sets of a term on a stretch, each with a window that is moved on to its start.
+/// The sets of a term on a stretch, each with a window that is moved on to its start, or towards it.
 #[derive(Clone, Copy)]
 pub(crate) struct Stretch<'a> {
     pub(crate) sets: &'a [&'a CodePointInversionList],
@@ -28,10 +28,7 @@ impl Stretch<'_> {
     fn words(&self, index: usize) -> Option<&[u64; 256]>
         ensures { IfSome result (λ words. (i j : ℕ) → i < 256 → j < 64 → word_has words.now i j ≡ stretch_has self.now i j index) }
     {
-        let set = self.sets.get(index)?;
-        set.words()
-            .get(self.start as usize / 64..)?
-            .first_chunk::<256>()
+        stretch_words(self.sets.get(index)?, self.start)
     }
 
     /// Reads the block of the set with the index, the empty one where there is none.
@@ -43,7 +40,10 @@ impl Stretch<'_> {
             return;
         }
         match self.sets.get(index) {
-            Some(set) => read_block(block, set, self.windows[index], self.start),
+            Some(set) => {
+                let window = self.windows[index].moved(set, self.start);
+                read_block(block, set, window, self.start);
+            }
             None => *block = Block::EMPTY,
         }
     }

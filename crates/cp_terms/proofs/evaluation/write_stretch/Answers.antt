@@ -49,9 +49,6 @@ turn-requires-clause-before c = c.requires.before
 pub write_set-requires-clause-windows : goal.write_set-requires-clause-windows
 write_set-requires-clause-windows c = c.move_all.ensures.windows
 
-pub write_set-requires-clause-ahead : goal.write_set-requires-clause-ahead
-write_set-requires-clause-ahead c = c.move_all.ensures.ahead
-
 pub returns-in-Constant-clause-before : goal.returns-in-Constant-clause-before
 returns-in-Constant-clause-before c = on_ok_weaker c.turn.result (before_later (c.args.start + 1) (c.args.start + 0x4000) c.turn.new.self (omega arith)) c.turn.ensures.before
 

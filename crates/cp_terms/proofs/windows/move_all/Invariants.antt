@@ -1,6 +1,4 @@
-use Rattle.std.proofs.Common.{◌≡◌, ◌<◌, length}
-use Rattle.std.specs.List.{AllWithin}
-use Rattle.cp_invlist.specs.declared.window.Window.{Window}
+use Rattle.std.proofs.Common.{◌≡◌, length}
 use Rattle.cp_terms.specs.Windows.{AreWindows}
 use Rattle.cp_terms.proofs.windows.move_all.Given as goal
 
@@ -8,5 +6,4 @@ abbrev pub invariant-loop-index : goal.invariant-loop-index
 invariant-loop-index l = record {
   one_each : length l.windows ≡ length l.sets;
   windows : AreWindows l.sets l.place l.windows;
-  ahead : AllWithin (λ (window : Window). l.place < window.next) l.windows 0 l.index;
 }
