@@ -1,5 +1,5 @@
 //! The builder, whose list is canonical after each call.
-ghost use Rattle.std.specs.Prelude.{◌≡◌, ℕ, ◌+◌, ◌-◌, ◌||◌, ◌&&◌, not, ◌==◌, ◌<◌, ◌≤◌, [], ◌∷◌, OnOk, OnErr, vec_len, length, min};
+ghost use Rattle.std.specs.Prelude.{◌≡◌, ℕ, ◌+◌, ◌-◌, ◌||◌, ◌&&◌, not, ◌==◌, ◌<◌, ◌≤◌, [], ◌∷◌, ◌++◌, OnOk, OnErr, vec_len, length, min};
 ghost use Rattle.std.specs.List.{splice};
 ghost use Rattle.cp_invlist.specs.InversionList.{contains, is_code_point, is_added, IsInversionList};
 ghost use Rattle.cp_invlist.specs.Merge.{IsKept};
@@ -71,7 +71,7 @@ impl CodePointInversionListBuilder {
         match self.elements.last() {
             Some(last) if range.start < *last => self.join(range)?,
             Some(last) if range.start == *last => put_last(&mut self.elements, past),
-            _ => self.elements.extend_from_slice(&[range.start, past])?,
+            _ => push_both(&mut self.elements, range.start, past)?,
         }
         Ok(())
     }
@@ -225,6 +225,17 @@ fn past_end(range: CodePointRange) -> u32
     ensures { result ≡ min range.end 0x10_FFFF + 1 }
 {
     range.end.min(LAST_CODE_POINT) + 1
+}
+
+/// Puts both ends of a range behind all elements. Room for both is asked for first, so that neither is put alone.
+fn push_both(elements: &mut Vec<u32>, start: u32, past: u32) -> Result<(), NoMemory>
+    ensures ok { OnOk result (elements.new.items ≡ elements.old.items ++ start ∷ past ∷ []) }
+    ensures err { OnErr result (elements.new.items ≡ elements.old.items) }
+{
+    elements.reserve(2)?;
+    elements.push(start)?;
+    elements.push(past)?;
+    Ok(())
 }
 
 /// Puts the number in place of the last element.
