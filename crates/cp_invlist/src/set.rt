@@ -103,13 +103,13 @@ impl CodePointInversionList {
         }
     }
 
-    /// Keeps an index of a list of 8,192 elements or more beside it: a bit for each code point, 139 kB. The set stays as it is.
-    /// With an index a member is found by one read, and set expressions don't go along the list (`cp_terms`). `NoMemory` says
-    /// that a request for memory was refused.
+    /// Keeps an index of a list of 8,192 elements or more beside it: a bit for each code point, 139 kB. The set stays as it is,
+    /// and so does an index that is kept already. With an index a member is found by one read, and set expressions don't go
+    /// along the list (`cp_terms`). `NoMemory` says that a request for memory was refused.
     pub fn index(&mut self, alloc: Global) -> Result<(), NoMemory>
         ensures { self.new ≡ self.old }
     {
-        if self.elements.len() >= MANY_ELEMENTS {
+        if self.words.is_empty() && self.elements.len() >= MANY_ELEMENTS {
             self.words = all_words(alloc, self)?;
         }
         Ok(())
