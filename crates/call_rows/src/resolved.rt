@@ -27,7 +27,7 @@ enum Expected {
 /// Whether the property resolves to what is expected.
 fn is_expected(resolution: &Resolution<'_>, expected: Expected) -> bool {
     match (resolution, expected) {
-        (Resolution::Found(source, falsy), Expected::Found(list, negates)) => {
+        (Resolution::Found { source, falsy }, Expected::Found(list, negates)) => {
             *falsy == negates && source.list().get_inversion_list() == list
         }
         (Resolution::Unknown, Expected::Unknown) => true,

@@ -55,7 +55,7 @@ type Escape = (&'static str, u32, usize, &'static str);
 impl Row<CodePointInversionList> for Escape {
     fn holds(&self, alloc: Global, white_space: &CodePointInversionList) -> bool {
         let (text, first, count, rest) = *self;
-        match read_escape(alloc, white_space, Around::Bracket(true), text) {
+        match read_escape(alloc, white_space, Around::Bracket { several: true }, text) {
             Ok((spelled, behind)) => behind == rest && spells(&spelled, first, count),
             Err(_) => false,
         }
@@ -147,10 +147,10 @@ impl Row<CodePointInversionList> for Stopped {
 }
 
 /// An escape in a bracket, where an escape of several numbers fits.
-const IN_BRACKET: Unit = Unit::Escape(Around::Bracket(true));
+const IN_BRACKET: Unit = Unit::Escape(Around::Bracket { several: true });
 
 /// An escape in a bracket, where an escape of several numbers does not fit.
-const IN_RANGE: Unit = Unit::Escape(Around::Bracket(false));
+const IN_RANGE: Unit = Unit::Escape(Around::Bracket { several: false });
 
 /// An escape in a string.
 const IN_STRING: Unit = Unit::Escape(Around::String);

@@ -17,8 +17,11 @@ use uset_grammar::laws::units_by_parts;
 pub enum Around {
     /// In a string, where no surrogate can stand.
     String,
-    /// In a bracket, and whether an escape of several numbers fits there.
-    Bracket(bool),
+    /// In a bracket.
+    Bracket {
+        /// Whether an escape of several numbers fits there.
+        several: bool,
+    },
 }
 
 /// What an escape spells.
@@ -106,7 +109,7 @@ fn read_number_behind<'a>(
                     return Err(Stop::Fault(Kind::InvalidEscape, begin));
                 }
             }
-            Around::Bracket(several) => {
+            Around::Bracket { several } => {
                 if !several {
                     return Err(Stop::Fault(Kind::UnexpectedChar('\\'), begin));
                 }

@@ -35,8 +35,10 @@ pub(crate) fn set_of<'v>(resolution: Resolution<'v>, negated: bool) -> Result<Na
     ensures { IsSetOfProperty resolution.entry negated result }
 {
     match resolution {
-        Resolution::Found(source, falsy) if falsy == negated => Ok(NamedSet::CodePoints(source)),
-        Resolution::Found(source, _) => Ok(NamedSet::Complement(source)),
+        Resolution::Found { source, falsy } if falsy == negated => {
+            Ok(NamedSet::CodePoints(source))
+        }
+        Resolution::Found { source, .. } => Ok(NamedSet::Complement(source)),
         Resolution::Unknown => Err(Kind::UnknownProperty),
         Resolution::Lacking => Err(Kind::Internal),
     }

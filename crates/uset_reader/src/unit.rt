@@ -105,7 +105,7 @@ fn read_escaped<'v, 'a>(
     ensures shorter { IfOk result (λ p. length p.1.now < length text.now) }
 {
     kinds_of_units();
-    let around = Around::Bracket(several);
+    let around = Around::Bracket { several };
     let (spelled, rest) = read_escape(alloc, syntax.white_space, around, text)?;
     Ok((escape_item(spelled), rest))
 }

@@ -1,6 +1,5 @@
 pub mod Keys
 pub mod Decimal
-pub mod Joining
 pub mod Resolution
 pub mod Sources
 pub mod Made

@@ -17,8 +17,12 @@ use uset_gather::Source;
 /// What a key and a value resolve to.
 #[derive(Drop)]
 pub enum Resolution<'a> {
-    /// Code points, and whether the value is a word for falsehood, which negates.
-    Found(Source<'a>, bool),
+    /// Code points.
+    Found {
+        source: Source<'a>,
+        /// Whether the value is a word for falsehood, which negates.
+        falsy: bool,
+    },
     /// Nothing.
     Unknown,
     /// A table is absent that the key and the value ask.
@@ -58,7 +62,10 @@ impl<'a> Resolver<'a> {
             return Ok(Resolution::Unknown);
         };
         match of_binary(self.database, key.as_bytes()) {
-            Some(set) => Ok(Resolution::Found(Source::Lent(set), falsy)),
+            Some(set) => Ok(Resolution::Found {
+                source: Source::Lent(set),
+                falsy,
+            }),
             None => Ok(Resolution::Unknown),
         }
     }
@@ -77,7 +84,10 @@ impl<'a> Resolver<'a> {
             return self.resolve_word(alloc, key, value);
         };
         match self.of_value(alloc, &asked, value)? {
-            Some(source) => Ok(Resolution::Found(source, false)),
+            Some(source) => Ok(Resolution::Found {
+                source,
+                falsy: false,
+            }),
             None if lacks_table(self.database, &asked, value) => Ok(Resolution::Lacking),
             None => Ok(Resolution::Unknown),
         }
@@ -98,7 +108,10 @@ impl<'a> Resolver<'a> {
             return self.resolve_value(alloc, key, value);
         }
         match self.of_key(alloc, key.as_bytes())? {
-            Some(source) => Ok(Resolution::Found(source, false)),
+            Some(source) => Ok(Resolution::Found {
+                source,
+                falsy: false,
+            }),
             None => Ok(Resolution::Unknown),
         }
     }
