@@ -4,8 +4,10 @@
 
 Each row is an input with so many lines (1,000 where nothing is said) of which the answer is small: another script, other
 script extensions or another group of categories in each, over a map that changes at each code point; and one variable
-or two, sets of few strings that are long and begin alike, or such strings. What the tables and variables take alone is taken off. Behind it
-stands how long an input of 8 MB of such lines would take, where a map or the strings have half of it.
+or two, sets of few strings that are long and begin alike, or such strings. What the tables and variables take alone is
+taken off. Behind it stands how long an input of 8 MB of such lines would take, where a map or the strings have half of
+it. Lists of extensions and groups are forgotten before their names come again; those of scripts are kept, so that no
+more of these lines cost as much than there are names.
 """
 
 import sys
@@ -74,20 +76,21 @@ def long_texts(variables):
 
 
 def cases(count):
-    """What each row shows, what stands before its lines, how many of these are the most, and a line."""
-    most = min(count, MOST_NAMES)
-    property_line = lambda key: lambda number: f"pat [[:{key}{name(number)}:]&[a]]\n"
+    """What each row shows, what stands before its lines, how many lines can cost as much, and a line."""
+    names = min(count, MOST_NAMES)
+    property_line = lambda key: lambda number: f"pat [[:{key}{name(number % names)}:]&[a]]\n"
+    every = HALF
     return [
-        ("another script in each line", scripts(most), most, property_line("sc=")),
-        ("other script extensions in each line", extensions(most), most, property_line("scx=")),
-        ("another group of categories in each line", categories(most), most, property_line("gc=")),
-        ("a variable of one long string", long_strings("v", 1), count, lambda number: "pat [$v&[a]]\n"),
-        ("a variable of 63 long strings", long_strings("v", 63), count, lambda number: "pat [$v&[a]]\n"),
-        ("two variables of 10 long strings, none in common", long_strings("vw", 10), count, lambda number: "pat [$v&$w]\n"),
-        ("two variables of 63 long strings, none in common", long_strings("vw", 63), count, lambda number: "pat [$v&$w]\n"),
-        ("a long string", long_texts("s"), count, lambda number: "pat [[$s]&[a]]\n"),
-        ("two long strings", long_texts("st"), count, lambda number: "pat [[$s]&[$t]]\n"),
-        ("a long string, named 1,000 times", long_texts("s"), count, lambda number: "pat [[" + "$s" * 1_000 + "]&[a]]\n"),
+        ("another script in each line", scripts(names), MOST_NAMES, property_line("sc=")),
+        ("other script extensions in each line", extensions(names), every, property_line("scx=")),
+        ("another group of categories in each line", categories(names), every, property_line("gc=")),
+        ("a variable of one long string", long_strings("v", 1), every, lambda number: "pat [$v&[a]]\n"),
+        ("a variable of 63 long strings", long_strings("v", 63), every, lambda number: "pat [$v&[a]]\n"),
+        ("two variables of 10 long strings, none in common", long_strings("vw", 10), every, lambda number: "pat [$v&$w]\n"),
+        ("two variables of 63 long strings, none in common", long_strings("vw", 63), every, lambda number: "pat [$v&$w]\n"),
+        ("a long string", long_texts("s"), every, lambda number: "pat [[$s]&[a]]\n"),
+        ("two long strings", long_texts("st"), every, lambda number: "pat [[$s]&[$t]]\n"),
+        ("a long string, named 1,000 times", long_texts("s"), every, lambda number: "pat [[" + "$s" * 1_000 + "]&[a]]\n"),
     ]
 
 
@@ -96,13 +99,12 @@ def main():
     count = int(sys.argv[2]) if len(sys.argv) > 2 else 1_000
     print("| lines | s | ms each | s for 8 MB |")
     print("|---|---|---|---|")
-    for label, before, lines, line in cases(count):
+    for label, before, most, line in cases(count):
+        lines = min(count, most)
         start, _ = seconds(program, before)
         taken, _ = seconds(program, before + "".join(line(number) for number in range(lines)))
         each = max(taken - start, 0.0) / lines
-        whole = HALF // len(line(0).encode("utf-8"))
-        if ":" in line(0):
-            whole = min(whole, MOST_NAMES)
+        whole = min(most, HALF // len(line(0).encode("utf-8")))
         print(f"| {lines:,}: {label} | {taken - start:.2f} | {each * 1e3:.3f} | {each * whole:.0f} |", flush=True)
 
 
