@@ -77,6 +77,8 @@ impl CodePointInversionListBuilder {
     }
 
     /// Adds a range that starts in front of the last element, with which ranges of the list may become one.
+    // Apart, so that the ways that are short become part of the loops that add ranges in order.
+    #[inline(never)]
     fn join(&mut self, range: CodePointRange) -> Result<(), NoMemory>
         requires some { range.start ≤ range.end }
         requires within { range.start ≤ 0x10_FFFF }

@@ -1,5 +1,5 @@
 //! The set: its list, and what it answers.
-ghost use Rattle.std.specs.Prelude.{◌≡◌, ℕ, ◌≤◌, ◌↔◌, IsTrue, IsErrOf, IfOk, OnOk, IfNone, Some, nat_eq, [], ◌∷◌, List};
+ghost use Rattle.std.specs.Prelude.{◌≡◌, ℕ, ◌≤◌, ◌↔◌, IsTrue, IsErrOf, IfOk, OnOk, IfNone, Some, nat_eq, nat_le, length, [], ◌∷◌, List};
 ghost use Rattle.std.specs.Cmp.Lexicographic.{pointwise};
 ghost use Rattle.cp_invlist.specs.Fault.{fault_of, IsFaultAt};
 ghost use Rattle.cp_invlist.specs.Size.{count_members, SumsTo};
@@ -34,7 +34,7 @@ impl Drop for CodePointInversionList {
 }
 
 /// From so many elements on it takes about as much time to go along a list as along the words of all code points.
-const MANY_ELEMENTS: usize = 1 << 13;
+const LONG_LIST: usize = 1 << 13;
 
 impl Model for CodePointInversionList {
     ghost use Rattle.std.specs.Prelude.{ℕ, List};
@@ -103,13 +103,20 @@ impl CodePointInversionList {
         }
     }
 
-    /// Keeps an index of a list of 8,192 elements or more beside it: a bit for each code point, 139 kB. The set stays as it is,
-    /// and so does an index that is kept already. With an index a member is found by one read, and set expressions don't go
-    /// along the list (`cp_terms`). `NoMemory` says that a request for memory was refused.
+    /// Whether the list has 8,192 elements or more. From there on set expressions (`cp_terms`) are found faster with an index.
+    pub fn is_long(&self) -> bool
+        ensures { result ≡ nat_le 8192 (length self.now) }
+    {
+        self.elements.len() >= LONG_LIST
+    }
+
+    /// Keeps an index beside the list: a bit for each code point, 139 kB. The set stays as it is. With an index a member is
+    /// found by one read, and set expressions go along the bits in place of the list (`cp_terms`), which pays where it
+    /// `is_long`. `NoMemory` says that a request for memory was refused.
     pub fn index(&mut self, alloc: Global) -> Result<(), NoMemory>
         ensures { self.new ≡ self.old }
     {
-        if self.words.is_empty() && self.elements.len() >= MANY_ELEMENTS {
+        if self.words.is_empty() {
             self.words = all_words(alloc, self)?;
         }
         Ok(())

@@ -69,7 +69,7 @@ impl Window {
 
     /// Which of the 64 code points from the place on, up to 10FFFF, are members. The window is one of the same set at the place,
     /// whose next element isn't before the place, and moves on behind them.
-    pub fn word(&mut self, set: &CodePointInversionList, place: u32) -> u64
+    pub(crate) fn word(&mut self, set: &CodePointInversionList, place: u32) -> u64
         requires place { place + 64 ≤ 0x11_0000 }
         requires window { IsWindow set.now place self.old }
         requires ahead { place ≤ self.old.next }

@@ -106,7 +106,7 @@ impl CodePointInversionListAndStringList {
         &self.code_points
     }
 
-    /// Keeps an index of the code points, where they have many ranges (`CodePointInversionList::index`). The set stays as it is.
+    /// Keeps an index of the code points (`CodePointInversionList::index`). The set stays as it is.
     pub fn index(&mut self, alloc: Global) -> Result<(), NoMemory>
         ensures { self.new ≡ self.old }
     {

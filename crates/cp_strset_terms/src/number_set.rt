@@ -126,7 +126,9 @@ fn pieces_of(alloc: Global, numbers: &[usize]) -> Result<Vec<CodePointInversionL
     let mut pieces = Vec::new(alloc);
     for index in 0..count_pieces(numbers) {
         let mut piece = piece_of(alloc, numbers, index)?;
-        piece.index(alloc)?;
+        if piece.is_long() {
+            piece.index(alloc)?;
+        }
         pieces.push(piece)?;
     }
     Ok(pieces)

@@ -21,9 +21,11 @@ fn first_difference(
     (0..0x11_0100).find(|number| first.contains32(*number) != second.contains32(*number))
 }
 
-/// What a set has once it was asked for an index.
+/// What a set has once it was asked for an index twice.
 #[derive(PartialEq, Debug, Drop)]
 struct Indexed {
+    /// Whether the list is long.
+    is_long: bool,
     /// How many words there are.
     words: usize,
     /// The first number that only the set or its list has.
@@ -39,31 +41,33 @@ fn by_index(alloc: Global, place: u32, count: u32) -> Option<Indexed> {
     let Ok(mut set) = plain.copy(alloc) else {
         return None;
     };
-    let Ok(()) = set.index(alloc) else {
+    if set.index(alloc).is_err() || set.index(alloc).is_err() {
         return None;
-    };
+    }
     Some(Indexed {
+        is_long: set.is_long(),
         words: set.words().len(),
         difference: first_difference(&set, &plain),
         is_same: set == plain,
     })
 }
 
-/// Where the first range of a set is, how many ranges it has, and how many words its index.
-const SIZES: &[(u32, u32, usize)] = &[
-    (0, 0, 0),
-    (0x61, 1, 0),
-    (0, 4_095, 0),
-    (0, 4_096, 17_408),
+/// Where the first range of a set is, how many ranges it has, and whether its list is long.
+const SIZES: &[(u32, u32, bool)] = &[
+    (0, 0, false),
+    (0x61, 1, false),
+    (0, 4_095, false),
+    (0, 4_096, true),
     // The last range is the last code point.
-    (0x10_FFFF - 3 * 19_999, 20_000, 17_408),
+    (0x10_FFFF - 3 * 19_999, 20_000, true),
 ];
 
 #[test]
 fn an_index_tells_the_members_of_the_list(rt: HostRuntime) {
-    for (place, count, words) in SIZES {
+    for (place, count, is_long) in SIZES {
         let expected = Indexed {
-            words: *words,
+            is_long: *is_long,
+            words: 17_408,
             difference: None,
             is_same: true,
         };
@@ -91,11 +95,11 @@ fn indexed_with_strings(alloc: Global, count: u32) -> Option<(usize, bool)> {
 
 #[test]
 fn a_set_with_strings_has_the_index_of_its_code_points(rt: HostRuntime) {
-    for (count, words) in [(1, 0), (4_096, 17_408)] {
+    for count in [1, 4_096] {
         assert_equal(
             &rt,
             indexed_with_strings(rt.alloc(), count),
-            Some((words, true)),
+            Some((17_408, true)),
         );
     }
 }

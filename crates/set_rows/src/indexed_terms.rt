@@ -68,7 +68,9 @@ fn indexed(alloc: Global, multiples: Multiples) -> Result<CodePointInversionList
         }
     }
     let mut set = builder.build();
-    set.index(alloc)?;
+    if set.is_long() {
+        set.index(alloc)?;
+    }
     Ok(set)
 }
 

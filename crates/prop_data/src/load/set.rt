@@ -68,7 +68,9 @@ impl OpenSet {
         ensures { OnOk result (TakesFinished (OpenTable.Set self) database.old database.new) }
     {
         let mut set = self.builder.build();
-        set.index(alloc)?;
+        if set.is_long() {
+            set.index(alloc)?;
+        }
         database.insert_set(self.table, set)
     }
 }
