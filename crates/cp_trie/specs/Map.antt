@@ -13,6 +13,10 @@ pub record CodePointMap (V : Type 0) : Type 0 where
 abbrev pub value_at : {V : Type 0} → CodePointMap V → ℕ → V
 value_at m c = value_in m.runs m.error_value c
 
+-- the number is a code point, and its value passes the test
+abbrev pub passes_at : {V : Type 0} → (V → Bool) → CodePointMap V → ℕ → Bool
+passes_at test m c = is_code_point c && test (value_at m c)
+
 -- the number is a code point, and its value is equal to this one by the test
 abbrev pub has_value : {V : Type 0} → (V → V → Bool) → CodePointMap V → V → ℕ → Bool
 has_value eq m v c = is_code_point c && eq (value_at m c) v

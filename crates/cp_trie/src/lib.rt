@@ -11,9 +11,11 @@ mod runs;
 mod table;
 mod trie;
 mod value;
+mod value_test;
 
 pub use error::{ConvertError, TrieError, ValueError};
 pub use mapped::TrieRangesMapped;
 pub use ranges::{CodePointMapRange, TrieRanges};
 pub use trie::CodePointTrie;
 pub use value::TrieValue;
+pub use value_test::{IsValue, ValueTest};

@@ -2,7 +2,7 @@
 ghost use Rattle.std.specs.Prelude.{◌≡◌, ℕ, ◌+◌, ◌<◌, ◌≤◌, List, None, IfOk};
 ghost use Rattle.std.specs.Iterator.{IsFinite, Drains};
 ghost use Rattle.cp_invlist.specs.InversionList.{contains};
-ghost use Rattle.cp_trie.specs.Map.{value_at, has_value};
+ghost use Rattle.cp_trie.specs.Map.{value_at, has_value, passes_at};
 ghost use Rattle.cp_trie.specs.Mapped.{TakesEachValue, IsFunctionOnValues, AreMappedRuns};
 ghost use Rattle.cp_trie.specs.Runs.{value_in, AreMaximalRuns};
 ghost use Rattle.cp_trie.specs.Faults.{first_fault, AnswersFault};
@@ -14,6 +14,7 @@ use crate::pages::Pages;
 use crate::ranges::{CodePointMapRange, TrieRanges};
 use crate::runs::{Runs, joined};
 use crate::value::TrieValue;
+use crate::value_test::{IsValue, ValueTest};
 use cp_invlist::{
     CodePointInversionList, CodePointInversionListBuilder, LAST_CODE_POINT, NoMemory, Steps,
 };
@@ -185,6 +186,25 @@ impl<T: TrieValue> CodePointTrie<T> {
         TrieRangesMapped::new(self.runs(), map)
     }
 
+    /// The code points whose values pass the test, gathered in one pass over the runs. The test stays the same test. `NoMemory`
+    /// says that a request for memory was refused.
+    pub fn get_set_where<P: ValueTest<T>>(
+        &self,
+        alloc: Global,
+        test: &mut P,
+    ) -> Result<CodePointInversionList, NoMemory>
+        ensures set { IfOk result (λ set. (c : ℕ) → contains set c ≡ passes_at (P.passes test.old) self.now c) }
+        ensures same { P.passes test.new ≡ P.passes test.old }
+    {
+        let mut builder = CodePointInversionListBuilder::new(alloc);
+        for run in self.runs() {
+            if test.passes(run.value) {
+                builder.add_range32(run.range)?;
+            }
+        }
+        Ok(builder.build())
+    }
+
     /// The code points with the value, gathered in one pass over the runs.
     pub fn get_set_for_value(
         &self,
@@ -193,13 +213,7 @@ impl<T: TrieValue> CodePointTrie<T> {
     ) -> Result<CodePointInversionList, NoMemory>
         ensures { IfOk result (λ set. (c : ℕ) → contains set c ≡ has_value T.eq self.now value c) }
     {
-        let mut builder = CodePointInversionListBuilder::new(alloc);
-        for run in self.runs() {
-            if run.value == value {
-                builder.add_range32(run.range)?;
-            }
-        }
-        Ok(builder.build())
+        self.get_set_where(alloc, &mut IsValue { value })
     }
 
     /// An equal map.

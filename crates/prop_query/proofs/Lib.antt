@@ -1,6 +1,5 @@
 mod AnswersLemmas
 mod FoundLemmas
-mod GatheredLemmas
 mod PassingLemmas
 mod ScriptLemmas
 mod UnpackedLemmas

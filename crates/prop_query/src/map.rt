@@ -18,8 +18,8 @@ ghost use Rattle.prop_query.specs.Maps.{lacks_value, is_in_group, unpacked_at};
 use crate::ranges::{RangesForGroup, RangesForOthers, RangesForValue};
 use crate::set::CodePointSetData;
 use crate::value::values_of;
-use cp_invlist::laws::{one_list_of_ranges, ranges_hold_members};
-use cp_invlist::{CodePointInversionListBuilder, NoMemory, Steps};
+use cp_invlist::laws::one_list_of_ranges;
+use cp_invlist::{NoMemory, Steps};
 use cp_trie::{CodePointTrie, ConvertError, TrieRanges, TrieRangesMapped, TrieValue};
 use prop_data::{DataError, PropertyDatabase, TableName};
 use prop_values::{EnumeratedProperty, GeneralCategory, GeneralCategoryGroup};
@@ -232,17 +232,13 @@ impl<'a> CodePointMapDataBorrowed<'a, GeneralCategory> {
     pub fn get_set_for_value_group(
         self,
         alloc: Global,
-        value: GeneralCategoryGroup,
+        mut value: GeneralCategoryGroup,
     ) -> Result<CodePointSetData, NoMemory>
         ensures { IfOk result (λ set. (c : ℕ) →
             contains set c ≡ is_in_group (map_in self.entry) value c) }
     {
-        ranges_hold_members();
-        let mut builder = CodePointInversionListBuilder::new(alloc);
-        for range in self.iter_ranges_for_group(value) {
-            builder.add_range32(range)?;
-        }
-        Ok(CodePointSetData::from_code_point_inversion_list(builder.build()))
+        let set = self.trie.get_set_where(alloc, &mut value)?;
+        Ok(CodePointSetData::from_code_point_inversion_list(set))
     }
 
     /// The maximal ranges of the code points whose general category is in the group, in order.

@@ -1,38 +1,13 @@
 //! The walks over the maximal ranges of code points whose values in a map pass a test.
-ghost use Rattle.std.specs.Prelude.{◌≡◌, Bool, not};
+ghost use Rattle.std.specs.Prelude.{◌≡◌, not};
 ghost use Rattle.std.specs.Iterator.{YieldsFirst, item_count};
 ghost use Rattle.prop_values.specs.Groups.{has};
 ghost use Rattle.prop_query.specs.Passing.{passing, grown};
 
 use cp_invlist::CodePointRange;
-use cp_trie::{TrieRanges, TrieValue};
+use cp_trie::{IsValue, TrieRanges, TrieValue, ValueTest};
 use prop_values::{GeneralCategory, GeneralCategoryGroup};
 use std::marker::Model;
-
-/// A test of values.
-pub(crate) trait ValueTest<T> {
-    /// Whether a value passes the test.
-    ghost passes: { Self → T → Bool };
-
-    /// Whether the value passes. The test may keep what it finds, and stays the same test.
-    fn passes(&mut self, value: T) -> bool
-        ensures value { result ≡ passes self.old value }
-        ensures same { passes self.new ≡ passes self.old };
-}
-
-/// Passed by one value.
-#[derive(Clone, Copy)]
-struct Is<T> {
-    value: T,
-}
-
-impl<T: TrieValue> ValueTest<T> for Is<T> {
-    ghost passes = { λ test value. T.eq value test.value };
-
-    fn passes(&mut self, value: T) -> bool {
-        value == self.value
-    }
-}
 
 /// Passed by all values but one.
 #[derive(Clone, Copy)]
@@ -45,14 +20,6 @@ impl<T: TrieValue> ValueTest<T> for IsNot<T> {
 
     fn passes(&mut self, value: T) -> bool {
         value != self.value
-    }
-}
-
-impl ValueTest<GeneralCategory> for GeneralCategoryGroup {
-    ghost passes = { has };
-
-    fn passes(&mut self, value: GeneralCategory) -> bool {
-        self.contains(value)
     }
 }
 
@@ -92,7 +59,7 @@ pub(crate) fn next_range<T: TrieValue, P: ValueTest<T>>(
 #[derive(Drop)]
 pub struct RangesForValue<'a, T: TrieValue> {
     runs: TrieRanges<'a, T>,
-    test: Is<T>,
+    test: IsValue<T>,
 }
 
 impl<'a, T: TrieValue> Model for RangesForValue<'a, T> {
@@ -111,7 +78,7 @@ impl<'a, T: TrieValue> RangesForValue<'a, T> {
     {
         RangesForValue {
             runs,
-            test: Is { value },
+            test: IsValue { value },
         }
     }
 }

@@ -12,12 +12,11 @@ mod extensions;
 mod ranges;
 
 use cp_invlist::laws::{one_list_of_ranges, ranges_hold_members};
-use cp_invlist::{
-    CodePointInversionList, CodePointInversionListBuilder, LAST_CODE_POINT, NoMemory,
-};
+use cp_invlist::{CodePointInversionList, LAST_CODE_POINT, NoMemory};
 pub use extensions::{ScriptExtensionsIter, ScriptExtensionsSet};
 use prop_data::{DataError, PropertyDatabase, ScriptWithExtensionsProperty, TableName};
 use prop_values::{Script, ScriptWithExt};
+use ranges::HasScript;
 pub use ranges::ScriptExtensionsRanges;
 use std::alloc::Global;
 
@@ -172,11 +171,8 @@ impl<'a> ScriptWithExtensionsBorrowed<'a> {
     ) -> Result<CodePointInversionList, NoMemory>
         ensures { IfOk result (λ set. (c : ℕ) → contains set c ≡ has_script (table_of self.entry) script c) }
     {
-        let mut builder = CodePointInversionListBuilder::new(alloc);
-        for range in self.get_script_extensions_ranges(script) {
-            builder.add_range32(range)?;
-        }
-        Ok(builder.build())
+        let mut test = HasScript::new(self, script);
+        self.property.script_trie().get_set_where(alloc, &mut test)
     }
 
     /// The scripts of the list at the index in the low ten bits of the number.

@@ -9,7 +9,7 @@ ghost use Rattle.prop_values.specs.declared.category.GeneralCategory.{GeneralCat
 use crate::category::GeneralCategory;
 use crate::property::ParseableEnumeratedProperty;
 use crate::tables::NamesTable;
-use cp_trie::{TrieValue, ValueError};
+use cp_trie::{TrieValue, ValueError, ValueTest};
 use std::marker::Model;
 
 /// A set of general categories (UAX 44, section 5.7.1). As a number it has the bit of each of its categories, and no
@@ -465,6 +465,14 @@ impl TrieValue for GeneralCategoryGroup {
 
     fn to_u32(self) -> u32 {
         u32::from(number_of_bits(&PACKINGS, self.0))
+    }
+}
+
+impl ValueTest<GeneralCategory> for GeneralCategoryGroup {
+    ghost passes = { has };
+
+    fn passes(&mut self, value: GeneralCategory) -> bool {
+        self.contains(value)
     }
 }
 

@@ -5,8 +5,8 @@ ghost use Rattle.cp_trie.specs.Map.{value_at};
 ghost use Rattle.prop_values.specs.Category.{category_of};
 ghost use Rattle.uset_resolve.specs.Resolution.{is_in, group_bits, in_group};
 
-use cp_invlist::{CodePointInversionList, CodePointInversionListBuilder, NoMemory};
-use cp_trie::{CodePointTrie, TrieValue};
+use cp_invlist::{CodePointInversionList, NoMemory};
+use cp_trie::{CodePointTrie, TrieValue, ValueTest};
 use prop_values::{GeneralCategory, GeneralCategoryGroup};
 use std::alloc::Global;
 
@@ -20,13 +20,20 @@ fn group_of(number: u16) -> GeneralCategoryGroup
     }
 }
 
-/// Whether the category with this number is in the group.
-fn has_category(group: GeneralCategoryGroup, number: u32) -> bool
-    ensures { result ≡ is_in group (category_of number) }
-{
-    match GeneralCategory::try_from_u32(number) {
-        Ok(category) => group.contains(category),
-        Err(_) => false,
+/// Passed by the numbers of the categories in a group.
+#[derive(Clone, Copy)]
+struct IsInGroup {
+    group: GeneralCategoryGroup,
+}
+
+impl ValueTest<u32> for IsInGroup {
+    ghost passes = { λ test number. is_in test.group (category_of number) };
+
+    fn passes(&mut self, number: u32) -> bool {
+        match GeneralCategory::try_from_u32(number) {
+            Ok(category) => self.group.contains(category),
+            Err(_) => false,
+        }
     }
 }
 
@@ -39,11 +46,5 @@ pub(crate) fn set_of_group(
     ensures { IfOk result (λ set. (c : ℕ) → contains set c ≡ in_group (value_at categories.now) number c) }
 {
     let group = group_of(number);
-    let mut builder = CodePointInversionListBuilder::new(alloc);
-    for run in categories.iter_ranges() {
-        if has_category(group, run.value) {
-            builder.add_range32(run.range)?;
-        }
-    }
-    Ok(builder.build())
+    categories.get_set_where(alloc, &mut IsInGroup { group })
 }

@@ -6,10 +6,10 @@ ghost use Rattle.prop_query.specs.Scripts.{has_script};
 ghost use Rattle.prop_query.specs.ScriptTypes.{table_of};
 ghost use Rattle.prop_query.specs.Found.{AreFound};
 
-use crate::ranges::{ValueTest, next_range};
+use crate::ranges::next_range;
 use crate::script::ScriptWithExtensionsBorrowed;
 use cp_invlist::CodePointRange;
-use cp_trie::TrieRanges;
+use cp_trie::{TrieRanges, ValueTest};
 use prop_values::{Script, ScriptWithExt};
 use std::marker::Model;
 
@@ -18,7 +18,7 @@ const LISTED: usize = 4096;
 
 /// Passed by the numbers that stand for script extensions with a script among them.
 #[derive(Drop)]
-struct HasScript<'a> {
+pub(super) struct HasScript<'a> {
     scripts: ScriptWithExtensionsBorrowed<'a>,
     /// The number of the script.
     script: u16,
@@ -28,13 +28,13 @@ struct HasScript<'a> {
 }
 
 impl<'a> HasScript<'a> {
-    fn new(scripts: ScriptWithExtensionsBorrowed<'a>, script: u16) -> HasScript<'a>
+    pub(super) fn new(scripts: ScriptWithExtensionsBorrowed<'a>, script: Script) -> HasScript<'a>
         ensures scripts { result.scripts ≡ scripts.entry }
         ensures script { result.script ≡ script }
     {
         HasScript {
             scripts,
-            script,
+            script: script.to_icu4c_value(),
             found: [None; LISTED],
         }
     }
@@ -91,7 +91,7 @@ impl<'a> ScriptExtensionsRanges<'a> {
     {
         ScriptExtensionsRanges {
             runs: scripts.property.script_trie().iter_ranges(),
-            test: HasScript::new(scripts, script.to_icu4c_value()),
+            test: HasScript::new(scripts, script),
         }
     }
 }

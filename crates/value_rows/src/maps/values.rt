@@ -1,7 +1,7 @@
 //! What maps answer at numbers, and which numbers have a value.
 use crate::fixtures::assert_equal;
 use crate::maps::fixtures::{assert_values, first_wrong, map_of};
-use cp_trie::{CodePointTrie, TrieError};
+use cp_trie::{CodePointTrie, TrieError, ValueTest};
 use std::alloc::Global;
 
 /// The letters from 41 to 5A have the value 1, and all others 0.
@@ -76,4 +76,53 @@ fn have_sets(alloc: Global) -> Result<bool, TrieError> {
 #[test]
 fn the_set_of_a_value_has_each_of_its_runs(rt: HostRuntime) {
     assert_equal(&rt, have_sets(rt.alloc()), Ok(true));
+}
+
+/// Passed by the values from a number on, and counts the values that it was asked for.
+#[derive(Clone, Copy)]
+struct FromOn {
+    least: u8,
+    asked: usize,
+}
+
+impl ValueTest<u8> for FromOn {
+    ghost use Rattle.std.specs.Prelude.{nat_le};
+
+    ghost passes = { λ test value. nat_le test.least value };
+
+    fn passes(&mut self, value: u8) -> bool {
+        self.asked = self.asked.wrapping_add(1);
+        self.least <= value
+    }
+}
+
+/// Whether the numbers with these values from a number on are those of the inversion list, and how many values were asked for.
+fn has_set_where(
+    alloc: Global,
+    starts: &[(u32, u8)],
+    least: u8,
+    list: &[u32],
+) -> Result<(bool, usize), TrieError> {
+    let map = map_of(alloc, starts, 9)?;
+    let mut test = FromOn { least, asked: 0 };
+    let set = map.get_set_where(alloc, &mut test);
+    let is_same = set.is_ok_and(|set| set.get_inversion_list() == list);
+    Ok((is_same, test.asked))
+}
+
+#[test]
+fn a_set_has_the_runs_whose_values_pass(rt: HostRuntime) {
+    let digits: &[(u32, u8)] = &[(0, 0), (0x30, 1), (0x35, 2), (0x3A, 0), (0x10_FFFF, 1)];
+    let rows: [(u8, &[u32]); 3] = [
+        (0, &[0, 0x11_0000]),
+        (1, &[0x30, 0x3A, 0x10_FFFF, 0x11_0000]),
+        (3, &[]),
+    ];
+    for (least, list) in rows {
+        assert_equal(
+            &rt,
+            has_set_where(rt.alloc(), digits, least, list),
+            Ok((true, 5)),
+        );
+    }
 }

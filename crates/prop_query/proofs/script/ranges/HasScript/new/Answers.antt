@@ -3,4 +3,4 @@ use Rattle.prop_query.proofs.FoundLemmas.{AreFound-none}
 use Rattle.prop_query.proofs.script.ranges.HasScript.new.Goals as goal
 
 pub invariant_of-result : goal.invariant_of-result
-invariant_of-result c = record { right = AreFound-none (table_of c.args.scripts) c.args.script 4096 }
+invariant_of-result c = record { right = AreFound-none (table_of c.args.scripts) c.to_icu4c_value.result 4096 }

@@ -14,4 +14,4 @@ returns c =
     let table = table_of c.args.scripts in
     let script = c.args.script in
     let found = ranges-passing nat_eq eqb-true (number_has table script) (value_at (scripts_map table)) c.iter_ranges.result (rw c.script_trie.ensures at c.iter_ranges.ensures.maximal) in
-    rw (c.new.ensures.scripts, c.new.ensures.script, c.to_icu4c_value.ensures) (subst (λ m. AreRangesFrom m 0 (passing (number_has table script) c.iter_ranges.result)) (λ i n. members-has_script table script n i) found)
+    rw (c.new.ensures.scripts, c.new.ensures.script) (subst (λ m. AreRangesFrom m 0 (passing (number_has table script) c.iter_ranges.result)) (λ i n. members-has_script table script n i) found)
