@@ -118,6 +118,19 @@ fn piece_of(
     Ok(piece.build())
 }
 
+/// The piece, with an index where it is long.
+fn with_index(
+    alloc: Global,
+    mut piece: CodePointInversionList,
+) -> Result<CodePointInversionList, NoMemory>
+    ensures { IfOk result (λ indexed. indexed ≡ piece) }
+{
+    if piece.is_long() {
+        piece.index(alloc)?;
+    }
+    Ok(piece)
+}
+
 /// The pieces of the set of the numbers.
 fn pieces_of(alloc: Global, numbers: &[usize]) -> Result<Vec<CodePointInversionList>, NoMemory>
     ensures { IfOk result (λ pieces. (number : ℕ) →
@@ -125,11 +138,8 @@ fn pieces_of(alloc: Global, numbers: &[usize]) -> Result<Vec<CodePointInversionL
 {
     let mut pieces = Vec::new(alloc);
     for index in 0..count_pieces(numbers) {
-        let mut piece = piece_of(alloc, numbers, index)?;
-        if piece.is_long() {
-            piece.index(alloc)?;
-        }
-        pieces.push(piece)?;
+        let piece = piece_of(alloc, numbers, index)?;
+        pieces.push(with_index(alloc, piece)?)?;
     }
     Ok(pieces)
 }

@@ -17,8 +17,8 @@ loop-index-init c = (ap length c.new-pieces.ensures.items, λ number lt. absurd 
 
 pub loop-index-preserved : goal.loop-index-preserved
 loop-index-preserved c = (
-  ap length c.in_ok-push.ensures.items ∙ (length-append c.loop-index.pieces.items (c.index.new.self ∷ []) ∙ ap (λ n. n + 1) c.loop-index.invariant.0),
+  ap length c.in_ok-push.ensures.items ∙ (length-append c.loop-index.pieces.items (c.in_ok-with_index.field-0 ∷ []) ∙ ap (λ n. n + 1) c.loop-index.invariant.0),
   subst (λ pieces. TellsBelow (λ number. list_any (λ n. n == number) c.args.numbers.now) pieces (c.loop-index.index + 1)) (sym c.in_ok-push.ensures.items)
-      (tells_more (λ number. list_any (λ n. n == number) c.args.numbers.now) c.loop-index.pieces.items c.index.new.self c.loop-index.index c.loop-index.invariant.0 c.loop-index.invariant.1
-      (λ number same. ap (λ piece. contains piece (number % 0x11_0000)) c.in_ok-index.ensures ∙ c.in_ok-piece.ensures number same)),
+      (tells_more (λ number. list_any (λ n. n == number) c.args.numbers.now) c.loop-index.pieces.items c.in_ok-with_index.field-0 c.loop-index.index c.loop-index.invariant.0 c.loop-index.invariant.1
+      (λ number same. ap (λ piece. contains piece (number % 0x11_0000)) c.in_ok-with_index.ensures ∙ c.in_ok-piece.ensures number same)),
 )
