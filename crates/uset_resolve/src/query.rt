@@ -19,6 +19,7 @@ use uset_gather::Source;
 pub enum Resolution<'a> {
     /// Code points.
     Found {
+        /// The code points that were asked for, or those that the negation takes away.
         source: Source<'a>,
         /// Whether the value is a word for falsehood, which negates.
         falsy: bool,

@@ -1,5 +1,5 @@
 //! The lists that were made for the properties of patterns.
-ghost use Rattle.std.specs.Prelude.{◌≡◌, IfOk};
+ghost use Rattle.std.specs.Prelude.{◌≡◌, IfOk, IfSome};
 ghost use Rattle.prop_data.specs.Database.{tables_of};
 ghost use Rattle.uset_gather.specs.Gathered.{list_in};
 ghost use Rattle.uset_resolve.specs.Made.{AreMade, of_origin};
@@ -8,7 +8,7 @@ ghost use Rattle.uset_resolve.specs.Sources.{HasSource, IsList, IsSource};
 use cp_invlist::{CodePointInversionList, NoMemory};
 use prop_data::PropertyDatabase;
 use std::alloc::Global;
-use std::collections::BTreeMap;
+use std::collections::{BTreeMap, BTreeSet};
 use std::marker::Model;
 use std::rc::Rc;
 use uset_gather::Source;
@@ -32,6 +32,8 @@ pub(crate) enum Origin {
 pub struct Resolver<'a> {
     pub(crate) database: &'a PropertyDatabase,
     made: BTreeMap<Origin, Rc<CodePointInversionList>>,
+    /// What was asked for a second time, of that whose list is long.
+    again: BTreeSet<Origin>,
     /// How many ranges the lists have that are kept.
     ranges: usize,
 }
@@ -42,6 +44,7 @@ impl Drop for Resolver<'_> {
         let Self {
             database: _,
             made: _,
+            again: _,
             ranges: _,
         } = self;
     }
@@ -71,6 +74,7 @@ impl<'a> Resolver<'a> {
         Resolver {
             database,
             made: BTreeMap::new(alloc),
+            again: BTreeSet::new(alloc),
             ranges: 0,
         }
     }
@@ -88,27 +92,43 @@ impl<'a> Resolver<'a> {
     {
         if self.ranges >= FULL {
             self.made = BTreeMap::new(alloc);
+            self.again = BTreeSet::new(alloc);
             self.ranges = 0;
         }
     }
 
-    /// Keeps the list of these code points, with an index where it has many ranges.
+    /// Keeps the list of these code points.
     fn keep(
         &mut self,
         alloc: Global,
         origin: Origin,
-        mut list: CodePointInversionList,
+        list: CodePointInversionList,
     ) -> Result<Source<'a>, NoMemory>
         requires { HasSource list (of_origin (tables_of self.old) origin) }
         ensures list { IfOk result (λ source. list_in source ≡ list) }
         ensures same { self.new ≡ self.old }
     {
-        let ranges = list.get_inversion_list().len() / 2;
-        list.index(alloc)?;
         let list = Rc::new(alloc, list)?;
         self.made.insert(origin, list.clone()?)?;
-        self.ranges = self.ranges.saturating_add(ranges);
         Ok(Source::Shared(list))
+    }
+
+    /// The list that is kept of these code points. One that is long gets an index when it is asked for the third time: a
+    /// pattern that names it once asks twice, as it's read and for its set.
+    fn get(&mut self, alloc: Global, origin: Origin) -> Result<Option<Source<'a>>, NoMemory>
+        ensures source { IfOk result (λ source.
+            IfSome source (λ s. HasSource (list_in s) (of_origin (tables_of self.old) origin))) }
+        ensures same { self.new ≡ self.old }
+    {
+        let Some(list) = self.made.get(&origin) else {
+            return Ok(None);
+        };
+        if !list.is_long() || !list.words().is_empty() || self.again.insert(origin)? {
+            return Ok(Some(Source::Shared(list.clone()?)));
+        }
+        let mut indexed = list.copy(alloc)?;
+        indexed.index(alloc)?;
+        Ok(Some(self.keep(alloc, origin, indexed)?))
     }
 
     /// The list of these code points, which is made where none is kept.
@@ -126,12 +146,14 @@ impl<'a> Resolver<'a> {
         ensures source { IfOk result (λ source. IsSource source (of_origin (tables_of self.old) origin)) }
         ensures same { self.new ≡ self.old }
     {
-        if let Some(list) = self.made.get(&origin) {
-            return Ok(Some(Source::Shared(list.clone()?)));
+        if let Some(source) = self.get(alloc, origin)? {
+            return Ok(Some(source));
         }
-        match make()? {
-            Some(list) => Ok(Some(self.keep(alloc, origin, list)?)),
-            None => Ok(None),
-        }
+        let Some(list) = make()? else {
+            return Ok(None);
+        };
+        let ranges = list.get_inversion_list().len() / 2;
+        self.ranges = self.ranges.saturating_add(ranges);
+        Ok(Some(self.keep(alloc, origin, list)?))
     }
 }
