@@ -1,6 +1,6 @@
 #!/usr/bin/env python3
-"""Times look-ups in a set and a map of a database, at random code points: `contains32` of Alphabetic, and `get32` of
-General_Category.
+"""Times look-ups in a set and a map of a database, at random code points: `contains32` of Alphabetic, without an index and
+with one, and `get32` of General_Category.
 
 Usage: bench/queries.py TABLES, a table text with both. It needs `rt`, and takes what checks of the crates have kept, so
 that only the program that measures is proved. Each time is the least of many: others may use the machine too.
@@ -48,8 +48,14 @@ fn letters(map: CodePointMapDataBorrowed<'_, GeneralCategory>, points: &[u32]) -
     count
 }
 
-fn time_of_set(rt: &impl Clock, database: &PropertyDatabase, points: &[u32]) -> Result<(u32, u128)> {
-    let set = CodePointSetData::new::<Alphabetic>(database).ok().context("no set")?;
+fn with_index(alloc: Global, database: &PropertyDatabase) -> Result<CodePointSetData> {
+    let set = CodePointSetData::try_new_unstable::<Alphabetic>(alloc, database).ok().context("no set")?;
+    let mut list = set.to_code_point_inversion_list(alloc)?;
+    list.index(alloc)?;
+    Ok(CodePointSetData::from_code_point_inversion_list(list))
+}
+
+fn time_of(rt: &impl Clock, set: CodePointSetDataBorrowed<'_>, points: &[u32]) -> Result<(u32, u128)> {
     let mut least = u128::MAX;
     let mut found = 0u32;
     for _ in 0..200 {
@@ -58,6 +64,16 @@ fn time_of_set(rt: &impl Clock, database: &PropertyDatabase, points: &[u32]) -> 
         least = least.min(start.elapsed(rt)?.as_nanos());
     }
     Ok((found, least))
+}
+
+fn time_of_set(rt: &impl Clock, database: &PropertyDatabase, points: &[u32]) -> Result<(u32, u128)> {
+    let set = CodePointSetData::new::<Alphabetic>(database).ok().context("no set")?;
+    time_of(rt, set, points)
+}
+
+fn time_with_index(rt: &impl Clock, alloc: Global, database: &PropertyDatabase, points: &[u32]) -> Result<(u32, u128)> {
+    let set = with_index(alloc, database)?;
+    time_of(rt, set.as_borrowed(), points)
 }
 
 fn time_of_map(rt: &impl Clock, alloc: Global, database: &PropertyDatabase, points: &[u32]) -> Result<(u32, u128)> {
@@ -83,6 +99,8 @@ fn main(rt: HostRuntime) -> Result<()> {
     let points = code_points(alloc)?;
     let (found, least) = time_of_set(&rt, &database, &points)?;
     println!(rt; "contains32 {found} {least}")?;
+    let (found, least) = time_with_index(&rt, alloc, &database, &points)?;
+    println!(rt; "contains32-with-index {found} {least}")?;
     let (found, least) = time_of_map(&rt, alloc, &database, &points)?;
     println!(rt; "get32 {found} {least}")?;
     Ok(())
