@@ -1,11 +1,13 @@
-//! The example of README.md.
+//! The examples of README.md.
+use prop_binary::Alphabetic;
 use prop_data::PropertyDatabase;
-use prop_query::{ScriptWithExtensions, for_char, try_from_str};
+use prop_query::{CodePointSetData, ScriptWithExtensions, for_char, try_from_str};
 use prop_values::{GeneralCategory, Script};
 use std::test::Fail;
 
-/// A few rows of three tables: general categories, the names of scripts, and scripts with extensions.
-const TABLES: &str = "map General_Category 0\n41-5A 1\n61-7A 2\n\
+/// A few rows of four tables: a set, general categories, the names of scripts, and scripts with extensions.
+const TABLES: &str = "set Alphabetic\n41-5A\n61-7A\n\
+    map General_Category 0\n41-5A 1\n61-7A 2\n\
     names Script\n25 Latn\n25 Latin\n\
     scx 103\n61-7A 25\n30FC 1024\next 0\n20\n22\n\
     end\n";
@@ -34,5 +36,25 @@ fn the_example_of_the_guide_has_its_answers(rt: HostRuntime) -> Result<(), Fail>
             ]
         )
     );
+    Ok(())
+}
+
+#[test]
+fn a_set_with_an_index_answers_alike(rt: HostRuntime) -> Result<(), Fail> {
+    let alloc = rt.alloc();
+    let database = PropertyDatabase::from_text(alloc, TABLES)?;
+    let copy = CodePointSetData::try_new_unstable::<Alphabetic>(alloc, &database)?;
+    let mut list = copy.to_code_point_inversion_list(alloc)?;
+    list.index(alloc)?;
+    let letters = CodePointSetData::from_code_point_inversion_list(list);
+    let set = letters.as_borrowed();
+    let found = [
+        set.contains32(0x40),
+        set.contains('A'),
+        set.contains('z'),
+        set.contains32(0x10_FFFF),
+        set.contains32(0x11_0000),
+    ];
+    assert_eq!(rt; found, [false, true, true, false, false]);
     Ok(())
 }
