@@ -1,5 +1,5 @@
 -- Words of 64 bits, whose bits say which of 64 numbers are members.
-use Rattle.std.specs.Prelude.{◌≡◌, ℕ, ◌+◌, ◌*◌, ◌<◌, Bool, ◌==◌, List, Some, slice_get}
+use Rattle.std.specs.Prelude.{◌≡◌, ◌⊎◌, ℕ, ◌+◌, ◌*◌, ◌<◌, Bool, ◌==◌, List, [], length, Some, slice_get}
 use Rattle.std.specs.Int.{bit_at}
 use Rattle.cp_invlist.specs.InversionList.{contains, IsInversionList}
 
@@ -15,7 +15,12 @@ IsWord xs place word = (j : ℕ) → j < 64 → has_bit word j ≡ contains xs (
 abbrev pub AreWords : List ℕ → List ℕ → Type 0
 AreWords xs words = (i word : ℕ) → slice_get words i ≡ Some word → IsWord xs (64 * i) word
 
+-- there is no word, or one for each 64 code points
+abbrev pub AreAllOrNone : List ℕ → Type 0
+AreAllOrNone words = (words ≡ []) ⊎ (length words ≡ 17408)
+
 -- an inversion list and words of it, all or none
 pub record IsIndexed (xs words : List ℕ) : Type 0 where
   pub list : IsInversionList xs
   pub indexed : AreWords xs words
+  pub whole : AreAllOrNone words

@@ -15,7 +15,8 @@ use std::alloc::Global;
 use std::marker::Model;
 use std::sync::ledger::Ledger;
 
-/// Builds a set by adding members. A contract sees it as the inversion list of what was added.
+/// Builds a set step by step: members are added, sets are joined, taken away and kept. Where memory is refused (`NoMemory`) a
+/// step changes nothing. A contract sees the builder as the inversion list of the set so far.
 #[derive(Drop)]
 pub struct CodePointInversionListBuilder {
     elements: Vec<u32>,
@@ -243,7 +244,8 @@ fn push_both(elements: &mut Vec<u32>, start: u32, past: u32) -> Result<(), NoMem
 /// Puts the number in place of the last element.
 fn put_last(elements: &mut Vec<u32>, number: u32)
     requires { 0 < vec_len elements.old }
-    ensures { elements.new.items ≡ splice elements.old.items (vec_len elements.old - 1) (vec_len elements.old) (number ∷ []) }
+    ensures { elements.new.items ≡
+        splice elements.old.items (vec_len elements.old - 1) (vec_len elements.old) (number ∷ []) }
 {
     if let Some(last) = elements.last_mut() {
         *last = number;

@@ -5,7 +5,7 @@ ghost use Rattle.cp_invlist.specs.Fault.{fault_of, IsFaultAt};
 ghost use Rattle.cp_invlist.specs.Size.{count_members, SumsTo};
 ghost use Rattle.cp_invlist.specs.InversionList.{contains, is_code_point, IsInversionList};
 ghost use Rattle.cp_invlist.specs.Ranges.{AreMaximalRanges, is_outside};
-ghost use Rattle.cp_invlist.specs.Words.{AreWords};
+ghost use Rattle.cp_invlist.specs.Words.{AreWords, AreAllOrNone};
 ghost use Rattle.cp_invlist.specs.declared.ranges.CodePointRange.{CodePointRange};
 
 use crate::error::{InversionListError, NoMemory};
@@ -14,9 +14,9 @@ use crate::words::{all_words, has_member};
 use std::alloc::Global;
 use std::marker::Model;
 
-/// A set of code points, surrogates included, as an inversion list (ICU's name for the form, which
-/// UTS 35 uses for its UnicodeSet): the first member and the number past the last member of each
-/// maximal range, strictly ascending. So two sets with the same members have the same list.
+/// A set of code points, surrogates included, as an inversion list, which is ICU's name for the form: the first member and
+/// the number past the last member of each maximal range, strictly ascending. So two sets with the same members have the
+/// same list.
 pub struct CodePointInversionList {
     elements: Vec<u32>,
     /// For each 64 code points which of them are members, where that is kept beside the list; else none.
@@ -76,7 +76,7 @@ impl CodePointInversionList {
         Ok(CodePointInversionList::from_elements(elements))
     }
 
-    /// The set of all code points.
+    /// The set of all code points. `NoMemory` says that a request for memory was refused.
     pub fn all(alloc: Global) -> Result<CodePointInversionList, NoMemory>
         ensures members { IfOk result (λ s. (c : ℕ) → contains s c ≡ is_code_point c) }
         ensures list { IfOk result (λ s. s ≡ 0 ∷ 0x11_0000 ∷ []) }
@@ -125,7 +125,8 @@ impl CodePointInversionList {
     /// The words of the index, one for each 64 code points in order, whose bits say which of them are members; none where
     /// the set has no index.
     pub fn words(&self) -> &[u64]
-        ensures { AreWords self.now result.now }
+        ensures members { AreWords self.now result.now }
+        ensures whole { AreAllOrNone result.now }
     {
         &self.words
     }
@@ -174,7 +175,7 @@ impl CodePointInversionList {
         self.elements.is_empty()
     }
 
-    /// An equal set.
+    /// An equal set, without an index. `NoMemory` says that a request for memory was refused.
     pub fn copy(&self, alloc: Global) -> Result<CodePointInversionList, NoMemory>
         ensures { IfOk result (λ s. s ≡ self.now) }
     {

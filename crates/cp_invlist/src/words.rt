@@ -1,5 +1,5 @@
 //! Words, whose bits say which of 64 code points are members.
-ghost use Rattle.std.specs.Prelude.{◌≡◌, ℕ, ◌<◌, Bool, nat_le, IfOk};
+ghost use Rattle.std.specs.Prelude.{◌≡◌, ℕ, ◌<◌, Bool, nat_le, length, IfOk};
 ghost use Rattle.cp_invlist.specs.InversionList.{differ};
 ghost use Rattle.cp_invlist.specs.Words.{has_bit, AreWords};
 
@@ -37,7 +37,8 @@ pub(crate) fn has_member(word: u64, offset: u32) -> bool
 
 /// The words of all code points.
 pub(crate) fn all_words(alloc: Global, set: &CodePointInversionList) -> Result<Vec<u64>, NoMemory>
-    ensures { IfOk result (λ words. AreWords set.now words.items) }
+    ensures members { IfOk result (λ words. AreWords set.now words.items) }
+    ensures sized { IfOk result (λ words. length words.items ≡ 17408) }
 {
     let mut words = Vec::with_capacity(alloc, WORDS as usize)?;
     let mut window = Window::UNKNOWN;

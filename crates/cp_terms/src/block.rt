@@ -48,7 +48,8 @@ impl Block {
     /// Makes it what is made of it as the lower one and of the words of the upper.
     #[inline]
     pub(crate) fn combine(&mut self, way: Way, upper: &[u64; 256])
-        ensures { (i j : ℕ) → i < 256 → j < 64 → block_has self.new i j ≡ combined way (block_has self.old i j) (word_has upper.now i j) }
+        ensures { (i j : ℕ) → i < 256 → j < 64 →
+            block_has self.new i j ≡ combined way (block_has self.old i j) (word_has upper.now i j) }
     {
         for index in 0..256 {
             self.words[index] = way.combine_words(self.words[index], upper[index]);

@@ -16,7 +16,7 @@ use cp_invlist::{CodePointInversionList, LAST_CODE_POINT, NoMemory, Window};
 use std::alloc::Global;
 
 /// How many stretches there are.
-const STRETCHES: u32 = 68;
+const STRETCHES: u32 = (LAST_CODE_POINT + 1) / STRETCH;
 
 /// What is made anew on each stretch, in memory that is used again.
 struct Room {
@@ -134,15 +134,15 @@ fn write_all(
     Ok(())
 }
 
-/// The set that the steps make of the sets, the empty set where they leave none. `NoMemory` says that a request for memory was
-/// refused.
+/// The set that the steps make of the sets: the last where they leave several, the empty set where they leave none. `NoMemory`
+/// says that a request for memory was refused.
 pub fn evaluate(
     alloc: Global,
     sets: &[&CodePointInversionList],
     steps: &[Step],
 ) -> Result<CodePointInversionList, NoMemory>
-    ensures { IfOk result
-        (λ set. (c : ℕ) → contains set c ≡ (is_code_point c && value_of (holds_at (map (λ s. s.now) sets.now) c) steps.now)) }
+    ensures { IfOk result (λ set. (c : ℕ) →
+        contains set c ≡ (is_code_point c && value_of (holds_at (map (λ s. s.now) sets.now) c) steps.now)) }
 {
     let mut windows = vec![in alloc; Window::UNKNOWN; sets.len()]?;
     let mut room = Room {

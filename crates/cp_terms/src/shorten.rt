@@ -244,7 +244,8 @@ impl Shortened {
         ensures constant { IfSome result
             (λ inside. (w : ℕ → Bool) (stack : List Bool) → FitsTerm w self.now stack → top stack ≡ inside) }
         ensures mixed { IfNone result
-            ((w : ℕ → Bool) (stack : List Bool) → FitsTerm w self.now stack → top stack ≡ value_of w self.now.steps.items) }
+            ((w : ℕ → Bool) (stack : List Bool) → FitsTerm w self.now stack →
+            top stack ≡ value_of w self.now.steps.items) }
     {
         match self.stack.last() {
             Some(part) => part.constant(),

@@ -46,7 +46,8 @@ impl Stack {
     /// Puts down the set with the index.
     fn push(&mut self, stretch: &Stretch<'_>, index: usize) -> Result<(), NoMemory>
         ensures { OnOk result ((i j : ℕ) → i < 256 → j < 64 →
-            stack_marks stretch.now i j self.new ≡ stretch_has stretch.now i j index ∷ stack_marks stretch.now i j self.old) }
+            stack_marks stretch.now i j self.new ≡
+            stretch_has stretch.now i j index ∷ stack_marks stretch.now i j self.old) }
     {
         self.settle(stretch)?;
         self.named = Some(index);
@@ -112,7 +113,8 @@ impl Stack {
     /// Does the step.
     fn take(&mut self, stretch: &Stretch<'_>, step: Step) -> Result<(), NoMemory>
         ensures { OnOk result ((i j : ℕ) → i < 256 → j < 64 →
-            stack_marks stretch.now i j self.new ≡ step_done (stretch_has stretch.now i j) step (stack_marks stretch.now i j self.old)) }
+            stack_marks stretch.now i j self.new ≡
+            step_done (stretch_has stretch.now i j) step (stack_marks stretch.now i j self.old)) }
     {
         match step {
             Step::Push(index) => self.push(stretch, index),
@@ -137,7 +139,8 @@ impl Stack {
 
     /// The set on top, where there is one and it is made.
     pub(crate) fn last(&self) -> Option<&Block>
-        ensures some { IfSome result (λ block. (i j : ℕ) → block_has block.now i j ≡ top (block_marks i j self.now.made.items)) }
+        ensures some { IfSome result (λ block. (i j : ℕ) →
+            block_has block.now i j ≡ top (block_marks i j self.now.made.items)) }
         ensures none { IfNone result ((i j : ℕ) → top (block_marks i j self.now.made.items) ≡ false) }
     {
         self.made.last()

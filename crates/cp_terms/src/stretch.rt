@@ -26,7 +26,8 @@ impl Stretch<'_> {
 
     /// The words of the set with the index, where the set has an index of its own.
     fn words(&self, index: usize) -> Option<&[u64; 256]>
-        ensures { IfSome result (λ words. (i j : ℕ) → i < 256 → j < 64 → word_has words.now i j ≡ stretch_has self.now i j index) }
+        ensures { IfSome result (λ words. (i j : ℕ) → i < 256 → j < 64 →
+            word_has words.now i j ≡ stretch_has self.now i j index) }
     {
         stretch_words(self.sets.get(index)?, self.start)
     }

@@ -12,4 +12,4 @@ pub returns : goal.returns
 returns c =
     let part = c.in_ok-get.ensures.lookup.0 in
     some_of _ c.first_chunk.result c.first_chunk.ensures.cases (λ chunk front.
-    block_of_words c.args.set.now c.words.result.now c.in_ok-get.field-0.now chunk.now c.args.place c.words.ensures part.2 part.3 front.same front.enough c.requires)
+    block_of_words c.args.set.now c.words.result.now c.in_ok-get.field-0.now chunk.now c.args.place c.words.ensures.members part.2 part.3 front.same front.enough c.requires)
