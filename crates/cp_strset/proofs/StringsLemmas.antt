@@ -113,13 +113,6 @@ kept_spelled test (k ∷ ks) bytes =
 pub none_of_one_kept : (test : List ℕ → Bool) (ks kept : List (String Global)) → NoneOfOne ks → ((bytes : List ℕ) → spelled_in kept bytes ≡ (spelled_in ks bytes && test bytes)) → NoneOfOne kept
 none_of_one_kept test ks kept all is bytes h = all bytes (and_parts (spelled_in ks bytes) (test bytes) (sym (is bytes) ∙ h)).0
 
-spelled_front : (xs ys : List (String Global)) (bytes : List ℕ) → spelled_in xs bytes ≡ true → spelled_in (xs ++ ys) bytes ≡ true
-spelled_front xs ys bytes h = list_any-append (spells bytes) xs ys ∙ ap (λ b. b || spelled_in ys bytes) h
-
--- the first of the strings
-pub none_of_one_front : (all xs ys : List (String Global)) → all ≡ xs ++ ys → NoneOfOne all → NoneOfOne xs
-none_of_one_front all xs ys parts none bytes h = none bytes (ap (λ ks. spelled_in ks bytes) parts ∙ spelled_front xs ys bytes h)
-
 spells_itself : (k : String Global) → spells (string_bytes k) k ≡ true
 spells_itself k = is_eq-slice_cmp (string_bytes k) (string_bytes k) ∙ (bytes_eq-Decides (string_bytes k) (string_bytes k)).1 refl
 

@@ -106,7 +106,8 @@ impl CodePointInversionListAndStringList {
         &self.code_points
     }
 
-    /// Keeps an index of the code points (`CodePointInversionList::index`). The set stays as it is.
+    /// Keeps an index of the code points (`CodePointInversionList::index`). The set stays as it is. `NoMemory` says
+    /// that a request for memory was refused.
     pub fn index(&mut self, alloc: Global) -> Result<(), NoMemory>
         ensures { self.new ≡ self.old }
     {
@@ -163,7 +164,7 @@ impl CodePointInversionListAndStringList {
         self.code_points.size() + self.strings.len()
     }
 
-    /// An equal set.
+    /// An equal set. `NoMemory` says that a request for memory was refused.
     pub fn copy(&self, alloc: Global) -> Result<CodePointInversionListAndStringList, NoMemory>
         ensures { IfOk result (λ s. s ≡ self.now) }
     {
@@ -177,7 +178,8 @@ impl CodePointInversionListAndStringList {
 
     /// The set as a pattern of UTS 35 in escapes alone. It is `[`, then each maximal range as `\u{h}` where it has one
     /// member, else as `\u{h}-\u{h}`, then each string as `{`, `\u{h}` for each character and `}`, then `]`, where `h` is
-    /// lower-case hexadecimal with no leading zero. The text is printable ASCII.
+    /// lower-case hexadecimal with no leading zero. The text is printable ASCII. `NoMemory` says that a request for
+    /// memory was refused.
     pub fn to_pattern(&self, alloc: Global) -> Result<String, NoMemory>
         ensures pattern { IfOk result (λ text. IsPatternOf self.now (string_bytes text)) }
         ensures printable { IfOk result (λ text. AllPass is_printable_ascii (string_bytes text)) }

@@ -35,7 +35,7 @@ impl Strings {
     ghost use Rattle.std.specs.String.{string_bytes};
     ghost use Rattle.cp_strset.specs.StringList.{sole_of, holds, AreCanonical};
 
-    /// None.
+    /// No strings.
     pub fn new(alloc: Global) -> Strings
         ensures { (bytes : List ℕ) → contains_text result bytes ≡ false }
     {
@@ -62,25 +62,27 @@ impl Strings {
         Ok(())
     }
 
-    /// Adds the other strings. The fewer are moved. Where memory is refused nothing is said of the strings, which are to be let go.
-    pub fn append(&mut self, mut other: Strings) -> Result<(), NoMemory>
-        ensures { OnOk result ((bytes : List ℕ) →
-            contains_text self.new bytes ≡ (contains_text self.old bytes || contains_text other bytes)) }
+    /// These strings and the others. The fewer are moved. `NoMemory` says that a request for memory was refused.
+    pub fn append(self, other: Strings) -> Result<Strings, NoMemory>
+        ensures { IfOk result (λ all. (bytes : List ℕ) →
+            contains_text all bytes ≡ (contains_text self bytes || contains_text other bytes)) }
     {
         if self.texts.len() < other.texts.len() {
-            swap(self, &mut other);
+            other.with_all(self)
+        } else {
+            self.with_all(other)
         }
-        self.take_all(other)
     }
 
-    /// Moves the other strings into the set.
-    fn take_all(&mut self, other: Strings) -> Result<(), NoMemory>
-        ensures { OnOk result ((bytes : List ℕ) →
-            contains_text self.new bytes ≡ (contains_text self.old bytes || contains_text other bytes)) }
+    /// These strings, into which the others are moved.
+    fn with_all(self, other: Strings) -> Result<Strings, NoMemory>
+        ensures { IfOk result (λ all. (bytes : List ℕ) →
+            contains_text all bytes ≡ (contains_text self bytes || contains_text other bytes)) }
     {
-        let mut texts = other.texts;
-        self.texts.append(&mut texts)?;
-        Ok(())
+        let mut texts = self.texts;
+        let mut more = other.texts;
+        texts.append(&mut more)?;
+        Ok(Strings { texts })
     }
 
     /// Takes the other strings away. It goes along the fewer, and looks each up among the others.
@@ -114,16 +116,17 @@ impl Strings {
         }
     }
 
-    /// Adds copies of the strings of the set. Where memory is refused nothing is said of the strings, which are to be let go.
+    /// These strings and copies of those of the set. `NoMemory` says that a request for memory was refused.
     pub fn insert_copies(
-        &mut self,
+        mut self,
         alloc: Global,
         set: &CodePointInversionListAndStringList,
-    ) -> Result<(), NoMemory>
-        ensures { OnOk result ((bytes : List ℕ) →
-            contains_text self.new bytes ≡ (contains_text self.old bytes || holds set.now.strings bytes)) }
+    ) -> Result<Strings, NoMemory>
+        ensures { IfOk result (λ all. (bytes : List ℕ) →
+            contains_text all bytes ≡ (contains_text self bytes || holds set.now.strings bytes)) }
     {
-        self.insert_each(alloc, set.strings())
+        self.insert_each(alloc, set.strings())?;
+        Ok(self)
     }
 
     /// Adds a copy of each string of the list.
@@ -209,7 +212,7 @@ impl Strings {
         Ok(list)
     }
 
-    /// The set of the code points and of these strings.
+    /// The set of the code points and of these strings. `NoMemory` says that a request for memory was refused.
     pub fn into_set(
         self,
         alloc: Global,

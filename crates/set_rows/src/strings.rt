@@ -158,68 +158,58 @@ const CHANGES: &[(Change, &[&str])] = &[
 /// The strings of a list in the making.
 fn gathered(alloc: Global, texts: &[&str]) -> Option<Strings> {
     let set = set_of(alloc, LETTERS, texts)?;
-    let mut gathered = Strings::new(alloc);
-    let Ok(()) = gathered.insert_copies(alloc, &set) else {
-        return None;
-    };
-    Some(gathered)
+    Strings::new(alloc).insert_copies(alloc, &set).ok()
 }
 
 /// The strings that are given.
 const GIVEN: &[&str] = &["ab", "ef"];
 
-/// Combines the strings with a list in the making, and tells whether memory was left.
-fn combine_with_gathered(operation: Operation, alloc: Global, strings: &mut Strings) -> bool {
-    let Some(given) = gathered(alloc, GIVEN) else {
-        return false;
-    };
+/// The strings, combined with a list in the making.
+fn with_gathered(operation: Operation, alloc: Global, mut strings: Strings) -> Option<Strings> {
+    let given = gathered(alloc, GIVEN)?;
     match operation {
-        Operation::Add => return strings.append(given).is_ok(),
+        Operation::Add => return strings.append(given).ok(),
         Operation::Remove => strings.remove_all(given),
         Operation::Retain => strings.keep_only(given),
     }
-    true
+    Some(strings)
 }
 
-/// Combines the strings with those of a set, and tells whether memory was left.
-fn combine_with_listed(operation: Operation, alloc: Global, strings: &mut Strings) -> bool {
-    let Some(given) = set_of(alloc, LETTERS, GIVEN) else {
-        return false;
-    };
+/// The strings, combined with those of a set.
+fn with_listed(operation: Operation, alloc: Global, mut strings: Strings) -> Option<Strings> {
+    let given = set_of(alloc, LETTERS, GIVEN)?;
     match operation {
-        Operation::Add => return strings.insert_copies(alloc, &given).is_ok(),
+        Operation::Add => return strings.insert_copies(alloc, &given).ok(),
         Operation::Remove => strings.remove_listed(&given),
         Operation::Retain => strings.keep_listed(&given),
     }
-    true
+    Some(strings)
 }
 
-/// Adds the text, and tells whether memory was left and the text isn't one character.
-fn insert(text: &str, alloc: Global, strings: &mut Strings) -> bool {
+/// The strings and the text, which isn't one character.
+fn with_text(text: &str, alloc: Global, mut strings: Strings) -> Option<Strings> {
     let Ok(text) = String::from_str(alloc, text) else {
-        return false;
+        return None;
     };
-    match sole_char(&text) {
-        None => strings.insert(text).is_ok(),
-        Some(_) => false,
+    if sole_char(&text).is_some() || strings.insert(text).is_err() {
+        return None;
     }
+    Some(strings)
 }
 
-/// Changes the strings, and tells whether memory was left.
-fn change_strings(change: Change, alloc: Global, strings: &mut Strings) -> bool {
+/// The strings, changed.
+fn change_strings(change: Change, alloc: Global, strings: Strings) -> Option<Strings> {
     match change {
-        Change::Gathered(operation) => combine_with_gathered(operation, alloc, strings),
-        Change::Listed(operation) => combine_with_listed(operation, alloc, strings),
-        Change::Inserted(text) => insert(text, alloc, strings),
+        Change::Gathered(operation) => with_gathered(operation, alloc, strings),
+        Change::Listed(operation) => with_listed(operation, alloc, strings),
+        Change::Inserted(text) => with_text(text, alloc, strings),
     }
 }
 
 /// The letters with what the change makes of the empty string, `ab` and `cd`.
 fn changed(alloc: Global, change: Change) -> Option<CodePointInversionListAndStringList> {
-    let mut strings = gathered(alloc, &["", "ab", "cd"])?;
-    if !change_strings(change, alloc, &mut strings) {
-        return None;
-    }
+    let strings = gathered(alloc, &["", "ab", "cd"])?;
+    let strings = change_strings(change, alloc, strings)?;
     let Ok(letters) = CodePointInversionList::try_from_inversion_list(alloc, LETTERS) else {
         return None;
     };

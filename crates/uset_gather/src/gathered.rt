@@ -4,9 +4,10 @@ use crate::painting::Painting;
 use cp_invlist::{CodePointRange, NoMemory};
 use cp_strset::{CodePointInversionListAndStringList, Strings};
 use std::alloc::Global;
+use std::mem::replace;
 
 /// A set in the making. A bracket that closes gives it to the one around it, and only that of the outermost
-/// one is made a list. After want of memory nothing is said of it, and it is to be let go.
+/// one is made a list. Where memory is refused to `join`, `remove` or `retain` nothing is said of it, and it is to be let go.
 pub struct Gathered {
     code_points: Painting,
     strings: Strings,
@@ -23,7 +24,7 @@ impl Drop for Gathered {
 }
 
 impl Gathered {
-    ghost use Rattle.std.specs.Prelude.{◌≡◌, ◌≤◌, ◌||◌, ◌&&◌, not, false, None, IfOk, OnOk};
+    ghost use Rattle.std.specs.Prelude.{◌≡◌, ◌≤◌, ◌||◌, ◌&&◌, not, false, None, IfOk, OnOk, OnErr};
     ghost use Rattle.std.specs.Str.{chars};
     ghost use Rattle.std.specs.String.{string_bytes};
     ghost use Rattle.cp_strset.specs.StringList.{sole_of};
@@ -40,18 +41,22 @@ impl Gathered {
         }
     }
 
-    /// Adds the code points of the range.
+    /// Adds the code points of the range. Where memory is refused nothing has changed.
     pub fn add_range(&mut self, range: CodePointRange) -> Result<(), NoMemory>
         requires { range.end ≤ 0x10_FFFF }
-        ensures { OnOk result (HasMembers self.new (λ m. gathered_in self.old m || in_range range.start range.end m)) }
+        ensures ok { OnOk result
+            (HasMembers self.new (λ m. gathered_in self.old m || in_range range.start range.end m)) }
+        ensures err { OnErr result (HasMembers self.new (gathered_in self.old)) }
     {
         self.code_points.add_range(range)
     }
 
-    /// Adds a string, which isn't one character.
+    /// Adds a string, which isn't one character. Where memory is refused nothing has changed.
     pub fn add_text(&mut self, text: String) -> Result<(), NoMemory>
         requires { sole_of (chars (string_bytes text)) ≡ None }
-        ensures { OnOk result (HasMembers self.new (λ m. gathered_in self.old m || is_string (string_bytes text) m)) }
+        ensures ok { OnOk result
+            (HasMembers self.new (λ m. gathered_in self.old m || is_string (string_bytes text) m)) }
+        ensures err { OnErr result (HasMembers self.new (gathered_in self.old)) }
     {
         self.strings.insert(text)
     }
@@ -68,7 +73,7 @@ impl Gathered {
         (code_points, strings)
     }
 
-    /// Adds the members of the operand.
+    /// Adds the members of the operand. `NoMemory` says that a request for memory was refused.
     pub fn join(&mut self, alloc: Global, operand: Operand<'_>) -> Result<(), NoMemory>
         ensures { OnOk result (HasMembers self.new (λ m. gathered_in self.old m || operand_in operand.entry m)) }
     {
@@ -76,18 +81,22 @@ impl Gathered {
             Operand::Gathered(other) => {
                 let (code_points, strings) = other.into_parts();
                 self.code_points.join(code_points)?;
-                self.strings.append(strings)
+                let own = replace(&mut self.strings, Strings::new(alloc));
+                self.strings = own.append(strings)?;
+                Ok(())
             }
             Operand::Set(set) => {
                 self.code_points.add_set(set.code_points())?;
-                self.strings.insert_copies(alloc, set)
+                let own = replace(&mut self.strings, Strings::new(alloc));
+                self.strings = own.insert_copies(alloc, set)?;
+                Ok(())
             }
             Operand::CodePoints(source) => self.code_points.add_set(source.list()),
             Operand::Complement(source) => self.code_points.add_outside(source.list()),
         }
     }
 
-    /// Takes the members of the operand away.
+    /// Takes the members of the operand away. `NoMemory` says that a request for memory was refused.
     pub fn remove(&mut self, operand: Operand<'_>) -> Result<(), NoMemory>
         ensures { OnOk result (HasMembers self.new (λ m. gathered_in self.old m && not (operand_in operand.entry m))) }
     {
@@ -106,7 +115,7 @@ impl Gathered {
         }
     }
 
-    /// Keeps only the members of the operand.
+    /// Keeps only the members of the operand. `NoMemory` says that a request for memory was refused.
     pub fn retain(&mut self, alloc: Global, operand: Operand<'_>) -> Result<(), NoMemory>
         ensures { OnOk result (HasMembers self.new (λ m. gathered_in self.old m && operand_in operand.entry m)) }
     {
@@ -139,7 +148,7 @@ impl Gathered {
         self.strings = Strings::new(alloc);
     }
 
-    /// The set of what was gathered.
+    /// The set of what was gathered. `NoMemory` says that a request for memory was refused.
     pub fn into_set(self, alloc: Global) -> Result<CodePointInversionListAndStringList, NoMemory>
         ensures { IfOk result (λ set. (m : Member) → in_set set m ≡ gathered_in self m) }
     {

@@ -64,7 +64,7 @@ fn outside(
 }
 
 impl Painting {
-    ghost use Rattle.std.specs.Prelude.{◌≡◌, ℕ, ◌||◌, ◌&&◌, not, false, [], IfOk, OnOk};
+    ghost use Rattle.std.specs.Prelude.{◌≡◌, ℕ, ◌||◌, ◌&&◌, not, false, [], IfOk, OnOk, OnErr};
     ghost use Rattle.cp_invlist.specs.InversionList.{contains, is_code_point};
     ghost use Rattle.cp_invlist.specs.Ranges.{in_code_points, is_outside};
     ghost use Rattle.uset_gather.specs.Painting.{in_painting, covered};
@@ -123,8 +123,11 @@ impl Painting {
     }
 
     /// Adds the code points of the range.
+    #[tactic(auto, using(crate::proofs::PaintingLemmas::painting_same))]
     pub(crate) fn add_range(&mut self, range: CodePointRange) -> Result<(), NoMemory>
-        ensures { OnOk result ((c : ℕ) → in_painting self.new c ≡ (in_painting self.old c || in_code_points range c)) }
+        ensures ok { OnOk result
+            ((c : ℕ) → in_painting self.new c ≡ (in_painting self.old c || in_code_points range c)) }
+        ensures err { OnErr result ((c : ℕ) → in_painting self.new c ≡ in_painting self.old c) }
     {
         self.ranges.push(PaintedRange {
             range,

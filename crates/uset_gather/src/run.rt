@@ -68,7 +68,7 @@ impl Run {
     ghost use Rattle.cp_invlist.specs.Ranges.{in_code_points};
     ghost use Rattle.uset_gather.specs.Painting.{in_run};
 
-    /// None.
+    /// No ranges.
     #[tactic(auto, unfolding(crate::specs::Painting::in_run))]
     pub(crate) fn new(alloc: Global) -> Run
         ensures { (c : ℕ) → in_run result c ≡ false }

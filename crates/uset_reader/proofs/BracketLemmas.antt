@@ -1,10 +1,11 @@
 -- Brackets that gather.
-use Rattle.std.proofs.Common.{◌≡◌, ◌≢◌, ◌<◌, ◌+◌, ℕ, suc, Bool, true, false, List, [], ◌∷◌, ◌++◌, length, take, slice_index_or, Option, Some, None, Result, Ok, Err, OnOk, Box, not, ◌||◌, ◌&&◌, refl, sym, ap, ◌∙◌, subst, arith}
+use Rattle.std.proofs.Common.{◌≡◌, ◌≢◌, ◌<◌, ◌+◌, ℕ, suc, Bool, true, false, List, [], ◌∷◌, ◌++◌, length, take, slice_index_or, Option, Some, None, Result, OnOk, Box, not, ◌||◌, ◌&&◌, refl, sym, ap, ◌∙◌, subst, arith}
 use Rattle.std.proofs.Math.Seq.{take-suc}
 use Rattle.std.specs.Global.{Global}
 use Rattle.std.specs.declared.string.String.{String}
 use Rattle.std.specs.String.{string_bytes}
 use Rattle.cp_invlist.specs.declared.error.NoMemory.{NoMemory}
+use Rattle.std.proofs.lemmas.Result.{on_ok_weaker}
 use Rattle.uset_grammar.specs.Tree.{Tree, Member, has, Steps, add, gathers, in_range, leading_hyphen}
 use Rattle.uset_grammar.specs.Item.{Item, chars, tree_of}
 use Rattle.uset_grammar.specs.Body.{add_each}
@@ -52,10 +53,6 @@ begins l b opening before place o a p at g fits = record {
   fits = fits;
 }
 
-on_both : {A E : Type 0} (result : Result A E) {P Q R : Type 0} → (P → Q → R) → OnOk result P → OnOk result Q → OnOk result R
-on_both (Ok x) f h k = f h k
-on_both (Err e) f h k = tt
-
 -- a range that was added
 becomes_added : (old new : Gathering) (first last : ℕ) → StepsBecome old new (λ sets m. gathering_in sets old m || in_range first last m) → KeepsPlaces old new → Becomes old (add first last) new
 becomes_added old new first last h places = record {
@@ -63,9 +60,9 @@ becomes_added old new first last h places = record {
   places = places;
 }
 
-pub added : (result : Result (Unit {0}) NoMemory) (old new : Gathering) (first last : ℕ) → OnOk result (StepsBecome old new (λ sets m. gathering_in sets old m || in_range first last m)) → OnOk result (KeepsPlaces old new) →
+pub added : (result : Result (Unit {0}) NoMemory) (old new : Gathering) (first last : ℕ) → OnOk result (StepsBecome old new (λ sets m. gathering_in sets old m || in_range first last m)) → KeepsPlaces old new →
     OnOk result (Becomes old (add first last) new)
-added result old new first last h places = on_both result (becomes_added old new first last) h places
+added result old new first last h places = on_ok_weaker result (λ becomes. becomes_added old new first last becomes places) h
 
 -- one more code point
 each_more : (cs : List ℕ) (c : ℕ) (rest : Steps) → add_each (cs ++ c ∷ []) rest ≡ add_each cs (add c c rest)

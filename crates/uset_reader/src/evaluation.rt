@@ -194,7 +194,8 @@ fn evaluate_steps(
     found: &[FoundSet<'_>],
 ) -> Result<CodePointInversionListAndStringList, NoMemory>
     requires { All (FoundFits all.now) found.now }
-    ensures { IfOk result (λ set. (m : Member) → in_set set m ≡ top (steps_over m (found_at found.now m) steps.now [])) }
+    ensures { IfOk result
+        (λ set. (m : Member) → in_set set m ≡ top (steps_over m (found_at found.now m) steps.now [])) }
 {
     let steps = with_complements(alloc, steps, found)?;
     let leaves = leaves_of(alloc, found)?;
@@ -211,7 +212,8 @@ fn evaluate_term<'v, 'd: 'v>(
 ) -> Result<CodePointInversionListAndStringList, NoMemory>
     requires { resolver.old ≡ syntax.now.database.now }
     ensures same { resolver.new ≡ resolver.old }
-    ensures set { IfOk result (λ set. (m : Member) → in_set set m ≡ term_in (sets_of (language_seen syntax.now)) term m) }
+    ensures set { IfOk result
+        (λ set. (m : Member) → in_set set m ≡ term_in (sets_of (language_seen syntax.now)) term m) }
 {
     let NumberedTerm { sets, steps } = term.into_numbered(alloc)?;
     let found = find_all(alloc, syntax, resolver, sets)?;
@@ -219,6 +221,7 @@ fn evaluate_term<'v, 'd: 'v>(
 }
 
 /// The set that was read with this syntax, as lists. Those that are made for properties are kept by the resolver.
+/// `NoMemory` says that a request for memory was refused.
 pub fn evaluate_set<'v, 'd: 'v>(
     alloc: Global,
     syntax: &Syntax<'v>,

@@ -34,7 +34,8 @@ impl<'a> Syntax<'a> {
 
     /// The syntax of the database's own tables, with these variables. `None` where one of the three is absent.
     pub fn of(variables: &'a VariableMap, database: &'a PropertyDatabase) -> Option<Syntax<'a>>
-        ensures language { option_map language_seen result ≡ language_of (variables_of variables.now) (tables_of database.now) }
+        ensures language { option_map language_seen result ≡
+            language_of (variables_of variables.now) (tables_of database.now) }
         ensures database { IfSome result (λ syntax. database_seen syntax ≡ database.now) }
     {
         let white_space = database.set(SetTable::PATTERN_WHITE_SPACE)?;

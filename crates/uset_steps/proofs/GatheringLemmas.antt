@@ -12,7 +12,7 @@ use Rattle.uset_steps.specs.Names.{Sets}
 use Rattle.uset_steps.specs.Places.{IsPlaceIn}
 use Rattle.uset_steps.specs.Operations.{operated}
 use Rattle.uset_steps.specs.Terms.{closed_in}
-use Rattle.uset_steps.specs.Later.{later_done, LaterFits, Gathers}
+use Rattle.uset_steps.specs.Later.{later_done, LaterFits, Gathers, Stays}
 use Rattle.uset_steps.specs.Gathering.{behind, IsPlaceBehind, BehindFits, gathering_in, Fits, KeepsPlaces, Becomes, BecomesWith, Settles}
 
 pub on_both : {A E : Type 0} (result : Result A E) {P Q R : Type 0} → (P → Q → R) → OnOk result P → OnOk result Q → OnOk result R
@@ -33,6 +33,10 @@ put_off old new before after does was is same members fits = λ sets h. record {
       ∙ (members sets m (gathered_in old.gathered m) ∙ ap (λ later. does sets m (behind sets later m (gathered_in old.gathered m))) (sym was));
   fits = subst (BehindFits sets) (sym is) (fits sets (subst (BehindFits sets) was h));
 }
+
+-- nothing was put off
+pub stayed : (old new : Gathering) (before after : Box Later Global) → old.later ≡ Some before → new.later ≡ Some after → new.gathered ≡ old.gathered → Stays before.value after.value → Settles old new
+stayed old new before after was is same stays = put_off old new before after (λ sets m b. b) was is same stays.members stays.fits
 
 -- and all sets are kept where they were
 pub same_places : (old new : Gathering) (before after : Box Later Global) → old.later ≡ Some before → new.later ≡ Some after → after.value.places ≡ before.value.places → KeepsPlaces old new

@@ -14,7 +14,7 @@ use Rattle.uset_steps.specs.Names.{Name, Sets, name_seen, named_in, StandsFor, I
 use Rattle.uset_steps.specs.Places.{IsPlaceIn, Adds}
 use Rattle.uset_steps.specs.Operations.{operated}
 use Rattle.uset_steps.specs.Steps.{with_kept, step_done, steps_done, IsWithin, AreWithin, names_none}
-use Rattle.uset_steps.specs.Later.{KeptFit, IsKept, IsKeptAt, LaterFits, Gathers}
+use Rattle.uset_steps.specs.Later.{KeptFit, IsKept, IsKeptAt, LaterFits, Gathers, Stays}
 use Rattle.uset_steps.proofs.ListLemmas.{get_grown, get_last}
 use Rattle.uset_steps.proofs.StepsLemmas.{done_more}
 
@@ -54,14 +54,26 @@ within_none n (Text spelled) h = tt
 within_none n (Set operation set) h = tt
 within_none n (Named operation place) h = absurd (let e = h in cc)
 
--- a step that names none was put off
-pub fits_more : (sets : Sets) (old new : Later) (s : Step) → new.places ≡ old.places → new.sets.items ≡ old.sets.items → new.steps.items ≡ old.steps.items ++ s ∷ [] → names_none s ≡ true → LaterFits sets old → LaterFits sets new
-fits_more sets old new s places same more none fits = record {
+-- other steps are put off
+fits_with : (sets : Sets) (old new : Later) → new.places ≡ old.places → new.sets.items ≡ old.sets.items → AreWithin (length old.sets.items) new.steps.items → LaterFits sets old → LaterFits sets new
+fits_with sets old new places same within fits = record {
   kept = λ name place is. subst (λ kept. IsKeptAt sets kept name place) (sym same) (fits.kept name place (subst (λ p. IsPlaceIn p name place) places is));
   own = subst (All (IsSetOf sets)) (sym same) fits.own;
-  within = subst (λ kept. AreWithin (length kept) new.steps.items) (sym same)
-      (subst (AreWithin (length old.sets.items)) (sym more) (within_more (length old.sets.items) old.steps.items s fits.within (within_none (length old.sets.items) s none)));
+  within = subst (λ kept. AreWithin (length kept) new.steps.items) (sym same) within;
 }
+
+-- the same steps, over the same sets
+pub stays : (old new : Later) → new.places ≡ old.places → new.sets.items ≡ old.sets.items → new.steps.items ≡ old.steps.items → Stays old new
+stays old new places same steps = record {
+  members = λ sets m b i. steps_done sets (same i) (steps i) m b;
+  fits = λ sets fits. fits_with sets old new places same (subst (AreWithin (length old.sets.items)) (sym steps) fits.within) fits;
+}
+
+-- a step that names none was put off
+pub fits_more : (sets : Sets) (old new : Later) (s : Step) → new.places ≡ old.places → new.sets.items ≡ old.sets.items → new.steps.items ≡ old.steps.items ++ s ∷ [] → names_none s ≡ true → LaterFits sets old → LaterFits sets new
+fits_more sets old new s places same more none fits =
+    let within = within_more (length old.sets.items) old.steps.items s fits.within (within_none (length old.sets.items) s none) in
+    fits_with sets old new places same (subst (AreWithin (length old.sets.items)) (sym more) within) fits
 
 the_set : Option (Member → Bool) → Member → Bool
 the_set None m = false

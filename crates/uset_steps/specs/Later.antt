@@ -29,6 +29,11 @@ pub record LaterFits (sets : Sets) (later : Later) : Type 0 where
   pub own : All (IsSetOf sets) later.sets.items
   pub within : AreWithin (length later.sets.items) later.steps.items
 
+-- The steps make what they made, and each set that is kept is still the one that its name stands for.
+pub record Stays (old new : Later) : Type 0 where
+  pub members : (sets : Sets) (m : Member) (b : Bool) → later_done sets new m b ≡ later_done sets old m b
+  pub fits : (sets : Sets) → LaterFits sets old → LaterFits sets new
+
 -- The set that the name stands for is kept at this place, and all sets that were kept stand where they did.
 pub record IsKept (sets : Sets) (name : Name) (old new : Later) (place : ℕ) : Type 0 where
   pub more : List Named

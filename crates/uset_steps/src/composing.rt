@@ -64,7 +64,8 @@ impl Term {
 
     /// The set with this name.
     pub(crate) fn of_name(alloc: Global, name: Name) -> Result<Term, NoMemory>
-        ensures { IfOk result (λ term. (sets : Sets) (m : Member) → term_in sets term m ≡ in_meant sets (name_seen name) m) }
+        ensures { IfOk result
+            (λ term. (sets : Sets) (m : Member) → term_in sets term m ≡ in_meant sets (name_seen name) m) }
     {
         Term::of_step(alloc, TermStep::Named(Box::new(alloc, name)?))
     }

@@ -12,7 +12,7 @@ use uset_read::Query;
 
 /// What a bracket gathers. From the first large set with a name on, steps are put off until the set is needed, or about 8 MB
 /// are kept: then a set that was named again and again is gathered no more than twice. So each step costs no more than its name
-/// does. After want of memory nothing is said of it, and it is to be let go.
+/// does. Where memory is refused to `gather` or `gather_named` nothing is said of it, and it is to be let go.
 pub struct Gathering<'a> {
     gathered: Gathered,
     later: Option<Box<Later<'a>>>,
@@ -35,7 +35,7 @@ pub struct Place {
 }
 
 impl<'a> Gathering<'a> {
-    ghost use Rattle.std.specs.Prelude.{◌≡◌, ◌≤◌, ◌||◌, true, false, None, IfSome, IfNone, IfOk, OnOk};
+    ghost use Rattle.std.specs.Prelude.{◌≡◌, ◌≤◌, ◌||◌, true, false, None, IfSome, IfNone, IfOk, OnOk, OnErr};
     ghost use Rattle.std.specs.Str.{chars};
     ghost use Rattle.std.specs.String.{string_bytes};
     ghost use Rattle.cp_strset.specs.StringList.{sole_of};
@@ -59,13 +59,14 @@ impl<'a> Gathering<'a> {
         }
     }
 
-    /// Adds the code points of the range.
+    /// Adds the code points of the range. Where memory is refused nothing has changed.
     #[inline]
     pub fn add_range(&mut self, range: CodePointRange) -> Result<(), NoMemory>
         requires { range.end ≤ 0x10_FFFF }
         ensures becomes { OnOk result
             (Becomes self.old self.new (λ sets m. gathering_in sets self.old m || in_range range.start range.end m)) }
-        ensures places { OnOk result (KeepsPlaces self.old self.new) }
+        ensures err { OnErr result (Settles self.old self.new) }
+        ensures places { KeepsPlaces self.old self.new }
     {
         let Some(later) = &mut self.later else {
             return self.gathered.add_range(range);
@@ -73,12 +74,13 @@ impl<'a> Gathering<'a> {
         later.put_off(Step::Range(Span::new(range)))
     }
 
-    /// Adds a string, which isn't one character.
+    /// Adds a string, which isn't one character. Where memory is refused nothing has changed.
     pub fn add_text(&mut self, alloc: Global, text: String) -> Result<(), NoMemory>
         requires { sole_of (chars (string_bytes text)) ≡ None }
         ensures becomes { OnOk result
             (Becomes self.old self.new (λ sets m. gathering_in sets self.old m || is_string (string_bytes text) m)) }
-        ensures places { OnOk result (KeepsPlaces self.old self.new) }
+        ensures err { OnErr result (Settles self.old self.new) }
+        ensures places { KeepsPlaces self.old self.new }
     {
         match &mut self.later {
             Some(later) => later.put_off(Step::Text(Box::new(alloc, Spelled::new(text))?)),
@@ -124,8 +126,8 @@ impl<'a> Gathering<'a> {
         set: Closed,
     ) -> Result<(), NoMemory>
         requires { self.old.later ≡ None }
-        ensures { OnOk result
-            (Becomes self.old self.new (λ sets m. operated operation (closed_in sets set m) (gathering_in sets self.old m))) }
+        ensures { OnOk result (Becomes self.old self.new
+            (λ sets m. operated operation (closed_in sets set m) (gathering_in sets self.old m))) }
     {
         let mut later = Box::new(alloc, Later::new(alloc))?;
         later.put_off_set(alloc, operation, set)?;
@@ -134,6 +136,7 @@ impl<'a> Gathering<'a> {
     }
 
     /// Gathers the set of another bracket. The places that were told may end with it, as with `gather_named`.
+    /// `NoMemory` says that a request for memory was refused.
     #[inline]
     pub fn gather(
         &mut self,
@@ -141,8 +144,8 @@ impl<'a> Gathering<'a> {
         operation: Operation,
         set: Closed,
     ) -> Result<(), NoMemory>
-        ensures { OnOk result
-            (Becomes self.old self.new (λ sets m. operated operation (closed_in sets set m) (gathering_in sets self.old m))) }
+        ensures { OnOk result (Becomes self.old self.new
+            (λ sets m. operated operation (closed_in sets set m) (gathering_in sets self.old m))) }
     {
         self.make_way(alloc)?;
         match (&mut self.later, set) {
@@ -158,7 +161,8 @@ impl<'a> Gathering<'a> {
     }
 
     /// Gathers a set with a name. Each name stands for one set: whatever `sets` gives the names, where it gives those that were
-    /// told before the sets that were told with them, and so this one. A large set is kept.
+    /// told before the sets that were told with them, and so this one. A large set is kept. `NoMemory` says that a
+    /// request for memory was refused.
     pub fn gather_named(
         &mut self,
         alloc: Global,
@@ -199,11 +203,13 @@ impl<'a> Gathering<'a> {
     }
 
     /// Gathers the set that is kept at this place, as `gather_named` does the set that its name stands for, and nothing where
-    /// none is kept there. A place that another bracket told may hold another set here, or none.
+    /// none is kept there. A place that another bracket told may hold another set here, or none. Where memory is refused nothing
+    /// has changed.
     pub fn gather_again(&mut self, operation: Operation, place: Place) -> Result<(), NoMemory>
         ensures gathers { OnOk result (GathersKept operation place self.old self.new) }
         ensures elsewhere { OnOk result (kept_at self.old place ≡ None → Settles self.old self.new) }
-        ensures places { OnOk result (KeepsPlaces self.old self.new) }
+        ensures err { OnErr result (Settles self.old self.new) }
+        ensures places { KeepsPlaces self.old self.new }
     {
         match &mut self.later {
             Some(later) => later.put_off_again(operation, place.index),
@@ -211,7 +217,8 @@ impl<'a> Gathering<'a> {
         }
     }
 
-    /// The set of what was gathered, or where it is negated that of the other code points.
+    /// The set of what was gathered, or where it is negated that of the other code points. `NoMemory` says that a
+    /// request for memory was refused.
     #[inline]
     pub fn close(self, alloc: Global, negated: bool) -> Result<Closed, NoMemory>
         ensures { IfOk result (λ set. (sets : Sets) → Fits sets self.entry → (m : Member) →

@@ -55,7 +55,7 @@ fn push_set<'a>(sets: &mut Vec<Named<'a>>, named: Named<'a>) -> Result<(), NoMem
 }
 
 impl<'a> Later<'a> {
-    ghost use Rattle.std.specs.Prelude.{◌≡◌, Bool, true, [], None, reverse, slice_get, IfSome, IfNone, IfOk, OnOk};
+    ghost use Rattle.std.specs.Prelude.{◌≡◌, Bool, true, [], None, reverse, slice_get, IfSome, IfNone, IfOk, OnOk, OnErr};
     ghost use Rattle.uset_grammar.specs.Tree.{Member};
     ghost use Rattle.uset_gather.specs.Gathered.{gathered_in};
     ghost use Rattle.uset_read.specs.Queries.{query_seen};
@@ -64,9 +64,9 @@ impl<'a> Later<'a> {
     ghost use Rattle.uset_steps.specs.Steps.{step_done, MakeSame, names_none};
     ghost use Rattle.uset_steps.specs.Terms.{closed_in};
     ghost use Rattle.uset_steps.specs.Places.{IsPlaceIn, HasNoPlace, HasPlace};
-    ghost use Rattle.uset_steps.specs.Later.{later_done, LaterFits, Keeps, GathersNamed, GathersAgain};
+    ghost use Rattle.uset_steps.specs.Later.{later_done, LaterFits, Keeps, GathersNamed, GathersAgain, Stays};
 
-    /// None yet.
+    /// No steps yet.
     pub(crate) fn new(alloc: Global) -> Later<'a>
         ensures members { (sets : Sets) (m : Member) (b : Bool) → later_done sets result m b ≡ b }
         ensures names { (sets : Sets) → LaterFits sets result }
@@ -81,6 +81,7 @@ impl<'a> Later<'a> {
     }
 
     /// Puts off a step that names no set.
+    #[tactic(auto, using(crate::proofs::KeptLemmas::stays))]
     #[cold]
     pub(crate) fn put_off(&mut self, step: Step) -> Result<(), NoMemory>
         requires { names_none step ≡ true }
@@ -88,6 +89,7 @@ impl<'a> Later<'a> {
             later_done sets self.new m b ≡ step_done sets [] step m (later_done sets self.old m b)) }
         ensures names { OnOk result ((sets : Sets) → LaterFits sets self.old → LaterFits sets self.new) }
         ensures places { self.new.places ≡ self.old.places }
+        ensures err { OnErr result (Stays self.old self.new) }
     {
         self.steps.push(step)?;
         Ok(())
@@ -157,6 +159,7 @@ impl<'a> Later<'a> {
     }
 
     /// Puts off the gathering of the set at this place once more, if one is kept there.
+    #[tactic(auto, using(crate::proofs::KeptLemmas::stays))]
     pub(crate) fn put_off_again(
         &mut self,
         operation: Operation,
@@ -165,6 +168,7 @@ impl<'a> Later<'a> {
         ensures gathers { OnOk result (GathersAgain operation place self.old self.new) }
         ensures elsewhere { slice_get self.old.sets.items place ≡ None → self.new ≡ self.old }
         ensures places { self.new.places ≡ self.old.places }
+        ensures err { OnErr result (Stays self.old self.new) }
     {
         if place < self.sets.len() {
             self.steps.push(Step::Named(operation, place))?;

@@ -64,7 +64,7 @@ impl Named<'_> {
     ghost use Rattle.uset_steps.specs.Names.{Sets, IsSetOf, named_in};
     ghost use Rattle.uset_steps.specs.Terms.{closed_in};
 
-    /// The set alone. A very large one is left as a term.
+    /// The set alone. A very large one is left as a term. `NoMemory` says that a request for memory was refused.
     pub fn closed(self, alloc: Global) -> Result<Closed, NoMemory>
         ensures { IfOk result (λ set. (sets : Sets) → IsSetOf sets self.entry → (m : Member) →
             closed_in sets set m ≡ named_in self.entry.set m) }
@@ -95,7 +95,7 @@ impl NamedSet<'_> {
         }
     }
 
-    /// The set alone.
+    /// The set alone. `NoMemory` says that a request for memory was refused.
     pub fn gathered(&self, alloc: Global) -> Result<Gathered, NoMemory>
         ensures { IfOk result (λ g. (m : Member) → gathered_in g m ≡ named_in self.now m) }
     {

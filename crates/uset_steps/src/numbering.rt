@@ -114,7 +114,7 @@ impl Term {
     ghost use Rattle.uset_steps.specs.Terms.{term_in};
     ghost use Rattle.uset_steps.specs.NumberedTerms.{numbered_in};
 
-    /// The term, with numbers for its sets.
+    /// The term, with numbers for its sets. `NoMemory` says that a request for memory was refused.
     pub fn into_numbered(self, alloc: Global) -> Result<NumberedTerm, NoMemory>
         ensures { IfOk result (λ term. (sets : Sets) (m : Member) → numbered_in sets term m ≡ term_in sets self m) }
     {

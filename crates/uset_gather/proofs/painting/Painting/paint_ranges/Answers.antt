@@ -19,4 +19,4 @@ loop-painted-init c = λ d. painting_same c.args.self.now _ refl refl c.in_ok-re
 
 pub loop-painted-preserved : goal.loop-painted-preserved
 loop-painted-preserved c = λ d.
-    covered_more c.args.ranges.now c.loop-painted.painted-index d _ _ _ _ c.loop-painted-test.true (c.in_ok-add_range.ensures d) (c.loop-painted.invariant d)
+    covered_more c.args.ranges.now c.loop-painted.painted-index d _ _ _ _ c.loop-painted-test.true (c.in_ok-add_range.ensures.ok d) (c.loop-painted.invariant d)

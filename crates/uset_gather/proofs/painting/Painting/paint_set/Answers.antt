@@ -19,7 +19,7 @@ loop-range-preserved c =
     let given = c.loop-range.yielded in
     let parts = ap (λ rs. given ++ rs) c.in-Some.ensures.steps ∙ sym (append_assoc given (c.in-Some.range ∷ []) c.next.new.self) in (
       subst (AreMaximalRanges (contains c.args.set.now)) parts c.loop-range.invariant.0,
-      λ d. joined_more _ _ _ given c.in-Some.range d (c.loop-range.invariant.1 d) (c.in_ok-add_range.ensures d),
+      λ d. joined_more _ _ _ given c.in-Some.range d (c.loop-range.invariant.1 d) (c.in_ok-add_range.ensures.ok d),
     )
 
 pub returns : goal.returns

@@ -1,10 +1,10 @@
 use Rattle.std.proofs.Common.{Some, ◌||◌, refl, ap, ◌∙◌}
-use Rattle.std.proofs.lemmas.Result.{on_ok_weaker}
+use Rattle.std.proofs.lemmas.Result.{on_err_weaker}
 use Rattle.std.specs.Box.{with_value}
 use Rattle.std.specs.String.{string_bytes}
 use Rattle.uset_gather.specs.Gathered.{is_string}
 use Rattle.uset_steps.specs.Later.{later_done}
-use Rattle.uset_steps.proofs.GatheringLemmas.{on_both, put_off, same_places}
+use Rattle.uset_steps.proofs.GatheringLemmas.{on_both, put_off, stayed, same_places}
 use Rattle.uset_steps.proofs.gathering.Gathering.add_text.Goals as goal
 
 pub returns-in_ok-new-in-Some-clause-becomes : goal.returns-in_ok-new-in-Some-clause-becomes
@@ -18,5 +18,12 @@ returns-in_ok-new-in-Some-clause-becomes c =
 
 pub returns-in_ok-new-in-Some-clause-places : goal.returns-in_ok-new-in-Some-clause-places
 returns-in_ok-new-in-Some-clause-places c =
-    on_ok_weaker c.put_off.result (λ h. same_places c.args.self.now (record { gathered = c.args.self.now.gathered; later = Some (with_value c.in-Some.later c.put_off.new.self) }) c.in-Some.later (with_value c.in-Some.later c.put_off.new.self) c.in-Some.is refl (rw c.deref_mut.ensures.value at c.put_off.ensures.places))
-    c.put_off.ensures.names
+    let before = c.in-Some.later in
+    let after = with_value before c.put_off.new.self in
+    same_places c.args.self.now (record { gathered = c.args.self.now.gathered; later = Some after }) before after c.in-Some.is refl (rw c.deref_mut.ensures.value at c.put_off.ensures.places)
+
+pub returns-in_ok-new-in-Some-clause-err : goal.returns-in_ok-new-in-Some-clause-err
+returns-in_ok-new-in-Some-clause-err c =
+    let before = c.in-Some.later in
+    on_err_weaker c.put_off.result (λ stays. stayed c.args.self.now _ before (with_value before c.put_off.new.self) c.in-Some.is refl refl stays)
+    (rw c.deref_mut.ensures.value at c.put_off.ensures.err)
