@@ -1,15 +1,15 @@
 -- Strings with numbers.
-use Rattle.std.proofs.Common.{◌≡◌, ◌≢◌, ◌<◌, ◌≤◌, ◌||◌, ℕ, zero, suc, true, false, ◌==◌, Option, Some, OnOk, OnErr, Result, Ok, Err, List, [], ◌∷◌, ◌++◌, ◌-◌, length, map, take, refl, sym, subst, ap, ap₂, ◌∙◌, arith, nat_cmp, inl, inr}
+use Rattle.std.proofs.Common.{◌≡◌, ◌≢◌, ◌<◌, ◌≤◌, ◌||◌, ℕ, zero, suc, true, false, ◌==◌, Option, Some, OnOk, OnErr, Result, Ok, Err, List, [], ◌∷◌, ◌++◌, ◌-◌, length, map, take, get_or, refl, sym, subst, ap, ap₂, ◌∙◌, arith, nat_cmp, inl, inr, append_assoc}
 use Rattle.std.specs.Prelude.{cond, ◌↔◌}
 use Rattle.std.proofs.Math.Bool.{or-true, or-false}
 use Rattle.std.proofs.Math.Seq.{take-append_seam}
-use Rattle.std.proofs.lemmas.Bool.{cases_Bool, cases_lt, cond-true, cond-false, false_from_ne_true}
+use Rattle.std.proofs.lemmas.Bool.{cases_Bool, cases_lt, cond-true, cond-false, false_from_ne_true, or_cases}
 use Rattle.std.proofs.lemmas.Bool.Decides.{eqb_tells}
-use Rattle.std.proofs.lemmas.List.{append-nil, length-append, length-map, map-append}
+use Rattle.std.proofs.lemmas.List.{append-nil, length-append, length-map, map-append, get_or-map}
 use Rattle.std.proofs.lemmas.List.Elements.{All-append, All-cons, All-nil}
 use Rattle.std.proofs.lemmas.List.Folds.{list_any-append}
 use Rattle.std.proofs.lemmas.Map.Text.{btree_map_updates_text}
-use Rattle.std.proofs.lemmas.Option.{same_Some, slice_get_within}
+use Rattle.std.proofs.lemmas.Option.{same_Some, slice_get_within, slice_get-get_or}
 use Rattle.std.proofs.lemmas.Slice.Eq.{bytes_eq-Decides}
 use Rattle.std.specs.BTreeMap.{BTreeMap, get_by_text, UpdatesBy}
 use Rattle.std.specs.Cmp.Lexicographic.{slice_cmp}
@@ -138,7 +138,7 @@ numbered_front all more (n ∷ numbers) (s ∷ strings) h =
     ap₂ ◌∷◌ (at_front all more n s (number_at all n numbers s strings h)) (numbered_front all more numbers strings (numbers_behind all n numbers s strings h))
 
 -- one number more
-pub numbered_more : (old new : List (List ℕ)) (numbers : List ℕ) (strings : List (List ℕ)) (n : ℕ) (s : List ℕ) → Grows old new → AreNumbered old numbers strings → IsAt new n s →
+pub numbered_more : (old new : List (List ℕ)) (numbers : List ℕ) (strings : List (List ℕ)) (n : ℕ) (s : List ℕ) → Grows (s ∷ []) old new → AreNumbered old numbers strings → IsAt new n s →
     AreNumbered new (numbers ++ n ∷ []) (strings ++ s ∷ [])
 numbered_more old new numbers strings n s grown h at =
     let front : AreNumbered new numbers strings = subst (λ l. AreNumbered l numbers strings) (sym grown.is) (numbered_front old grown.more numbers strings h) in
@@ -206,11 +206,36 @@ without_error (Ok x) P none h = h
 without_error (Err e) P none h = cc
 
 -- what is the same has grown by nothing
-pub grows_same : (old new : List (List ℕ)) → new ≡ old → Grows old new
-grows_same old new is = record {
+pub grows_same : (strings old new : List (List ℕ)) → new ≡ old → Grows strings old new
+grows_same strings old new is = record {
   more = [];
   is = is ∙ sym (append-nil old);
+  theirs = λ bytes h. cc;
 }
+
+-- what has grown by one of the strings more
+grows_more : (strings old between new : List (List ℕ)) (i : ℕ) (s : List ℕ) → IsAt strings i s → Grows strings old between → Grows (s ∷ []) between new → Grows strings old new
+grows_more strings old between new i s at before last = record {
+  more = before.more ++ last.more;
+  is = last.is ∙ (ap (λ all. all ++ last.more) before.is ∙ append_assoc old before.more last.more);
+  theirs = λ bytes h. elim (or_cases (holds before.more bytes) (holds last.more bytes) (sym (list_any-append (λ x. bytes_eq x bytes) before.more last.more) ∙ h)) [
+    | inl theirs ↦ before.theirs bytes theirs
+    | inr is_last ↦
+        let one : bytes_eq s bytes ≡ true = elim (or_cases (bytes_eq s bytes) false (last.theirs bytes is_last)) [
+          | inl same ↦ same
+          | inr none ↦ cc
+        ] in
+        subst (λ text. holds strings text ≡ true) ((bytes_eq-Decides s bytes).0 one) (at_held strings i s at)
+  ];
+}
+
+-- the same of strings in a list
+pub grows_at : (strings : List (String Global)) (old between new : List (List ℕ)) (i : ℕ) (text : List ℕ) (d : String Global) → i < length strings → text ≡ string_bytes (get_or strings i d) →
+    Grows (map string_bytes strings) old between → Grows (text ∷ []) between new → Grows (map string_bytes strings) old new
+grows_at strings old between new i text d within is before last =
+    let all = map string_bytes strings in
+    let at : slice_get all i ≡ Some (get_or all i (string_bytes d)) = slice_get-get_or all i (string_bytes d) (omega (arith, length-map strings string_bytes, within)) in
+    grows_more all old between new i text (at ∙ ap Some (get_or-map string_bytes strings i d (string_bytes d) within ∙ sym is)) before last
 
 -- and keeps its numbers
 pub keeps_same : (old new : List (List ℕ)) → new ≡ old → KeepsNumbers old new

@@ -20,10 +20,11 @@ abbrev pub KeepsNumbers : List (List ℕ) → List (List ℕ) → Type 0
 KeepsNumbers old new = (strings numbers : List (List ℕ)) →
     AreNumbersOf old strings numbers → AreNumbersOf new strings numbers
 
--- one list goes on where the other ends
-pub record Grows (old new : List (List ℕ)) : Type 0 where
+-- one list goes on where the other ends, by some of these strings alone
+pub record Grows (strings old new : List (List ℕ)) : Type 0 where
   pub more : List (List ℕ)
   pub is : new ≡ old ++ more
+  pub theirs : (bytes : List ℕ) → holds more bytes ≡ true → holds strings bytes ≡ true
 
 -- no string stands at two places
 abbrev pub StandOnce : List (List ℕ) → Type 0

@@ -29,7 +29,7 @@ impl Model for StringNumbers {
 }
 
 impl StringNumbers {
-    ghost use Rattle.std.specs.Prelude.{◌≢◌, ◌<◌, ◌/◌, ◌↔◌, List, [], All, Some, length, map};
+    ghost use Rattle.std.specs.Prelude.{◌≢◌, ◌<◌, ◌/◌, ◌↔◌, List, [], ◌∷◌, All, Some, length, map};
     ghost use Rattle.std.specs.Str.{chars};
     ghost use Rattle.std.specs.String.{string_bytes};
     ghost use Rattle.cp_strset_terms.specs.Numbers.{AreNumbersOf, KeepsNumbers, AreNumbered, Grows, StandOnce};
@@ -72,7 +72,7 @@ impl StringNumbers {
     fn add(&mut self, alloc: Global, text: &str) -> Result<usize, NoMemory>
         requires none_of_one { length (chars text.now) ≢ 1 }
         requires unnumbered { (number : ℕ) → IsAt self.old number text.now → ⊥ }
-        ensures grown { Grows self.old self.new }
+        ensures grown { Grows (text.now ∷ []) self.old self.new }
         ensures kept { KeepsNumbers self.old self.new }
         ensures number { IfOk result (λ number. IsAt self.new number text.now) }
     {
@@ -87,9 +87,10 @@ impl StringNumbers {
     }
 
     /// The number of the string, which has one from now on.
+    #[tactic(auto, using(crate::proofs::NumbersLemmas::grows_same))]
     fn number_of(&mut self, alloc: Global, text: &str) -> Result<usize, NoMemory>
         requires { length (chars text.now) ≢ 1 }
-        ensures grown { Grows self.old self.new }
+        ensures grown { Grows (text.now ∷ []) self.old self.new }
         ensures kept { KeepsNumbers self.old self.new }
         ensures number { IfOk result (λ number. IsAt self.new number text.now) }
     {
@@ -100,8 +101,10 @@ impl StringNumbers {
     }
 
     /// The number of each string, which has one from now on.
+    #[tactic(auto, using(crate::proofs::NumbersLemmas::grows_same))]
     fn numbers_of(&mut self, alloc: Global, strings: &[String]) -> Result<Vec<usize>, NoMemory>
         requires { All (λ s. length (chars s) ≢ 1) (map string_bytes strings.now) }
+        ensures grown { Grows (map string_bytes strings.now) self.old self.new }
         ensures kept { KeepsNumbers self.old self.new }
         ensures numbers { IfOk result
             (λ numbers. AreNumbered self.new numbers.items (map string_bytes strings.now)) }
@@ -113,13 +116,15 @@ impl StringNumbers {
         Ok(numbers)
     }
 
-    /// The numbers of the strings of the set, each of which has one from now on. The numbers of other sets stay theirs.
-    /// `NoMemory` says that a request for memory was refused: some of the strings may have their numbers then.
+    /// The numbers of the strings of the set, each of which has one from now on, as no others do that had none. The numbers of
+    /// other sets stay theirs. `NoMemory` says that a request for memory was refused: some of the strings may have their numbers
+    /// then.
     pub fn number(
         &mut self,
         alloc: Global,
         set: &CodePointInversionListAndStringList,
     ) -> Result<NumberSet, NoMemory>
+        ensures grown { Grows set.now.strings self.old self.new }
         ensures kept { KeepsNumbers self.old self.new }
         ensures numbers { IfOk result (AreNumbersOf self.new set.now.strings) }
     {

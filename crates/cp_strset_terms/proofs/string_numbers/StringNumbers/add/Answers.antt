@@ -36,7 +36,7 @@ pub invariant_of-self : goal.invariant_of-self
 invariant_of-self c = c.self.invariant
 
 pub returns-in_err-from_str-clause-grown : goal.returns-in_err-from_str-clause-grown
-returns-in_err-from_str-clause-grown c = grows_same c.args.self.now (map string_bytes c.self.inside.texts.items) c.self.view_is
+returns-in_err-from_str-clause-grown c = grows_same (c.args.text.now ∷ []) c.args.self.now (map string_bytes c.self.inside.texts.items) c.self.view_is
 
 pub returns-in_err-from_str-clause-kept : goal.returns-in_err-from_str-clause-kept
 returns-in_err-from_str-clause-kept c = keeps_same c.args.self.now (map string_bytes c.self.inside.texts.items) c.self.view_is
@@ -45,7 +45,7 @@ pub invariant_of-self-in_err-push : goal.invariant_of-self-in_err-push
 invariant_of-self-in_err-push c = subst (λ texts. AreIndexed (map string_bytes texts) c.self.inside.indices) (sym c.in_err-push.ensures.items) c.self.invariant
 
 pub returns-in_err-push-clause-grown : goal.returns-in_err-push-clause-grown
-returns-in_err-push-clause-grown c = grows_same c.args.self.now (map string_bytes c.push.new.self.items) (ap (map string_bytes) c.in_err-push.ensures.items ∙ c.self.view_is)
+returns-in_err-push-clause-grown c = grows_same (c.args.text.now ∷ []) c.args.self.now (map string_bytes c.push.new.self.items) (ap (map string_bytes) c.in_err-push.ensures.items ∙ c.self.view_is)
 
 pub returns-in_err-push-clause-kept : goal.returns-in_err-push-clause-kept
 returns-in_err-push-clause-kept c = keeps_same c.args.self.now (map string_bytes c.push.new.self.items) (ap (map string_bytes) c.in_err-push.ensures.items ∙ c.self.view_is)
@@ -54,6 +54,7 @@ pub returns-clause-grown : goal.returns-clause-grown
 returns-clause-grown c = record {
   more = c.args.text.now ∷ [];
   is = (one_more c).0 ∙ ap (λ all. all ++ c.args.text.now ∷ []) c.self.view_is;
+  theirs = λ bytes h. h;
 }
 
 -- where the map has no memory the string is taken back
@@ -66,7 +67,7 @@ invariant_of-self-then-is_err c =
     (indexed_same (map string_bytes c.self.inside.texts.items) c.self.inside.indices c.insert.new.self (with_error c.insert.result _ (sym c.if-is_err.ensures.value) c.insert.ensures.err) c.self.invariant)
 
 pub returns-then-is_err-clause-grown : goal.returns-then-is_err-clause-grown
-returns-then-is_err-clause-grown c = grows_same c.args.self.now (map string_bytes c.pop.new.self.items) (ap (map string_bytes) (taken_back c) ∙ c.self.view_is)
+returns-then-is_err-clause-grown c = grows_same (c.args.text.now ∷ []) c.args.self.now (map string_bytes c.pop.new.self.items) (ap (map string_bytes) (taken_back c) ∙ c.self.view_is)
 
 pub returns-then-is_err-clause-kept : goal.returns-then-is_err-clause-kept
 returns-then-is_err-clause-kept c = keeps_same c.args.self.now (map string_bytes c.pop.new.self.items) (ap (map string_bytes) (taken_back c) ∙ c.self.view_is)
