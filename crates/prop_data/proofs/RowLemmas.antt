@@ -12,7 +12,7 @@ use Rattle.prop_data.specs.Rows.{holds}
 use Rattle.prop_data.specs.MapBuilder.{next_of}
 use Rattle.prop_data.specs.Accepted.{AreAccepted}
 use Rattle.prop_data.specs.Forbidden.{is_forbidden, IsAllowed}
-use Rattle.prop_data.specs.LineFault.{overlaps, forbidden, is_behind, order_fault, range_fault, syntax_fault, value_fault, accepts_value, set_row_fault, map_row_fault}
+use Rattle.prop_data.specs.LineFault.{overlaps, forbidden, is_not_above, order_fault, range_fault, syntax_fault, value_fault, accepts_value, set_row_fault, map_row_fault}
 
 -- a range that passes its tests
 pub record InOrder (last : Option ℕ) (r : ℕ × ℕ) : Type 0 where
@@ -20,7 +20,7 @@ pub record InOrder (last : Option ℕ) (r : ℕ × ℕ) : Type 0 where
   pub within : r.1 ≤ 0x10_FFFF
   pub behind : next_of last ≤ r.0
 
-behind_last : (last : Option ℕ) (start : ℕ) → is_behind last start ≡ false → next_of last ≤ start
+behind_last : (last : Option ℕ) (start : ℕ) → is_not_above last start ≡ false → next_of last ≤ start
 behind_last None start h = omega arith
 behind_last (Some last) start h = grind (arith, nat_tests)
 
@@ -118,6 +118,6 @@ allowed-grown t start end old new allowed fine grown = λ c forbidden_here. grow
             absurd (both_ways _ (apart-within start end c (forbidden t) (no_syntax _ fine) below above) forbidden_here)
 
 -- a script above the one before it
-pub order_fault-none : (last : Option ℕ) (v n : ℕ) → v ≡ n → is_behind last v ≡ false → order_fault last n ≡ None
+pub order_fault-none : (last : Option ℕ) (v n : ℕ) → v ≡ n → is_not_above last v ≡ false → order_fault last n ≡ None
 unfolding order_fault
-order_fault-none last v n same above = ap (λ (b : Bool). cond b (Some ExtensionOrder) None) (ap (is_behind last) (sym same) ∙ above)
+order_fault-none last v n same above = ap (λ (b : Bool). cond b (Some ExtensionOrder) None) (ap (is_not_above last) (sym same) ∙ above)

@@ -6,7 +6,7 @@ use Rattle.prop_data.specs.declared.error.TableErrorKind.{TableErrorKind}
 use Rattle.prop_data.specs.declared.error.TableErrorKind.TheVariants.{UnknownLine, TableTwice, BadNumber, TooLarge, RangeOrder, ValueOutOfType, BadName, NamesClash, SyntaxAscii, ExtensionOrder, ExtensionMissing}
 use Rattle.prop_data.specs.Headers.{Table, set_table, map_table, names_table, long_table, short_table, emoji_table, scx_table, ext_table}
 use Rattle.prop_data.specs.Line.{set_header, map_header, names_header, long_header, short_header, emoji_header, scx_header, ext_header, Row, Line, blank, header, row, closing, other}
-use Rattle.prop_data.specs.LineFault.{Above, overlaps, forbidden, is_behind, accepts_value, kept_of, line_fault, range_fault, syntax_fault, value_fault, after_end, set_header_fault, map_header_fault, names_header_fault, text_header_fault, set_row_fault, map_row_fault, names_row_fault, text_row_fault, row_fault, kept_fault, no_text, no_emoji, order_fault, lacks_some_list, missing_fault, scx_header_fault, ext_header_fault, scx_row_fault, ext_row_fault, emoji_header_fault, emoji_range_fault, emoji_string_fault, emoji_row_fault}
+use Rattle.prop_data.specs.LineFault.{Above, overlaps, forbidden, is_not_above, accepts_value, kept_of, line_fault, range_fault, syntax_fault, value_fault, after_end, set_header_fault, map_header_fault, names_header_fault, text_header_fault, set_row_fault, map_row_fault, names_row_fault, text_row_fault, row_fault, kept_fault, no_text, no_emoji, order_fault, lacks_some_list, missing_fault, scx_header_fault, ext_header_fault, scx_row_fault, ext_row_fault, emoji_header_fault, emoji_range_fault, emoji_string_fault, emoji_row_fault}
 use Rattle.prop_data.specs.Rows.{is_subtags}
 use Rattle.prop_data.specs.Strings.{braced}
 use Rattle.prop_data.specs.Tests.{Said, nothing, unknown, ending, set_begins, map_begins, names_begin, long_begins, short_begins, emoji_begins, scx_begins, ext_begins, scx_row, ext_row, set_row, map_row, names_row, long_row, short_row, emoji_range, emoji_string, said, said_by_emoji, said_by_row, tests, first_failing, fault_of_line}
@@ -102,16 +102,16 @@ in_order seen (ext_begins (Some i) (Some (Some s))) = three (is_some (seen.table
 in_order seen (scx_row None n) = refl
 in_order seen (scx_row (Some r) None) = refl
 in_order seen (scx_row (Some r) (Some n)) =
-    value (nat_lt 0x10_FFFF (max r.0 r.1)) (nat_lt r.1 r.0 || is_behind seen.last r.0) (accepts_value 4 n) TooLarge RangeOrder ValueOutOfType
+    value (nat_lt 0x10_FFFF (max r.0 r.1)) (nat_lt r.1 r.0 || is_not_above seen.last r.0) (accepts_value 4 n) TooLarge RangeOrder ValueOutOfType
 in_order seen (ext_row None) = refl
-in_order seen (ext_row (Some n)) = script (accepts_value 4 n) (is_behind seen.last n) ValueOutOfType ExtensionOrder
+in_order seen (ext_row (Some n)) = script (accepts_value 4 n) (is_not_above seen.last n) ValueOutOfType ExtensionOrder
 in_order seen (set_row t None) = refl
 in_order seen (set_row t (Some r)) =
-    two (nat_lt 0x10_FFFF (max r.0 r.1)) (nat_lt r.1 r.0 || is_behind seen.last r.0) TooLarge RangeOrder (cond (list_any (overlaps r) (forbidden t)) (Some SyntaxAscii) None)
+    two (nat_lt 0x10_FFFF (max r.0 r.1)) (nat_lt r.1 r.0 || is_not_above seen.last r.0) TooLarge RangeOrder (cond (list_any (overlaps r) (forbidden t)) (Some SyntaxAscii) None)
 in_order seen (map_row t None n) = refl
 in_order seen (map_row t (Some r) None) = refl
 in_order seen (map_row t (Some r) (Some n)) =
-    value (nat_lt 0x10_FFFF (max r.0 r.1)) (nat_lt r.1 r.0 || is_behind seen.last r.0) (accepts_value t n) TooLarge RangeOrder ValueOutOfType
+    value (nat_lt 0x10_FFFF (max r.0 r.1)) (nat_lt r.1 r.0 || is_not_above seen.last r.0) (accepts_value t n) TooLarge RangeOrder ValueOutOfType
 in_order seen (names_row t None name) = refl
 in_order seen (names_row t (Some n) name) = refl
 in_order seen (long_row t None name) = refl

@@ -16,6 +16,7 @@ use Rattle.prop_data.specs.Extensions.{list_in, list_of, scripts_map}
 use Rattle.prop_data.specs.declared.scripts.ScriptTable.{ScriptTable}
 use Rattle.prop_data.specs.declared.scripts.ScriptWithExtensionsProperty.{ScriptWithExtensionsProperty}
 use Rattle.prop_data.specs.TableText.{table_fault}
+use Rattle.prop_values.specs.Tables.{script_table, combining_class_table}
 
 -- the inversion list of a set table, by the table's number
 abbrev pub set_of : PropertyDatabase → ℕ → Option (List ℕ)
@@ -32,14 +33,14 @@ names_of database t = get nat_cmp database.names t
 -- the long names of a property's values by their numbers, by the table's number: those of combining classes are kept apart
 abbrev pub long_of : PropertyDatabase → ℕ → Option (ℕ → Option (List ℕ))
 long_of database t =
-    if nat_eq t 11 then option_map sparse_text database.long_ccc
+    if nat_eq t combining_class_table then option_map sparse_text database.long_ccc
     else option_map linear_text (get nat_cmp database.long_linear t)
 
 -- the short names: those of scripts are kept apart too
 abbrev pub short_of : PropertyDatabase → ℕ → Option (ℕ → Option (List ℕ))
 short_of database t =
-    if nat_eq t 11 then option_map sparse_text database.short_ccc
-    else if nat_eq t 4 then option_map subtag_text database.short_script
+    if nat_eq t combining_class_table then option_map sparse_text database.short_ccc
+    else if nat_eq t script_table then option_map subtag_text database.short_script
     else option_map linear_text (get nat_cmp database.short_linear t)
 
 -- the emoji set of an emoji table, by the table's number

@@ -3,7 +3,7 @@ use Rattle.std.specs.Prelude.{ℕ, nat_eq, List, Option, Some, None, option_map,
 use Rattle.std.specs.List.{position}
 use Rattle.std.specs.Str.{bytes_eq}
 use Rattle.prop_binary.specs.Tables.{set_table_names, emoji_table_names}
-use Rattle.prop_values.specs.Tables.{map_table_names, names_table_names}
+use Rattle.prop_values.specs.Tables.{map_table_names, names_table_names, glyph_table}
 use Rattle.prop_data.specs.Line.{Header, set_header, map_header, names_header, long_header, short_header, emoji_header, scx_header, ext_header}
 use Rattle.prop_data.specs.Numbers.{decimal_number}
 
@@ -25,7 +25,7 @@ emoji_number name = position (λ known. bytes_eq known name) emoji_table_names
 
 -- a table whose values have names, as all but the mirroring glyph's do
 abbrev pub has_names : ℕ → Option ℕ
-has_names t = if nat_eq t 17 then None else Some t
+has_names t = if nat_eq t glyph_table then None else Some t
 
 -- the number of the table of one name for each value, with this name
 abbrev pub text_number : List ℕ → Option ℕ

@@ -8,7 +8,7 @@ use Rattle.prop_names.specs.Names.{Names, value_of_folding}
 use Rattle.prop_names.specs.ValueNames.{not_empty}
 use Rattle.prop_values.specs.ScriptWithExt.{kind_of}
 use Rattle.prop_values.specs.Subtag.{is_four_letters, in_subtag_case}
-use Rattle.prop_values.specs.Tables.{accepts, accepts_name_of}
+use Rattle.prop_values.specs.Tables.{accepts, accepts_name_of, script_table}
 use Rattle.prop_data.specs.declared.error.TableErrorKind.{TableErrorKind}
 use Rattle.prop_data.specs.declared.error.TableErrorKind.TheVariants.{UnknownLine, UnknownTable, TableTwice, BadNumber, TooLarge, RangeOrder, ValueOutOfType, BadName, NamesClash, SyntaxAscii, ExtensionOrder, StringOfOne, StringTwice, ExtensionMissing, AfterEnd}
 use Rattle.prop_data.specs.Headers.{Table, set_table, map_table, names_table, long_table, short_table, emoji_table, scx_table, ext_table, set_number, map_number, names_number, text_number, emoji_number}
@@ -55,15 +55,15 @@ abbrev pub overlaps : ℕ × ℕ → ℕ × ℕ → Bool
 overlaps r s = nat_le r.0 s.1 && nat_le s.0 r.1
 
 -- the row's first code point, or its script, is not above the last of the row before it
-abbrev pub is_behind : Option ℕ → ℕ → Bool
-is_behind None start = false
-is_behind (Some last) start = nat_le start last
+abbrev pub is_not_above : Option ℕ → ℕ → Bool
+is_not_above None start = false
+is_not_above (Some last) start = nat_le start last
 
 -- the tests of a range, where the last code point of the row before it is given
 unfoldable pub range_fault : Option ℕ → ℕ × ℕ → Option TableErrorKind
 range_fault last r =
     if nat_lt 0x10_FFFF (max r.0 r.1) then Some TooLarge
-    else if nat_lt r.1 r.0 || is_behind last r.0 then Some RangeOrder
+    else if nat_lt r.1 r.0 || is_not_above last r.0 then Some RangeOrder
     else None
 
 unfoldable pub syntax_fault : ℕ → ℕ × ℕ → Option TableErrorKind
@@ -175,17 +175,17 @@ abbrev pub emoji_row_fault : EmojiMembers → Option ℕ → List ℕ → Option
 emoji_row_fault members last field None = emoji_range_fault last (range field)
 emoji_row_fault members last field (Some inner) = emoji_string_fault members (string_numbers inner)
 
--- the tests of a row of the scripts with extensions, which takes the numbers of the table of scripts (4)
+-- the tests of a row of the scripts with extensions, which takes the numbers of the table of scripts
 abbrev pub scx_row_fault : Option ℕ → Option (ℕ × ℕ) → Option ℕ → Option TableErrorKind
-scx_row_fault last r n = map_row_fault 4 last r n
+scx_row_fault last r n = map_row_fault script_table last r n
 
 unfoldable pub order_fault : Option ℕ → ℕ → Option TableErrorKind
-order_fault last n = if is_behind last n then Some ExtensionOrder else None
+order_fault last n = if is_not_above last n then Some ExtensionOrder else None
 
 -- the tests of a row of an extension list, by the script that it spells
 abbrev pub ext_row_fault : Option ℕ → Option ℕ → Option TableErrorKind
 ext_row_fault last None = Some BadNumber
-ext_row_fault last (Some n) = option_or (value_fault 4 n) (order_fault last n)
+ext_row_fault last (Some n) = option_or (value_fault script_table n) (order_fault last n)
 
 -- the tests of a row below the header of a table
 abbrev pub row_fault : Tables → Option Table → Option ℕ → Row → Option TableErrorKind
@@ -244,13 +244,13 @@ emoji_header_fault tables (Some t) = if is_some (tables.emoji t) then Some Table
 
 -- the tests of the header of the scripts with extensions, by the default that it spells
 abbrev pub scx_header_fault : Tables → Option ℕ → Option TableErrorKind
-scx_header_fault tables default = if is_some tables.scripts then Some TableTwice else default_fault 4 default
+scx_header_fault tables default = if is_some tables.scripts then Some TableTwice else default_fault script_table default
 
 -- the tests of an index, and of the script beside it, if there is one, by what they spell
 abbrev pub index_fault : ℕ → Option (Option ℕ) → Option TableErrorKind
 index_fault i None = if nat_lt 1023 i then Some TooLarge else None
 index_fault i (Some None) = Some BadNumber
-index_fault i (Some (Some s)) = if nat_lt 1023 i then Some TooLarge else value_fault 4 s
+index_fault i (Some (Some s)) = if nat_lt 1023 i then Some TooLarge else value_fault script_table s
 
 -- the tests of the header of an extension list
 abbrev pub ext_header_fault : Tables → Option ℕ → Option (Option ℕ) → Option TableErrorKind

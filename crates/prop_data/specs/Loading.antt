@@ -5,7 +5,7 @@ use Rattle.cp_invlist.specs.InversionList.{contains}
 use Rattle.cp_trie.specs.Runs.{value_in}
 use Rattle.prop_names.specs.Names.{with_name}
 use Rattle.prop_names.specs.ValueNameTables.{name_at}
-use Rattle.prop_values.specs.Tables.{default_number}
+use Rattle.prop_values.specs.Tables.{default_number, script_table}
 use Rattle.prop_data.specs.declared.database.PropertyDatabase.{PropertyDatabase}
 use Rattle.prop_data.specs.declared.line.Header.{Header as CodeHeader}
 use Rattle.prop_data.specs.declared.line.Header.TheVariants.{Set as SetHeader, Map as MapHeader, Names as NamesHeader, Long as LongHeader, Short as ShortHeader, Emoji as EmojiHeader, Scripts as ScxHeader, Extensions as ExtHeader}
@@ -132,7 +132,7 @@ tables_begun (Some (long_table n)) tables = with_texts Long n no_text tables
 tables_begun (Some (short_table n)) tables = with_texts Short n no_text tables
 tables_begun (Some (emoji_table n)) tables = with_emoji n no_emoji tables
 tables_begun (Some (scx_table default)) tables =
-    with_scripts (record { values = value_outside 4 default; named = default ∷ [] }) tables
+    with_scripts (record { values = value_outside script_table default; named = default ∷ [] }) tables
 tables_begun (Some (ext_table n script)) tables =
     with_list n (record { has_script = is_some script; scripts = first_scripts script }) tables
 

@@ -2,7 +2,7 @@
 use Rattle.std.specs.Prelude.{ℕ, Bool, false, ◌||◌, ◌&&◌, nat_eq, nat_le, nat_lt, List, [], ◌∷◌, ◌++◌, Option, Some, None, is_some, unwrap_or, option_map, option_and_then, if◌then◌else◌}
 use Rattle.std.specs.Option.{option_or}
 use Rattle.prop_values.specs.Subtag.{in_subtag_case}
-use Rattle.prop_values.specs.Tables.{default_number}
+use Rattle.prop_values.specs.Tables.{default_number, script_table}
 use Rattle.prop_names.specs.Names.{Names, with_name}
 use Rattle.prop_data.specs.Headers.{Table, set_table, map_table, emoji_table, scx_table, ext_table}
 use Rattle.prop_data.specs.Line.{Row}
@@ -73,7 +73,7 @@ texts_in is_subtag (r ∷ rows) n =
 
 -- the short names of scripts are subtags
 abbrev pub is_subtags : ℕ → Bool
-is_subtags table = nat_eq table 4
+is_subtags table = nat_eq table script_table
 
 -- the code points of an emoji table: those that a range holds
 abbrev pub emoji_code_points : List Row → ℕ → Bool

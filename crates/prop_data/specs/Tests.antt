@@ -5,10 +5,11 @@ use Rattle.prop_data.specs.declared.error.TableErrorKind.{TableErrorKind}
 use Rattle.prop_data.specs.declared.error.TableErrorKind.TheVariants.{UnknownLine, UnknownTable, TableTwice, BadNumber, TooLarge, RangeOrder, ValueOutOfType, BadName, NamesClash, SyntaxAscii, ExtensionOrder, StringOfOne, StringTwice, ExtensionMissing, AfterEnd}
 use Rattle.prop_data.specs.Headers.{Table, set_table, map_table, names_table, long_table, short_table, emoji_table, scx_table, ext_table, set_number, map_number, names_number, text_number, emoji_number}
 use Rattle.prop_data.specs.Line.{Header, set_header, map_header, names_header, long_header, short_header, emoji_header, scx_header, ext_header, Row, Line, blank, header, row, closing, other}
-use Rattle.prop_data.specs.LineFault.{Above, overlaps, forbidden, is_behind, accepts_value, accepts_name, is_name, clashes, kept_of, no_text, is_one, no_emoji, lacks_some_list}
+use Rattle.prop_data.specs.LineFault.{Above, overlaps, forbidden, is_not_above, accepts_value, accepts_name, is_name, clashes, kept_of, no_text, is_one, no_emoji, lacks_some_list}
 use Rattle.prop_data.specs.Numbers.{range, decimal_number}
 use Rattle.prop_data.specs.Rows.{is_subtags}
 use Rattle.prop_data.specs.Strings.{braced, string_numbers, text_of_numbers}
+use Rattle.prop_values.specs.Tables.{script_table}
 
 -- A line by its fields and the header above it. A header has the number of its table, and a row what its fields spell, where they
 -- do.
@@ -157,7 +158,7 @@ is_too_large seen s = false
 
 abbrev pub is_disordered : Option ℕ → Option (ℕ × ℕ) → Bool
 is_disordered last None = false
-is_disordered last (Some r) = nat_lt r.1 r.0 || is_behind last r.0
+is_disordered last (Some r) = nat_lt r.1 r.0 || is_not_above last r.0
 
 -- RangeOrder: a range's first is above its last, or not above the last of the range before it in this table
 abbrev pub is_out_of_order : Above → Said → Bool
@@ -177,7 +178,7 @@ refuses_default (Some t) n = is_refused (accepts_value t) n
 
 abbrev pub is_script_refused : Option (Option ℕ) → Bool
 is_script_refused None = false
-is_script_refused (Some s) = is_refused (accepts_value 4) s
+is_script_refused (Some s) = is_refused (accepts_value script_table) s
 
 -- ValueOutOfType: the property of the table takes no such number, which is that of scripts (4) where extensions are told
 abbrev pub is_out_of_type : Above → Said → Bool
@@ -186,10 +187,10 @@ is_out_of_type seen (map_row t r n) = is_refused (accepts_value t) n
 is_out_of_type seen (names_row t n text) = is_refused (accepts_name t) n
 is_out_of_type seen (long_row t n text) = is_refused (accepts_value t) n
 is_out_of_type seen (short_row t n text) = is_refused (accepts_value t) n
-is_out_of_type seen (scx_begins n) = is_refused (accepts_value 4) n
+is_out_of_type seen (scx_begins n) = is_refused (accepts_value script_table) n
 is_out_of_type seen (ext_begins i s) = is_script_refused s
-is_out_of_type seen (scx_row r n) = is_refused (accepts_value 4) n
-is_out_of_type seen (ext_row n) = is_refused (accepts_value 4) n
+is_out_of_type seen (scx_row r n) = is_refused (accepts_value script_table) n
+is_out_of_type seen (ext_row n) = is_refused (accepts_value script_table) n
 is_out_of_type seen s = false
 
 -- BadName: the name has another character, or is no four letters where it must be
@@ -217,13 +218,13 @@ holds_syntax seen (set_row t None) = false
 holds_syntax seen (set_row t (Some r)) = list_any (overlaps r) (forbidden t)
 holds_syntax seen s = false
 
-abbrev pub is_behind_last : Option ℕ → Option ℕ → Bool
-is_behind_last last None = false
-is_behind_last last (Some n) = is_behind last n
+abbrev pub is_not_above_last : Option ℕ → Option ℕ → Bool
+is_not_above_last last None = false
+is_not_above_last last (Some n) = is_not_above last n
 
 -- ExtensionOrder: a script of an extension list is not above the one in the row before it
 abbrev pub is_unordered : Above → Said → Bool
-is_unordered seen (ext_row n) = is_behind_last seen.last n
+is_unordered seen (ext_row n) = is_not_above_last seen.last n
 is_unordered seen s = false
 
 -- StringOfOne: a string has one character

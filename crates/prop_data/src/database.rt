@@ -6,6 +6,7 @@ ghost use Rattle.cp_invlist.specs.InversionList.{contains};
 ghost use Rattle.cp_trie.specs.Map.{CodePointMap, value_at};
 ghost use Rattle.prop_data.specs.Accepted.{AreAccepted};
 ghost use Rattle.prop_data.specs.Forbidden.{IsAllowed};
+ghost use Rattle.prop_values.specs.Tables.{script_table, combining_class_table};
 
 use crate::count::table_count;
 use crate::error::LoadError;
@@ -265,7 +266,7 @@ impl PropertyDatabase {
     /// whose names are kept otherwise.
     pub fn long_linear(&self, table: MapTable) -> Option<&PropertyEnumToValueNameLinearMap>
         ensures { option_map linear_text (option_copied result) ≡
-            (if nat_eq table 11 then None else long_of self.now table) }
+            (if nat_eq table combining_class_table then None else long_of self.now table) }
     {
         if table == MapTable::CANONICAL_COMBINING_CLASS {
             return None;
@@ -277,7 +278,8 @@ impl PropertyDatabase {
     /// and scripts, whose names are kept otherwise.
     pub fn short_linear(&self, table: MapTable) -> Option<&PropertyEnumToValueNameLinearMap>
         ensures { option_map linear_text (option_copied result) ≡
-            (if nat_eq table 11 || nat_eq table 4 then None else short_of self.now table) }
+            (if nat_eq table combining_class_table || nat_eq table script_table then None
+            else short_of self.now table) }
     {
         if table == MapTable::CANONICAL_COMBINING_CLASS || table == MapTable::SCRIPT {
             return None;
@@ -287,21 +289,21 @@ impl PropertyDatabase {
 
     /// The long names of combining classes, `None` where the text has no such table.
     pub fn long_ccc(&self) -> Option<&PropertyEnumToValueNameSparseMap>
-        ensures { option_map sparse_text (option_copied result) ≡ long_of self.now 11 }
+        ensures { option_map sparse_text (option_copied result) ≡ long_of self.now combining_class_table }
     {
         self.long_ccc.as_ref()
     }
 
     /// The short names of combining classes, `None` where the text has no such table.
     pub fn short_ccc(&self) -> Option<&PropertyEnumToValueNameSparseMap>
-        ensures { option_map sparse_text (option_copied result) ≡ short_of self.now 11 }
+        ensures { option_map sparse_text (option_copied result) ≡ short_of self.now combining_class_table }
     {
         self.short_ccc.as_ref()
     }
 
     /// The subtags of scripts, `None` where the text has no short names of scripts.
     pub fn short_script(&self) -> Option<&PropertyScriptToIcuScriptMap>
-        ensures { option_map subtag_text (option_copied result) ≡ short_of self.now 4 }
+        ensures { option_map subtag_text (option_copied result) ≡ short_of self.now script_table }
     {
         self.short_script.as_ref()
     }

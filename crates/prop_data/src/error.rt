@@ -31,7 +31,7 @@ pub enum TableErrorKind {
     NamesClash,
     /// A syntax table holds an ASCII character that the pattern syntax needs.
     SyntaxAscii,
-    /// A script of an extension list isn't above the one before it.
+    /// The script of a row of an extension list isn't above that of the row before it.
     ExtensionOrder,
     /// A string of an emoji table has one character.
     StringOfOne,

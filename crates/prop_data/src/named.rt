@@ -2,6 +2,7 @@
 ghost use Rattle.std.specs.Prelude.{◌≡◌, false, nat_eq, option_map, refl};
 ghost use Rattle.std.specs.Option.{option_copied};
 ghost use Rattle.prop_data.specs.Database.{long_of, short_of};
+ghost use Rattle.prop_values.specs.Tables.{script_table, combining_class_table};
 
 use crate::database::PropertyDatabase;
 use prop_names::{
@@ -37,7 +38,7 @@ pub trait NamedEnumeratedProperty: ParseableEnumeratedProperty + EnumeratedPrope
 /// scripts.
 pub trait LinearlyNamedProperty: ParseableEnumeratedProperty + EnumeratedProperty {
     /// Its table is not that of combining classes, and not that of scripts.
-    ghost kept_linearly: { (nat_eq Self.TABLE 11 ≡ false) × (nat_eq Self.TABLE 4 ≡ false) };
+    ghost kept_linearly: { (nat_eq Self.TABLE combining_class_table ≡ false) × (nat_eq Self.TABLE script_table ≡ false) };
 }
 
 impl<T: LinearlyNamedProperty> NamedEnumeratedProperty for T {

@@ -1,7 +1,7 @@
 //! The tests of a row's range.
 ghost use Rattle.std.specs.Prelude.{◌≡◌, None, Some, List};
 ghost use Rattle.std.specs.List.{list_any};
-ghost use Rattle.prop_data.specs.LineFault.{overlaps, forbidden, range_fault, syntax_fault, is_behind};
+ghost use Rattle.prop_data.specs.LineFault.{overlaps, forbidden, range_fault, syntax_fault, is_not_above};
 
 use crate::error::TableErrorKind;
 use cp_invlist::{CodePointRange, LAST_CODE_POINT};
@@ -30,8 +30,9 @@ fn holds_syntax(table: SetTable, range: CodePointRange) -> bool
     }
 }
 
-pub(crate) fn is_behind(last: Option<u32>, start: u32) -> bool
-    ensures { result ≡ is_behind last start }
+/// Whether a row that starts so does not stand above the last number of the row before it, where there is one.
+pub(crate) fn is_not_above(last: Option<u32>, start: u32) -> bool
+    ensures { result ≡ is_not_above last start }
 {
     match last {
         Some(last) => start <= last,
@@ -46,7 +47,7 @@ pub(crate) fn range_fault(last: Option<u32>, range: CodePointRange) -> Option<Ta
 {
     if range.start.max(range.end) > LAST_CODE_POINT {
         Some(TableErrorKind::TooLarge)
-    } else if range.end < range.start || is_behind(last, range.start) {
+    } else if range.end < range.start || is_not_above(last, range.start) {
         Some(TableErrorKind::RangeOrder)
     } else {
         None

@@ -76,7 +76,7 @@ impl ScriptWithExtensionsProperty {
         Some(list.scripts.as_slice())
     }
 
-    /// The same numbers and lists.
+    /// The same numbers and lists. `NoMemory` says that a request for memory was refused.
     pub fn copy(&self, alloc: Global) -> Result<ScriptWithExtensionsProperty, NoMemory>
         ensures numbers { IfOk result
             (λ copy. (c : ℕ) → value_at (scripts_map copy) c ≡ value_at (scripts_map self.now) c) }

@@ -1,6 +1,7 @@
 //! Numbers of values.
 ghost use Rattle.std.specs.Prelude.{◌≡◌, Some, None, if◌then◌else◌};
 ghost use Rattle.prop_data.specs.LineFault.{accepts_value, accepts_name};
+ghost use Rattle.prop_values.specs.Tables.{script_table};
 
 use prop_values::{MapTable, NamesTable};
 
@@ -21,7 +22,7 @@ pub(crate) fn accepted(table: MapTable, number: u64) -> Option<u32>
 
 /// The number, where it is one of a script or of scripts with extensions.
 pub(crate) fn accepted_script(number: u64) -> Option<u16>
-    ensures { result ≡ (if accepts_value 4 number then Some number else None) }
+    ensures { result ≡ (if accepts_value script_table number then Some number else None) }
 {
     if number >= 0x1_0000 {
         return None;

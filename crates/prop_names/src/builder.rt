@@ -69,7 +69,7 @@ impl NamesBuilder {
         Ok(())
     }
 
-    /// The table of the names.
+    /// The table of the names. `NoMemory` says that a request for memory was refused.
     pub fn build(self, alloc: Global) -> Result<PropertyValueNameToEnumMap, NoMemory>
         ensures { IfOk result (λ table. table ≡ self) }
     {

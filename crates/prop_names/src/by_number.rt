@@ -18,7 +18,7 @@ impl NamesByNumber {
     ghost use Rattle.std.specs.String.{string_bytes};
     ghost use Rattle.prop_names.specs.ValueNameTables.{name_at};
 
-    /// None.
+    /// No names.
     pub fn new(alloc: Global) -> NamesByNumber
         ensures { (n : ℕ) → name_at result n ≡ None }
     {
@@ -54,7 +54,7 @@ impl NamesByNumber {
         Ok(())
     }
 
-    /// The same names.
+    /// The same names. `NoMemory` says that a request for memory was refused.
     pub fn copy(&self) -> Result<NamesByNumber, NoMemory>
         ensures { IfOk result (λ copy. (n : ℕ) → name_at copy n ≡ name_at self.now n) }
     {

@@ -15,7 +15,8 @@ fn is_ignored(byte: u8) -> bool
     (0x09 <= byte && byte <= 0x0D) || byte == b' ' || byte == b'_' || byte == b'-'
 }
 
-/// The folding of a name that is stored: in lower case, without `_`. The name is ASCII.
+/// The folding of a name that is stored: in lower case, without `_`. The name is ASCII. `NoMemory` says that a request
+/// for memory was refused.
 pub fn stored_folding(alloc: Global, name: &[u8]) -> Result<String, NoMemory>
     requires ascii { All (λ c. c < 128) name.now }
     ensures { IfOk result (λ text. string_bytes text ≡ stored_folding name.now) }
@@ -29,7 +30,7 @@ pub fn stored_folding(alloc: Global, name: &[u8]) -> Result<String, NoMemory>
     Ok(folded)
 }
 
-/// The text of a name, which is ASCII.
+/// The text of a name, which is ASCII. `NoMemory` says that a request for memory was refused.
 pub fn ascii_text(alloc: Global, name: &[u8]) -> Result<String, NoMemory>
     requires ascii { All (λ c. c < 128) name.now }
     ensures { IfOk result (λ text. string_bytes text ≡ name.now) }

@@ -44,7 +44,7 @@ impl PropertyValueNameToEnumMap {
         PropertyValueNameToEnumMap { names, foldings }
     }
 
-    /// The same names.
+    /// The same names. `NoMemory` says that a request for memory was refused.
     pub fn copy(&self, alloc: Global) -> Result<PropertyValueNameToEnumMap, NoMemory>
         ensures { IfOk result (λ table. table ≡ self.now) }
     {
@@ -65,7 +65,8 @@ impl PropertyValueNameToEnumMap {
     }
 
     /// The number of the value of the least name that folds as this one (UAX 44, section 5.9): in lower case and without
-    /// ASCII white space, `_` and hyphens, where a name that is kept loses its `_` alone. A prefix `is` is kept.
+    /// ASCII white space, `_` and hyphens. A name of the table loses its `_` alone, so that one with a hyphen is never found so.
+    /// A prefix `is` stays.
     pub fn get_loose_u16(&self, name: &[u8]) -> Option<u16>
         ensures value { result ≡ loose self.now name.now }
         ensures strictly { LacksSpacesAndHyphens name.now →

@@ -97,7 +97,7 @@ impl EmojiSetData {
         Some(&self.set)
     }
 
-    /// A copy of the code points and strings of the set.
+    /// A copy of the code points and strings of the set. `NoMemory` says that a request for memory was refused.
     pub fn to_code_point_inversion_list_string_list(
         &self,
         alloc: Global,

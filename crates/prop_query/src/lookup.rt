@@ -7,6 +7,7 @@ ghost use Rattle.prop_data.specs.Database.{set_of, map_of, names_of, long_of, sh
 ghost use Rattle.prop_query.specs.Answers.{NeedsTable, answer_of};
 ghost use Rattle.prop_query.specs.Lookups.{subtag_or_unknown, script_or_unknown, value_loosely};
 ghost use Rattle.prop_query.specs.Maps.{unpacked_at};
+ghost use Rattle.prop_values.specs.Tables.{script_table};
 
 use crate::emoji::EmojiSetData;
 use crate::names::{PropertyNamesLong, PropertyNamesShort, PropertyParser};
@@ -117,8 +118,8 @@ const UNKNOWN: &str = "Zzzz";
 /// The subtag of a script, which is `Zzzz` for a script without a short name. `Absent` names the table of the short
 /// names of scripts where the database has none.
 pub fn script_to_subtag(database: &PropertyDatabase, script: Script) -> Result<Subtag, DataError>
-    ensures { result ≡ answer_of (TableName.Short 4)
-        (option_map (λ name_of. subtag_or_unknown (name_of script)) (short_of database.now 4)) }
+    ensures { result ≡ answer_of (TableName.Short script_table)
+        (option_map (λ name_of. subtag_or_unknown (name_of script)) (short_of database.now script_table)) }
 {
     let names = PropertyNamesShort::<Script>::new(database)?;
     match names.get_locale_script(script) {
@@ -130,8 +131,8 @@ pub fn script_to_subtag(database: &PropertyDatabase, script: Script) -> Result<S
 /// The script with this subtag as a name, compared byte for byte, or Unknown where none has it. `Absent` names the
 /// table of the names of scripts where the database has none.
 pub fn subtag_to_script(database: &PropertyDatabase, subtag: Subtag) -> Result<Script, DataError>
-    ensures { result ≡ answer_of (TableName.Names 4)
-        (option_map (λ names. script_or_unknown names subtag) (names_of database.now 4)) }
+    ensures { result ≡ answer_of (TableName.Names script_table)
+        (option_map (λ names. script_or_unknown names subtag) (names_of database.now script_table)) }
 {
     let names = PropertyParser::<Script>::new(database)?;
     match names.get_strict_u16(subtag.as_str()) {

@@ -108,14 +108,14 @@ impl<T: TrieValue> CodePointMapData<T> {
         Some(&self.trie)
     }
 
-    /// A copy of the trie of the map.
+    /// A copy of the trie of the map. `NoMemory` says that a request for memory was refused.
     pub fn to_code_point_trie(&self, alloc: Global) -> Result<CodePointTrie<T>, NoMemory>
         ensures { IfOk result (λ trie. trie ≡ self.now) }
     {
         self.trie.copy(alloc)
     }
 
-    /// An equal map.
+    /// An equal map. `NoMemory` says that a request for memory was refused.
     pub fn copy(&self, alloc: Global) -> Result<CodePointMapData<T>, NoMemory>
         ensures { IfOk result (λ map. map ≡ self.now) }
     {
@@ -168,7 +168,7 @@ impl<'a, T: TrieValue> CodePointMapDataBorrowed<'a, T> {
         self.trie.get32_steps(ch, steps)
     }
 
-    /// The code points with the value.
+    /// The code points with the value. `NoMemory` says that a request for memory was refused.
     pub fn get_set_for_value(self, alloc: Global, value: T) -> Result<CodePointSetData, NoMemory>
         ensures { IfOk result (λ set. (c : ℕ) →
             contains set c ≡ has_value T.eq (map_in self.entry) value c) }
@@ -228,7 +228,8 @@ impl<'a, T: TrieValue> CodePointMapDataBorrowed<'a, T> {
 }
 
 impl<'a> CodePointMapDataBorrowed<'a, GeneralCategory> {
-    /// The code points whose general category is in the group (UAX 44, section 5.7.1).
+    /// The code points whose general category is in the group (UAX 44, section 5.7.1). `NoMemory` says that a request
+    /// for memory was refused.
     pub fn get_set_for_value_group(
         self,
         alloc: Global,

@@ -163,7 +163,8 @@ impl<'a> ScriptWithExtensionsBorrowed<'a> {
         ScriptExtensionsRanges::new(self, script)
     }
 
-    /// The code points that have the script among their script extensions.
+    /// The code points that have the script among their script extensions. `NoMemory` says that a request for memory
+    /// was refused.
     pub fn get_script_extensions_set(
         self,
         alloc: Global,

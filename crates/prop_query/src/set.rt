@@ -151,7 +151,7 @@ impl CodePointSetData {
         Some(&self.set)
     }
 
-    /// A copy of the inversion list of the set.
+    /// A copy of the inversion list of the set. `NoMemory` says that a request for memory was refused.
     pub fn to_code_point_inversion_list(
         &self,
         alloc: Global,

@@ -38,17 +38,39 @@ map_table_names = map (λ property. property.0) properties
 abbrev pub names_table_names : List (List ℕ)
 names_table_names = take 17 map_table_names ++ codes "General_Category_Mask" ∷ []
 
+-- the numbers of those tables that definitions speak of: of blocks, general categories, scripts, combining classes and
+-- mirroring glyphs, and of the names of groups of categories
+abbrev pub block_table : ℕ
+block_table = 1
+
+abbrev pub category_table : ℕ
+category_table = 3
+
+abbrev pub script_table : ℕ
+script_table = 4
+
+abbrev pub combining_class_table : ℕ
+combining_class_table = 11
+
+abbrev pub glyph_table : ℕ
+glyph_table = 17
+
+abbrev pub group_names_table : ℕ
+group_names_table = 17
+
 -- the number stands for a value of the property of the table
 abbrev pub accepts : ℕ → ℕ → Bool
 accepts table n =
-    if table == 3 then nat_lt n 30
-    else (if table == 1 || table == 4 then nat_lt n 65536 else (if table == 17 then is_glyph_number n else nat_lt n 256))
+    if table == category_table then nat_lt n 30
+    else if table == block_table || table == script_table then nat_lt n 65536
+    else if table == glyph_table then is_glyph_number n
+    else nat_lt n 256
 
 -- the number of the default of the property of the table: the script Unknown has 103, all others 0
 abbrev pub default_number : ℕ → ℕ
-default_number table = if table == 4 then 103 else 0
+default_number table = if table == script_table then 103 else 0
 
 -- the number stands for a value of the property of the table of names, which are at most 16 bits wide there; a group of
 -- categories is packed into any of them
 abbrev pub accepts_name_of : ℕ → ℕ → Bool
-accepts_name_of table n = table == 17 || accepts table n
+accepts_name_of table n = table == group_names_table || accepts table n

@@ -5,8 +5,8 @@ ghost use Rattle.prop_values.specs.Tables.{accepts, accepts_name_of, default_num
 use crate::tables::{MapTable, NamesTable};
 use cp_trie::TrieValue;
 
-/// A property whose values are packed into numbers (UAX 44, section 5.1). Its table accepts exactly the numbers that
-/// unpack to a value, and the number of its default is that of the table.
+/// A property whose values are packed into numbers. Its table accepts exactly the numbers that unpack to a value, and the
+/// number of its default is that of the table. Its names are those of UAX 44, section 5.1.
 pub trait EnumeratedProperty: TrieValue + Default {
     /// The number of the table.
     ghost TABLE: { ℕ };

@@ -11,14 +11,15 @@ use Rattle.uset_resolve.specs.declared.resolver.Origin.{Origin}
 use Rattle.uset_resolve.specs.declared.resolver.Origin.TheVariants.{Group, Extension, Value}
 use Rattle.uset_resolve.specs.Resolution.{Source, with_number, in_group, with_extension}
 use Rattle.uset_resolve.specs.Sources.{HasSource}
+use Rattle.prop_values.specs.Tables.{category_table}
 
 -- the order of origins, which is that of their fields
 abbrev pub origin_cmp : Origin → Origin → Ordering
 origin_cmp = (origin_order.ghosts).cmp
 
--- the code points that have it in common, where the map is there that tells (table 3 has the categories)
+-- the code points that have it in common, where the map is there that tells (that of the categories)
 abbrev pub of_origin : Tables → Origin → Option Source
-of_origin tables (Group n) = tables.maps 3 >>= λ map. Some (in_group map n)
+of_origin tables (Group n) = tables.maps category_table >>= λ map. Some (in_group map n)
 of_origin tables (Extension n) = tables.scripts >>= λ scripts. Some (with_extension tables.extensions scripts.values n)
 of_origin tables (Value t n) = tables.maps t >>= λ map. Some (with_number map n)
 

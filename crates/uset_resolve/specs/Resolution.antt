@@ -7,6 +7,7 @@ use Rattle.prop_binary.specs.Ecma262.{ecma262_number}
 use Rattle.prop_names.specs.Names.{loose}
 use Rattle.prop_values.specs.Category.{category_of}
 use Rattle.prop_values.specs.Groups.{has, packings, bits_in}
+use Rattle.prop_values.specs.Tables.{block_table, category_table, script_table, combining_class_table, group_names_table}
 use Rattle.prop_values.specs.declared.category.GeneralCategory.{GeneralCategory}
 use Rattle.prop_data.specs.Tables.{Tables, ExtensionList}
 use Rattle.prop_query.specs.Scripts.{is_among, extensions_of_number}
@@ -50,28 +51,31 @@ loosely tables t name = tables.names t >>= λ names. loose names name
 abbrev pub of_number : Tables → ℕ → Option ℕ → Option Source
 of_number tables t number = number >>= λ n. tables.maps t >>= λ map. Some (with_number map n)
 
--- the code points of a group of categories (table 17 has the names of groups, 3 the categories)
+-- the code points of a group of categories
 abbrev pub of_group : Tables → List ℕ → Option Source
-of_group tables name = loosely tables 17 name >>= λ n. tables.maps 3 >>= λ map. Some (in_group map n)
+of_group tables name = loosely tables group_names_table name >>= λ n. tables.maps category_table >>= λ map. Some (in_group map n)
 
--- the code points of a script (table 4)
+-- the code points of a script
 abbrev pub of_script : Tables → List ℕ → Option Source
-of_script tables name = of_number tables 4 (loosely tables 4 name)
+of_script tables name = of_number tables script_table (loosely tables script_table name)
 
 -- the code points with a script among their extensions
 abbrev pub of_extension : Tables → List ℕ → Option Source
 of_extension tables name =
-    loosely tables 4 name >>= λ script. tables.scripts >>= λ scripts.
+    loosely tables script_table name >>= λ script. tables.scripts >>= λ scripts.
     Some (with_extension tables.extensions scripts.values script)
 
 -- the set of the binary property with this name in ECMA-262, byte for byte
 abbrev pub of_binary : Tables → List ℕ → Option Source
 of_binary tables name = ecma262_number name >>= tables.sets
 
--- The number that a value writes, where its property has decimal values: combining classes (table 11) up to 255, and blocks
--- (table 1) up to 65535.
+-- The number that a value writes, where its property has decimal values: combining classes up to 255, and blocks up to
+-- 65535.
 abbrev pub written : ℕ → List ℕ → Option ℕ
-written t value = if t == 11 then decimal 255 value else if t == 1 then decimal 65535 value else None
+written t value =
+    if t == combining_class_table then decimal 255 value
+    else if t == block_table then decimal 65535 value
+    else None
 
 -- the number of a value: that of its name, or the one that it writes, where the table of names is there
 abbrev pub number_of_value : Tables → ℕ → List ℕ → Option ℕ
@@ -106,13 +110,14 @@ resolve_bytes tables key (Some value) = with_value tables key value (key_of key)
 -- The names of blocks are absent, or a block was found and the map of blocks is absent.
 abbrev pub lacks_block : Tables → List ℕ → Bool
 lacks_block tables value =
-    is_none (tables.names 1) || (is_some (number_of_value tables 1 value) && is_none (tables.maps 1))
+    is_none (tables.names block_table)
+    || (is_some (number_of_value tables block_table value) && is_none (tables.maps block_table))
 
 abbrev pub lacks_for : Tables → List ℕ → Option Asked → Bool
 lacks_for tables value None = false
 lacks_for tables value (Some categories) = false
 lacks_for tables value (Some extensions) = false
-lacks_for tables value (Some (values t)) = (t == 1) && lacks_block tables value
+lacks_for tables value (Some (values t)) = (t == block_table) && lacks_block tables value
 
 -- A table is absent that the key and the value ask: of Block alone, where a value stands behind it.
 abbrev pub lacking_bytes : Tables → List ℕ → Option (List ℕ) → Bool

@@ -26,7 +26,7 @@ pub enum Resolution<'a> {
     },
     /// Nothing.
     Unknown,
-    /// A table is absent that the key and the value ask.
+    /// A table is absent that the key and the value ask for.
     Lacking,
 }
 
@@ -39,7 +39,7 @@ fn lacks_block(database: &PropertyDatabase, value: &str) -> bool
             && database.map(MapTable::BLOCK).is_none())
 }
 
-/// Whether a table is absent that the key and the value ask.
+/// Whether a table is absent that the key and the value ask for.
 fn lacks_table(database: &PropertyDatabase, key: &Key, value: &str) -> bool
     ensures { (k : Asked) → IsKey key.now k → result ≡ lacks_for (tables_of database.now) value.now (Some k) }
 {
@@ -95,7 +95,8 @@ impl<'a> Resolver<'a> {
     }
 
     /// What a key and a value resolve to, or a key alone: over tables that stand in the database, where an absent one gives
-    /// nothing. The code points are lent where the database has them as a set, and elsewhere made of its maps, once.
+    /// nothing. The code points are lent where the database has them as a set, and elsewhere made of its maps, once. `NoMemory`
+    /// says that a request for memory was refused: the resolver answers as before then.
     pub fn resolve(
         &mut self,
         alloc: Global,

@@ -9,7 +9,7 @@ use crate::database::PropertyDatabase;
 use crate::error::{LoadError, TableErrorKind, fault};
 use crate::line::Row;
 use crate::load::OpenTable;
-use crate::row::is_behind;
+use crate::row::is_not_above;
 use crate::scripts::ListedScripts;
 use crate::value::accepted_script;
 use cp_invlist::NoMemory;
@@ -97,7 +97,7 @@ impl OpenList {
         let Some(script) = accepted_script(spelled) else {
             return Err(fault(number, TableErrorKind::ValueOutOfType));
         };
-        if is_behind(self.last, u32::from(script)) {
+        if is_not_above(self.last, u32::from(script)) {
             return Err(fault(number, TableErrorKind::ExtensionOrder));
         }
         push_script(&mut self.scripts, script)?;

@@ -17,7 +17,7 @@ returns c =
       λ tables.
           ap (λ s. row_fault (tables_with (Some (Listed old)) tables) (Some (ext_table old.index old.script)) old.last (c.args.row.first.now, s)) (ap option_copied c.in-None.is)
           ∙ (ap (ext_row_fault old.last) (sym number_is)
-          ∙ (ap (λ o. option_or o (order_fault old.last c.in-Some.spelled)) takes.1 ∙ order_fault-none old.last c.from.result _ (c.from.ensures ∙ script_is) (sym c.is_behind.ensures ∙ c.if-is_behind.false))),
+          ∙ (ap (λ o. option_or o (order_fault old.last c.in-Some.spelled)) takes.1 ∙ order_fault-none old.last c.from.result _ (c.from.ensures ∙ script_is) (sym c.is_not_above.ensures ∙ c.if-is_not_above.false))),
       refl,
       ap Some (c.from-2.ensures ∙ script_is) ∙ number_is,
       list_grown old (record { index = old.index; script = old.script; scripts = c.push_script.new.scripts; last = Some c.from-2.result }) (row_seen c.args.row) refl refl
