@@ -132,8 +132,16 @@ fn place_in(
     key: &str,
     value: Option<&str>,
 ) -> Result<Option<Place>, NoMemory> {
-    let query = asked(alloc, negated, key, value)?;
+    let query = asked(alloc, negated, key, value)?.copy(alloc)?;
     Ok(gathering.place_of(&query))
+}
+
+/// The set that is closed, where it names no very large set.
+fn plain(alloc: Global, closed: Closed) -> Result<CodePointInversionListAndStringList, NoMemory> {
+    match closed {
+        Closed::Plain(set) => set.into_set(alloc),
+        Closed::Term(_) => Err(NoMemory),
+    }
 }
 
 /// What the bracket closes with, where it names no very large set.
@@ -142,10 +150,7 @@ fn close(
     gathering: Gathering<'_>,
     negated: bool,
 ) -> Result<CodePointInversionListAndStringList, NoMemory> {
-    match gathering.close(alloc, negated)? {
-        Closed::Plain(set) => set.into_set(alloc),
-        Closed::Term(_) => Err(NoMemory),
-    }
+    plain(alloc, gathering.close(alloc, negated)?)
 }
 
 /// Gathers the letters, and takes those of the property away where they are kept, and the large set.
@@ -346,15 +351,27 @@ fn alone(
     named_set(made, letters).gathered(alloc)?.into_set(alloc)
 }
 
+/// The same set with a name, closed.
+fn closed_alone(
+    alloc: Global,
+    made: Made,
+    letters: &CodePointInversionListAndStringList,
+) -> Result<CodePointInversionListAndStringList, NoMemory> {
+    let name = Name::Variable(String::from_str(alloc, "v")?);
+    let set = named_set(made, letters);
+    plain(alloc, Named { name, set }.closed(alloc)?)
+}
+
 /// A named set, and its inversion list and strings.
 type Alone = (Made, &'static [u32], &'static [&'static str]);
 
 impl Row<CodePointInversionListAndStringList> for Alone {
     fn holds(&self, alloc: Global, letters: &CodePointInversionListAndStringList) -> bool {
         let (made, list, texts) = *self;
-        match alone(alloc, made, letters) {
-            Ok(set) => is_set(&set, list, texts),
-            Err(_) => false,
+        let closed = closed_alone(alloc, made, letters);
+        match (alone(alloc, made, letters), closed) {
+            (Ok(set), Ok(closed)) => is_set(&set, list, texts) && set == closed,
+            _ => false,
         }
     }
 }

@@ -1,5 +1,6 @@
 //! What properties resolve to.
 use crate::fixtures::{Row, assert_rows_of_text};
+use cp_invlist::{CodePointInversionList, NoMemory};
 use prop_data::PropertyDatabase;
 use std::alloc::Global;
 use uset_resolve::{Resolution, Resolver};
@@ -120,4 +121,49 @@ const AGAIN: InTurn = &[
 #[test]
 fn what_is_asked_again_is_answered_alike(rt: HostRuntime) {
     assert_rows_of_text(&rt, rt.alloc(), TABLES, &[AGAIN]);
+}
+
+/// How many ranges the list has that becomes long.
+const MANY: u32 = 4096;
+
+/// Tables in which each second code point below twice the number is a capital letter.
+fn many_capitals(alloc: Global) -> Result<String, NoMemory> {
+    let mut text = String::new(alloc);
+    text.push_str("map General_Category 0\n")?;
+    for index in 0..MANY {
+        write!(text, "{:X} 1\n", 2 * index)?;
+    }
+    text.push_str("names General_Category_Mask\n1 Lu\nend\n")?;
+    Ok(text)
+}
+
+/// Whether the list has each second code point, from the first on.
+fn is_each_second(list: &CodePointInversionList) -> bool {
+    list.get_inversion_list().iter().copied().eq(0..2 * MANY)
+}
+
+/// How many words the index of the list has, each time that it is asked for.
+type Words = &'static [usize];
+
+impl Row<PropertyDatabase> for Words {
+    fn holds(&self, alloc: Global, database: &PropertyDatabase) -> bool {
+        let mut resolver = Resolver::new(alloc, database);
+        for words in *self {
+            let Ok(Resolution::Found { source, .. }) = resolver.resolve(alloc, "Lu", None) else {
+                return false;
+            };
+            if source.list().words().len() != *words || !is_each_second(source.list()) {
+                return false;
+            }
+        }
+        true
+    }
+}
+
+#[test]
+fn a_long_list_has_an_index_from_the_third_time_on(rt: HostRuntime) {
+    let words: Words = &[0, 0, 17_408, 17_408];
+    let text = many_capitals(rt.alloc()).ok();
+    let text = text.as_deref().unwrap_or("");
+    assert_rows_of_text(&rt, rt.alloc(), text, &[words]);
 }

@@ -69,21 +69,22 @@ const STEPS: &[(Step, &[u32])] = &[
     ),
     (Step::Number(0x11_0000), &[0x61, 0x63, 0x64, 0x67]),
     (Step::Number(0x63), &[0x61, 0x67]),
-    // a range that touches the last one
-    (
-        Step::Range(CodePointRange {
-            start: 0x67,
-            end: 0x68,
-        }),
-        &[0x61, 0x69],
-    ),
     (
         Step::With(Operation::Remove, &[0x62, 0x64]),
-        &[0x61, 0x62, 0x64, 0x69],
+        &[0x61, 0x62, 0x64, 0x67],
     ),
-    (Step::With(Operation::Retain, &[0x64, 0x7B]), &[0x64, 0x69]),
-    (Step::Complement, &[0, 0x64, 0x69, 0x11_0000]),
-    (Step::With(Operation::Add, &[0x64, 0x69]), &[0, 0x11_0000]),
+    (Step::With(Operation::Retain, &[0x64, 0x7B]), &[0x64, 0x67]),
+    (Step::Complement, &[0, 0x64, 0x67, 0x11_0000]),
+    (Step::With(Operation::Add, &[0x64, 0x67]), &[0, 0x11_0000]),
+    // a range that touches the last one
+    (Step::With(Operation::Retain, &[0x61, 0x63]), &[0x61, 0x63]),
+    (
+        Step::Range(CodePointRange {
+            start: 0x63,
+            end: 0x64,
+        }),
+        &[0x61, 0x65],
+    ),
 ];
 
 /// Takes the steps of the rows.

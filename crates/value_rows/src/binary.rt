@@ -97,6 +97,8 @@ fn types_have_their_names(rt: HostRuntime) {
     let names = &[
         (laws::names_from_ascii_hex_digit()[2].1, "Alpha"),
         (laws::names_from_changes_when_uppercased()[10].1, "Ext"),
+        (laws::names_from_grapheme_extend()[2].1, "Hex"),
+        (laws::names_from_lowercase()[0].1, "Lower"),
         (laws::names_from_regional_indicator()[9].1, "WSpace"),
         (long, "Basic_Emoji"),
         (short, "Basic_Emoji"),

@@ -320,6 +320,7 @@ fn constants_have_their_numbers(rt: HostRuntime) {
     }
     assert_equal(&rt, rows::scripts()[8], Script::Latin);
     assert_equal(&rt, rows::unknown_script(), ScriptWithExt(103));
+    assert_equal(&rt, rows::defaults()[4], 103);
     let syllable = rows::hangul_syllable_types()[6];
     assert_equal(&rt, syllable, HangulSyllableType::LVSyllable);
 }
