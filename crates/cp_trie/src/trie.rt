@@ -205,7 +205,8 @@ impl<T: TrieValue> CodePointTrie<T> {
         Ok(builder.build())
     }
 
-    /// The code points with the value, gathered in one pass over the runs.
+    /// The code points with the value, gathered in one pass over the runs. `NoMemory` says that a request for memory
+    /// was refused.
     pub fn get_set_for_value(
         &self,
         alloc: Global,
@@ -216,7 +217,7 @@ impl<T: TrieValue> CodePointTrie<T> {
         self.get_set_where(alloc, &mut IsValue { value })
     }
 
-    /// An equal map.
+    /// An equal map. `NoMemory` says that a request for memory was refused.
     pub fn copy(&self, alloc: Global) -> Result<CodePointTrie<T>, NoMemory>
         ensures { IfOk result (λ map. map ≡ self.now) }
     {

@@ -22,7 +22,8 @@ pub enum ParseErrorKind {
     /// The source ends where more is due.
     #[error("The source is an incomplete unicode set.")]
     Eof,
-    /// A table of the syntax is absent from the database, or one that a property with a value asks for Block.
+    /// A table of the syntax is absent from the database, or of a property that asks for Block with a value the names of blocks
+    /// are, or the map of blocks where the value is the name of one.
     #[error("Something unexpected went wrong with our code. Please file a bug report on GitHub.")]
     Internal,
     /// `\N`, which isn't read.
@@ -107,7 +108,7 @@ impl ParseError {
 
     /// The fault in words, behind the front of the source through the character at its place and an arrow; where more is due at
     /// the end, behind all of the source. The source may be any: of another fault whose place is past its end, none of it is
-    /// shown. No character is cut.
+    /// shown. No character is cut. `NoMemory` says that a request for memory was refused.
     pub fn fmt_with_source(&self, alloc: Global, source: &str) -> Result<String, NoMemory>
         ensures { IfOk result (λ text. string_bytes text ≡ encode_utf8_all (shown_with self.now (chars source.now))) }
     {

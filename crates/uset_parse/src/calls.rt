@@ -124,7 +124,7 @@ pub fn parse_whole_with_resolver(
     Ok(WholeSource::Pattern(set))
 }
 
-/// The answer of `parse_with_resolver`, of a resolver over the database that has made no list.
+/// The answer of `parse_with_resolver` with a new resolver over the database.
 pub fn parse_unstable_with_variables(
     alloc: Global,
     source: &str,

@@ -50,7 +50,7 @@ impl Query {
     ghost use Rattle.std.specs.Prelude.{◌≡◌, IfOk};
     ghost use Rattle.uset_read.specs.Queries.{query_seen};
 
-    /// A query that asks the same.
+    /// A query that asks the same. `NoMemory` says that a request for memory was refused.
     pub fn copy(&self, alloc: Global) -> Result<Query, NoMemory>
         ensures { IfOk result (λ query. query_seen query ≡ query_seen self.now) }
     {

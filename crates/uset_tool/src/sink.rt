@@ -59,7 +59,7 @@ pub trait Sink {
         ensures counted { faults self.new ≡ count_after (has_failed result) (faults self.old) };
 }
 
-/// A sink in memory, which never fails. A contract sees it as the bytes that were written.
+/// A sink in memory, which refuses a write for want of memory alone. A contract sees it as the bytes that were written.
 #[derive(Drop)]
 pub struct SureSink {
     bytes: Vec<u8>,

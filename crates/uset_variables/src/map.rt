@@ -141,10 +141,10 @@ impl VariableMap {
         }
     }
 
-    /// Gives the strings of the set that the name is bound to numbers, where there are at least 64 or they have at least 4,096
-    /// bytes together, and so a string of as many bytes that it is bound to. With these, set expressions over the
-    /// variable needn't go along its strings. Names that are bound to nothing or to another value get none, and all names are
-    /// bound as they were. After a refusal each name has the numbers that it had.
+    /// Numbers the strings of the set that the name is bound to, where there are at least 64 or they have at least 4,096 bytes
+    /// together, or the string of at least 4,096 bytes that it is bound to. With these numbers set expressions over the
+    /// variable needn't go along its strings. A name that is bound to nothing or to another value gets none, and all names are
+    /// bound as they were. `NoMemory` says that a request for memory was refused: each name has the numbers that it had then.
     pub fn index(&mut self, alloc: Global, key: &str) -> Result<(), NoMemory>
         ensures same { IsSame self.old self.new }
         ensures strings { KeepsNumbers (numbered_strings self.old) (numbered_strings self.new) }
@@ -189,6 +189,7 @@ impl VariableMap {
     }
 
     /// A map that binds the same names to equal values. No strings have numbers in it until names are indexed again.
+    /// `NoMemory` says that a request for memory was refused.
     pub fn copy(&self, alloc: Global) -> Result<VariableMap, NoMemory>
         ensures bound { IfOk result (λ map. IsSame self.now map) }
         ensures unnumbered { IfOk result (λ map. (name : List ℕ) → numbers_at map name ≡ None) }
