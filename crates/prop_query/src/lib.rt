@@ -20,7 +20,7 @@ pub use names::{
     PropertyNamesLong, PropertyNamesLongBorrowed, PropertyNamesShort, PropertyNamesShortBorrowed,
     PropertyParser, PropertyParserBorrowed,
 };
-pub use ranges::{RangesForGroup, RangesForOthers, RangesForValue};
+pub use ranges::{IsNot, RangesForGroup, RangesForOthers, RangesForValue, RangesWhere};
 pub use script::{
     ScriptExtensionsIter, ScriptExtensionsRanges, ScriptExtensionsSet, ScriptWithExtensions,
     ScriptWithExtensionsBorrowed,

@@ -15,12 +15,12 @@ ghost use Rattle.prop_query.specs.Answers.{NeedsTableAndMemory};
 ghost use Rattle.prop_query.specs.Borrowed.{map_in};
 ghost use Rattle.prop_query.specs.Maps.{lacks_value, is_in_group, unpacked_at};
 
-use crate::ranges::{RangesForGroup, RangesForOthers, RangesForValue};
+use crate::ranges::{IsNot, RangesForGroup, RangesForOthers, RangesForValue, RangesWhere};
 use crate::set::CodePointSetData;
 use crate::value::values_of;
 use cp_invlist::laws::one_list_of_ranges;
 use cp_invlist::{NoMemory, Steps};
-use cp_trie::{CodePointTrie, ConvertError, TrieRanges, TrieRangesMapped, TrieValue};
+use cp_trie::{CodePointTrie, ConvertError, IsValue, TrieRanges, TrieRangesMapped, TrieValue};
 use prop_data::{DataError, PropertyDatabase, TableName};
 use prop_values::{EnumeratedProperty, GeneralCategory, GeneralCategoryGroup};
 use std::alloc::Global;
@@ -193,7 +193,7 @@ impl<'a, T: TrieValue> CodePointMapDataBorrowed<'a, T> {
             AreMaximalRanges (has_value T.eq (map_in self.entry) val) rs → rs ≡ result }
     {
         one_list_of_ranges();
-        RangesForValue::new(self.trie.iter_ranges(), val)
+        RangesWhere::new(self.trie.iter_ranges(), IsValue { value: val })
     }
 
     /// The maximal ranges of the code points with another value, in order.
@@ -203,7 +203,7 @@ impl<'a, T: TrieValue> CodePointMapDataBorrowed<'a, T> {
             AreMaximalRanges (lacks_value T.eq (map_in self.entry) val) rs → rs ≡ result }
     {
         one_list_of_ranges();
-        RangesForOthers::new(self.trie.iter_ranges(), val)
+        RangesWhere::new(self.trie.iter_ranges(), IsNot { value: val })
     }
 
     /// The maximal runs of code points whose mapped values are equal by `==`, in order, each with the mapped value of
@@ -249,6 +249,6 @@ impl<'a> CodePointMapDataBorrowed<'a, GeneralCategory> {
             AreMaximalRanges (is_in_group (map_in self.entry) group) rs → rs ≡ result }
     {
         one_list_of_ranges();
-        RangesForGroup::new(self.trie.iter_ranges(), group)
+        RangesWhere::new(self.trie.iter_ranges(), group)
     }
 }

@@ -1,7 +1,6 @@
 //! The walks over the maximal ranges of code points whose values in a map pass a test.
 ghost use Rattle.std.specs.Prelude.{◌≡◌, not};
 ghost use Rattle.std.specs.Iterator.{YieldsFirst, item_count};
-ghost use Rattle.prop_values.specs.Groups.{has};
 ghost use Rattle.prop_query.specs.Passing.{passing, grown};
 
 use cp_invlist::CodePointRange;
@@ -9,10 +8,11 @@ use cp_trie::{IsValue, TrieRanges, TrieValue, ValueTest};
 use prop_values::{GeneralCategory, GeneralCategoryGroup};
 use std::marker::Model;
 
-/// Passed by all values but one.
-#[derive(Clone, Copy)]
-struct IsNot<T> {
-    value: T,
+/// The test that all values but one pass.
+#[derive(Clone, Copy, Debug, PartialEq, Eq)]
+pub struct IsNot<T> {
+    /// The value that does not pass.
+    pub value: T,
 }
 
 impl<T: TrieValue> ValueTest<T> for IsNot<T> {
@@ -37,7 +37,7 @@ fn grown(begun: Option<CodePointRange>, range: CodePointRange) -> CodePointRange
 }
 
 /// Takes the runs up to the end of the first range of those that pass the test, and gives that range.
-pub(crate) fn next_range<T: TrieValue, P: ValueTest<T>>(
+fn next_range<T: TrieValue, P: ValueTest<T>>(
     runs: &mut TrieRanges<'_, T>,
     test: &mut P,
 ) -> Option<CodePointRange>
@@ -55,35 +55,42 @@ pub(crate) fn next_range<T: TrieValue, P: ValueTest<T>>(
     begun
 }
 
-/// The maximal ranges of code points with one value, in order. A contract sees it as the list of those still to come.
+/// The maximal ranges of the code points whose values pass a test, in order. They are found as the walk goes along the
+/// map's runs. A contract sees it as the list of those still to come.
 #[derive(Drop)]
-pub struct RangesForValue<'a, T: TrieValue> {
+pub struct RangesWhere<'a, T: TrieValue, P: ValueTest<T> + Drop> {
     runs: TrieRanges<'a, T>,
-    test: IsValue<T>,
+    test: P,
 }
 
-impl<'a, T: TrieValue> Model for RangesForValue<'a, T> {
+/// The maximal ranges of the code points with one value, in order.
+pub type RangesForValue<'a, T> = RangesWhere<'a, T, IsValue<T>>;
+
+/// The maximal ranges of the code points with other values than one, in order.
+pub type RangesForOthers<'a, T> = RangesWhere<'a, T, IsNot<T>>;
+
+/// The maximal ranges of the code points whose general category is in a group, in order.
+pub type RangesForGroup<'a> = RangesWhere<'a, GeneralCategory, GeneralCategoryGroup>;
+
+impl<'a, T: TrieValue, P: ValueTest<T> + Drop> Model for RangesWhere<'a, T, P> {
     ghost use Rattle.std.specs.Prelude.{List};
     ghost use Rattle.cp_invlist.specs.declared.ranges.CodePointRange.{CodePointRange};
     ghost use Rattle.prop_query.specs.Passing.{passing};
 
     ghost Value = { List CodePointRange };
 
-    ghost view = { λ s. passing (λ v. T.eq v s.test.value) s.runs };
+    ghost view = { λ s. passing (P.passes s.test) s.runs };
 }
 
-impl<'a, T: TrieValue> RangesForValue<'a, T> {
-    pub(crate) fn new(runs: TrieRanges<'a, T>, value: T) -> RangesForValue<'a, T>
-        ensures { result ≡ passing (λ v. T.eq v value) runs.entry }
+impl<'a, T: TrieValue, P: ValueTest<T> + Drop> RangesWhere<'a, T, P> {
+    pub(crate) fn new(runs: TrieRanges<'a, T>, test: P) -> RangesWhere<'a, T, P>
+        ensures { result ≡ passing (P.passes test) runs.entry }
     {
-        RangesForValue {
-            runs,
-            test: IsValue { value },
-        }
+        RangesWhere { runs, test }
     }
 }
 
-impl<T: TrieValue> Iterator for RangesForValue<'_, T> {
+impl<T: TrieValue, P: ValueTest<T> + Drop> Iterator for RangesWhere<'_, T, P> {
     type Item = CodePointRange;
 
     ghost next_gives = { YieldsFirst (λ ranges. ranges) };
@@ -92,88 +99,5 @@ impl<T: TrieValue> Iterator for RangesForValue<'_, T> {
 
     fn next(&mut self) -> Option<CodePointRange> {
         next_range(&mut self.runs, &mut self.test)
-    }
-}
-
-/// The maximal ranges of code points with other values than one, in order. A contract sees it as the list of those
-/// still to come.
-#[derive(Drop)]
-pub struct RangesForOthers<'a, T: TrieValue> {
-    runs: TrieRanges<'a, T>,
-    test: IsNot<T>,
-}
-
-impl<'a, T: TrieValue> Model for RangesForOthers<'a, T> {
-    ghost use Rattle.std.specs.Prelude.{List, not};
-    ghost use Rattle.cp_invlist.specs.declared.ranges.CodePointRange.{CodePointRange};
-    ghost use Rattle.prop_query.specs.Passing.{passing};
-
-    ghost Value = { List CodePointRange };
-
-    ghost view = { λ s. passing (λ v. not (T.eq v s.test.value)) s.runs };
-}
-
-impl<'a, T: TrieValue> RangesForOthers<'a, T> {
-    pub(crate) fn new(runs: TrieRanges<'a, T>, value: T) -> RangesForOthers<'a, T>
-        ensures { result ≡ passing (λ v. not (T.eq v value)) runs.entry }
-    {
-        RangesForOthers {
-            runs,
-            test: IsNot { value },
-        }
-    }
-}
-
-impl<T: TrieValue> Iterator for RangesForOthers<'_, T> {
-    type Item = CodePointRange;
-
-    ghost next_gives = { YieldsFirst (λ ranges. ranges) };
-
-    ghost remaining = { item_count (λ ranges. ranges) };
-
-    fn next(&mut self) -> Option<CodePointRange> {
-        next_range(&mut self.runs, &mut self.test)
-    }
-}
-
-/// The maximal ranges of code points whose general category is in a group, in order. A contract sees it as the list of
-/// those still to come.
-#[derive(Drop)]
-pub struct RangesForGroup<'a> {
-    runs: TrieRanges<'a, GeneralCategory>,
-    group: GeneralCategoryGroup,
-}
-
-impl<'a> Model for RangesForGroup<'a> {
-    ghost use Rattle.std.specs.Prelude.{List};
-    ghost use Rattle.cp_invlist.specs.declared.ranges.CodePointRange.{CodePointRange};
-    ghost use Rattle.prop_values.specs.Groups.{has};
-    ghost use Rattle.prop_query.specs.Passing.{passing};
-
-    ghost Value = { List CodePointRange };
-
-    ghost view = { λ s. passing (has s.group) s.runs };
-}
-
-impl<'a> RangesForGroup<'a> {
-    pub(crate) fn new(
-        runs: TrieRanges<'a, GeneralCategory>,
-        group: GeneralCategoryGroup,
-    ) -> RangesForGroup<'a>
-        ensures { result ≡ passing (has group) runs.entry }
-    {
-        RangesForGroup { runs, group }
-    }
-}
-
-impl Iterator for RangesForGroup<'_> {
-    type Item = CodePointRange;
-
-    ghost next_gives = { YieldsFirst (λ ranges. ranges) };
-
-    ghost remaining = { item_count (λ ranges. ranges) };
-
-    fn next(&mut self) -> Option<CodePointRange> {
-        next_range(&mut self.runs, &mut self.group)
     }
 }

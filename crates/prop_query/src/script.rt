@@ -9,15 +9,15 @@ ghost use Rattle.prop_query.specs.Answers.{NeedsTable, NeedsTableAndMemory};
 ghost use Rattle.prop_query.specs.Scripts.{script_of, extensions_of, has_script, number_has, extensions_of_number, scripts_listed, others, AnswersAs};
 
 mod extensions;
-mod ranges;
+mod has_script;
 
+use crate::ranges::RangesWhere;
 use cp_invlist::laws::{one_list_of_ranges, ranges_hold_members};
 use cp_invlist::{CodePointInversionList, LAST_CODE_POINT, NoMemory};
 pub use extensions::{ScriptExtensionsIter, ScriptExtensionsSet};
+use has_script::HasScript;
 use prop_data::{DataError, PropertyDatabase, ScriptWithExtensionsProperty, TableName};
 use prop_values::{Script, ScriptWithExt};
-use ranges::HasScript;
-pub use ranges::ScriptExtensionsRanges;
 use std::alloc::Global;
 
 /// What a call answers where a database has no scripts with extensions.
@@ -36,6 +36,9 @@ pub struct ScriptWithExtensions {
 pub struct ScriptWithExtensionsBorrowed<'a> {
     property: &'a ScriptWithExtensionsProperty,
 }
+
+/// The maximal ranges of the code points that have a script among their script extensions, in order.
+pub type ScriptExtensionsRanges<'a> = RangesWhere<'a, ScriptWithExt, HasScript<'a>>;
 
 impl ScriptWithExtensions {
     ghost use Rattle.prop_query.specs.ScriptTypes.{table_of, table_owned};
@@ -160,7 +163,8 @@ impl<'a> ScriptWithExtensionsBorrowed<'a> {
     {
         one_list_of_ranges();
         ranges_hold_members();
-        ScriptExtensionsRanges::new(self, script)
+        let runs = self.property.script_trie().iter_ranges();
+        RangesWhere::new(runs, HasScript::new(self, script))
     }
 
     /// The code points that have the script among their script extensions. `NoMemory` says that a request for memory

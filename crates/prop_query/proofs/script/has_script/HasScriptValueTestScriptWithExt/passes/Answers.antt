@@ -2,7 +2,7 @@ use Rattle.std.proofs.Common.{sym, ap, ◌∙◌}
 use Rattle.prop_query.specs.Scripts.{number_has}
 use Rattle.prop_query.specs.ScriptTypes.{table_of}
 use Rattle.prop_query.proofs.FoundLemmas.{AreFound-set}
-use Rattle.prop_query.proofs.script.ranges.HasScriptValueTestScriptWithExt.passes.Goals as goal
+use Rattle.prop_query.proofs.script.has_script.HasScriptValueTestScriptWithExt.passes.Goals as goal
 
 pub invariant_of-self : goal.invariant_of-self
 invariant_of-self c =

@@ -1,5 +1,5 @@
 use Rattle.prop_query.proofs.PassingLemmas.{yields-goes, yields-same}
-use Rattle.prop_query.proofs.ranges.RangesForOthersIterator.next.Goals as goal
+use Rattle.prop_query.proofs.ranges.RangesWhereIterator.next.Goals as goal
 
 pub returns-clause-steps : goal.returns-clause-steps
 returns-clause-steps g c = yields-same _ _ _ _ _ _ c.self.view_is c.next_range.ensures.same c.next_range.ensures.yields
