@@ -122,6 +122,16 @@ impl CodePointInversionList {
         Ok(())
     }
 
+    /// Keeps an index where the list `is_long`. The set stays as it is. `NoMemory` says that a request for memory was refused.
+    pub fn index_if_long(&mut self, alloc: Global) -> Result<(), NoMemory>
+        ensures { self.new ≡ self.old }
+    {
+        if self.is_long() {
+            self.index(alloc)?;
+        }
+        Ok(())
+    }
+
     /// The words of the index, one for each 64 code points in order, whose bits say which of them are members; none where
     /// the set has no index.
     pub fn words(&self) -> &[u64]

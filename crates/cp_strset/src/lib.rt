@@ -114,6 +114,14 @@ impl CodePointInversionListAndStringList {
         self.code_points.index(alloc)
     }
 
+    /// Keeps an index of the code points where their list is long (`CodePointInversionList::index_if_long`). The set stays as
+    /// it is. `NoMemory` says that a request for memory was refused.
+    pub fn index_if_long(&mut self, alloc: Global) -> Result<(), NoMemory>
+        ensures { self.new ≡ self.old }
+    {
+        self.code_points.index_if_long(alloc)
+    }
+
     /// The strings, in order.
     pub fn strings(&self) -> &[String]
         ensures bytes { map string_bytes result.now ≡ self.now.strings }

@@ -100,7 +100,7 @@ fn count_pieces(numbers: &[usize]) -> usize
     }
 }
 
-/// The piece with the index of the set of the numbers.
+/// The piece with this index of the set of the numbers, itself with an index where it is long.
 fn piece_of(
     alloc: Global,
     numbers: &[usize],
@@ -109,25 +109,14 @@ fn piece_of(
     ensures { IfOk result (λ piece. (number : ℕ) → number / 0x11_0000 ≡ index →
         contains piece (number % 0x11_0000) ≡ list_any (λ n. n == number) numbers.now) }
 {
-    let mut piece = CodePointInversionListBuilder::new(alloc);
+    let mut builder = CodePointInversionListBuilder::new(alloc);
     for number in numbers {
         if *number / PIECE == index {
-            piece.add32((*number % PIECE) as u32)?;
+            builder.add32((*number % PIECE) as u32)?;
         }
     }
-    Ok(piece.build())
-}
-
-/// The piece, with an index where it is long.
-fn with_index(
-    alloc: Global,
-    mut piece: CodePointInversionList,
-) -> Result<CodePointInversionList, NoMemory>
-    ensures { IfOk result (λ indexed. indexed ≡ piece) }
-{
-    if piece.is_long() {
-        piece.index(alloc)?;
-    }
+    let mut piece = builder.build();
+    piece.index_if_long(alloc)?;
     Ok(piece)
 }
 
@@ -138,8 +127,7 @@ fn pieces_of(alloc: Global, numbers: &[usize]) -> Result<Vec<CodePointInversionL
 {
     let mut pieces = Vec::new(alloc);
     for index in 0..count_pieces(numbers) {
-        let piece = piece_of(alloc, numbers, index)?;
-        pieces.push(with_index(alloc, piece)?)?;
+        pieces.push(piece_of(alloc, numbers, index)?)?;
     }
     Ok(pieces)
 }

@@ -75,6 +75,31 @@ fn an_index_tells_the_members_of_the_list(rt: HostRuntime) {
     }
 }
 
+/// How many words the index of a set of so many ranges has, and that of a set with these code points and no strings, where only
+/// a long list gets one.
+fn words_if_long(alloc: Global, count: u32) -> Option<(usize, usize)> {
+    let Ok(mut list) = apart(alloc, 0, count) else {
+        return None;
+    };
+    let Ok(copy) = list.copy(alloc) else {
+        return None;
+    };
+    let Ok(mut set) = CodePointInversionListAndStringList::try_from(copy, Vec::new(alloc)) else {
+        return None;
+    };
+    if list.index_if_long(alloc).is_err() || set.index_if_long(alloc).is_err() {
+        return None;
+    }
+    Some((list.words().len(), set.code_points().words().len()))
+}
+
+#[test]
+fn a_list_that_is_not_long_gets_no_index(rt: HostRuntime) {
+    for (count, words) in [(0, 0), (4_095, 0), (4_096, 17_408)] {
+        assert_equal(&rt, words_if_long(rt.alloc(), count), Some((words, words)));
+    }
+}
+
 /// How many words the index of a set with strings has, and whether its code points are as they were.
 fn indexed_with_strings(alloc: Global, count: u32) -> Option<(usize, bool)> {
     let Ok(plain) = apart(alloc, 0, count) else {

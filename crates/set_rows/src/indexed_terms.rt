@@ -68,9 +68,7 @@ fn indexed(alloc: Global, multiples: Multiples) -> Result<CodePointInversionList
         }
     }
     let mut set = builder.build();
-    if set.is_long() {
-        set.index(alloc)?;
-    }
+    set.index_if_long(alloc)?;
     Ok(set)
 }
 

@@ -11,7 +11,6 @@ ghost use Rattle.uset_tool.specs.Answered.{AnswersDefinition, AnswersBinding, An
 use crate::answer::{Answer, answer_err, answer_fault, answer_pattern};
 use crate::line::{Definition, Line, read_line};
 use cp_invlist::NoMemory;
-use cp_strset::CodePointInversionListAndStringList;
 use std::alloc::Global;
 use uset_parse::{
     InsertError, Resolver, VariableMap, VariableString, VariableValue, WholeSource,
@@ -83,19 +82,6 @@ fn answer_value(
     Ok(answer)
 }
 
-/// The set, with an index where its code points have many ranges.
-fn with_index(
-    alloc: Global,
-    mut set: CodePointInversionListAndStringList,
-) -> Result<CodePointInversionListAndStringList, NoMemory>
-    ensures { IfOk result (λ indexed. indexed ≡ set) }
-{
-    if set.code_points().is_long() {
-        set.index(alloc)?;
-    }
-    Ok(set)
-}
-
 /// Binds a name that is bound to nothing to the set of a pattern, where the pattern is the whole source.
 fn answer_set(
     alloc: Global,
@@ -110,9 +96,9 @@ fn answer_set(
     ensures same { resolver.new ≡ resolver.old }
 {
     match parse_whole_with_resolver(alloc, source, variables, resolver) {
-        Ok(WholeSource::Pattern(set)) => {
-            let value = VariableValue::UnicodeSet(with_index(alloc, set)?);
-            answer_value(alloc, name, value, variables)
+        Ok(WholeSource::Pattern(mut set)) => {
+            set.index_if_long(alloc)?;
+            answer_value(alloc, name, VariableValue::UnicodeSet(set), variables)
         }
         Ok(WholeSource::TextBehind(length)) => answer_text_after(alloc, length),
         Err(error) => answer_fault(alloc, source, error),

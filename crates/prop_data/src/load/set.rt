@@ -68,9 +68,7 @@ impl OpenSet {
         ensures { OnOk result (TakesFinished (OpenTable.Set self) database.old database.new) }
     {
         let mut set = self.builder.build();
-        if set.is_long() {
-            set.index(alloc)?;
-        }
+        set.index_if_long(alloc)?;
         database.insert_set(self.table, set)
     }
 }

@@ -1,6 +1,5 @@
-use Rattle.std.proofs.Common.{◌+◌, ◌/◌, ◌%◌, ◌==◌, ◌∷◌, [], ◌∙◌, ap, length, length-append, subst, sym, arith, inl, inr}
+use Rattle.std.proofs.Common.{◌+◌, ◌/◌, ◌==◌, ◌∷◌, [], ◌∙◌, ap, length, length-append, subst, sym, arith, inl, inr}
 use Rattle.std.specs.List.{list_any}
-use Rattle.cp_invlist.specs.InversionList.{contains}
 use Rattle.std.proofs.lemmas.Bool.{cases_lt}
 use Rattle.cp_strset_terms.proofs.NumberSetLemmas.{TellsBelow, tells_more, no_piece, lacks_all}
 use Rattle.cp_strset_terms.proofs.number_set.pieces_of.Goals as goal
@@ -17,8 +16,8 @@ loop-index-init c = (ap length c.new-pieces.ensures.items, λ number lt. absurd 
 
 pub loop-index-preserved : goal.loop-index-preserved
 loop-index-preserved c = (
-  ap length c.in_ok-push.ensures.items ∙ (length-append c.loop-index.pieces.items (c.in_ok-with_index.field-0 ∷ []) ∙ ap (λ n. n + 1) c.loop-index.invariant.0),
+  ap length c.in_ok-push.ensures.items ∙ (length-append c.loop-index.pieces.items (c.in_ok-piece_of.field-0 ∷ []) ∙ ap (λ n. n + 1) c.loop-index.invariant.0),
   subst (λ pieces. TellsBelow (λ number. list_any (λ n. n == number) c.args.numbers.now) pieces (c.loop-index.index + 1)) (sym c.in_ok-push.ensures.items)
-      (tells_more (λ number. list_any (λ n. n == number) c.args.numbers.now) c.loop-index.pieces.items c.in_ok-with_index.field-0 c.loop-index.index c.loop-index.invariant.0 c.loop-index.invariant.1
-      (λ number same. ap (λ piece. contains piece (number % 0x11_0000)) c.in_ok-with_index.ensures ∙ c.in_ok-piece.ensures number same)),
+      (tells_more (λ number. list_any (λ n. n == number) c.args.numbers.now) c.loop-index.pieces.items c.in_ok-piece_of.field-0 c.loop-index.index c.loop-index.invariant.0 c.loop-index.invariant.1
+      c.in_ok-piece_of.ensures),
 )

@@ -19,14 +19,14 @@ returns-in-Err-clause-answer c =
     (λ a h. no_set_answer tables old c.args.name.now c.args.source.now c.in-Err.error a c.in-Err.ensures.refused h)
     c.answer_fault.ensures
 
-pub returns-in_ok-with_index-in-Ok-Pattern-clause-answer : goal.returns-in_ok-with_index-in-Ok-Pattern-clause-answer
-returns-in_ok-with_index-in-Ok-Pattern-clause-answer c =
+pub returns-in_ok-index_if_long-in-Ok-Pattern-clause-answer : goal.returns-in_ok-index_if_long-in-Ok-Pattern-clause-answer
+returns-in_ok-index_if_long-in-Ok-Pattern-clause-answer c =
     let old = variables_of c.args.variables.now in
     let new = variables_of c.answer_value.new.variables in
     let tables = tables_of c.args.resolver.now in
-    IfOk-weaker c.answer_value.result (IsBound c.args.name.now (set (in_set c.in_ok-with_index-in-Ok-Pattern.field-0)) old new) (λ (a : Answer). DefinitionAnswer tables old c.args.name.now (set_definition c.args.source.now) (string_bytes a.text) a.is_err new)
+    IfOk-weaker c.answer_value.result (IsBound c.args.name.now (set (in_set c.index_if_long.new.self)) old new) (λ (a : Answer). DefinitionAnswer tables old c.args.name.now (set_definition c.args.source.now) (string_bytes a.text) a.is_err new)
     (λ a h. set_answer tables old new c.args.name.now c.args.source.now _ a (rw c.in-Ok-Pattern.field-0-is at c.in-Ok-Pattern.ensures.read)
-    (subst (λ s. IsBound c.args.name.now (set (in_set s)) old new a) c.in_ok-with_index-in-Ok-Pattern.ensures h))
+    (subst (λ s. IsBound c.args.name.now (set (in_set s)) old new a) c.in_ok-index_if_long-in-Ok-Pattern.ensures h))
     c.answer_value.ensures
 
 pub returns-in-Ok-TextBehind-clause-answer : goal.returns-in-Ok-TextBehind-clause-answer
