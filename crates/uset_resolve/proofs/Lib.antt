@@ -1,5 +1,4 @@
 pub mod DecimalLemmas
-pub mod KeyLemmas
 pub mod GroupLemmas
 pub mod BoundedSources
 pub mod MadeLemmas

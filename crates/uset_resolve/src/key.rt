@@ -1,16 +1,15 @@
 //! Keys of the properties whose values have names, and the words for truth and falsehood.
-ghost use Rattle.std.specs.Prelude.{◌≡◌, ◌||◌, IfOk, IfSome, slice_get};
-ghost use Rattle.std.specs.List.{position};
+ghost use Rattle.std.specs.Prelude.{◌≡◌, ◌||◌, IfOk, find, option_map};
 ghost use Rattle.std.specs.Str.{bytes_eq};
-ghost use Rattle.uset_resolve.specs.Keys.{folded, has_name, asked_by, key_of, named_keys, falsy};
-ghost use Rattle.uset_resolve.specs.Sources.{IsKey, AreKeys};
+ghost use Rattle.uset_resolve.specs.Keys.{folded, asked_by, key_of, falsy};
+ghost use Rattle.uset_resolve.specs.Sources.{AreKeys};
 
 use cp_invlist::NoMemory;
 use prop_values::{MapTable, NamesTable};
 use std::alloc::Global;
 
 /// What the value behind a key names.
-#[derive(Drop)]
+#[derive(Clone, Copy)]
 pub(crate) enum Key {
     /// A group of general categories.
     Categories,
@@ -20,19 +19,88 @@ pub(crate) enum Key {
     Values(MapTable, NamesTable),
 }
 
-/// The long and the short names of the keys as a key is compared with them: in lower case, without `_`.
-const NAMES: [(&[u8], &[u8]); 11] = [
-    (b"generalcategory", b"gc"),
-    (b"graphemeclusterbreak", b"gcb"),
-    (b"indicconjunctbreak", b"incb"),
-    (b"linebreak", b"lb"),
-    (b"script", b"sc"),
-    (b"sentencebreak", b"sb"),
-    (b"wordbreak", b"wb"),
-    (b"eastasianwidth", b"ea"),
-    (b"canonicalcombiningclass", b"ccc"),
-    (b"scriptextensions", b"scx"),
-    (b"block", b"blk"),
+/// A key by its names as a key is compared with them: in lower case, without `_`.
+struct NamedKey {
+    long: &'static [u8],
+    short: &'static [u8],
+    key: Key,
+}
+
+impl NamedKey {
+    /// Whether the text is one of the names.
+    fn has_name(&self, text: &[u8]) -> bool
+        ensures { result ≡ (bytes_eq self.now.long.now text.now || bytes_eq self.now.short.now text.now) }
+    {
+        self.long == text || self.short == text
+    }
+}
+
+/// The keys.
+const KEYS: [NamedKey; 11] = [
+    NamedKey {
+        long: b"generalcategory",
+        short: b"gc",
+        key: Key::Categories,
+    },
+    NamedKey {
+        long: b"graphemeclusterbreak",
+        short: b"gcb",
+        key: Key::Values(
+            MapTable::GRAPHEME_CLUSTER_BREAK,
+            NamesTable::GRAPHEME_CLUSTER_BREAK,
+        ),
+    },
+    NamedKey {
+        long: b"indicconjunctbreak",
+        short: b"incb",
+        key: Key::Values(
+            MapTable::INDIC_CONJUNCT_BREAK,
+            NamesTable::INDIC_CONJUNCT_BREAK,
+        ),
+    },
+    NamedKey {
+        long: b"linebreak",
+        short: b"lb",
+        key: Key::Values(MapTable::LINE_BREAK, NamesTable::LINE_BREAK),
+    },
+    NamedKey {
+        long: b"script",
+        short: b"sc",
+        key: Key::Values(MapTable::SCRIPT, NamesTable::SCRIPT),
+    },
+    NamedKey {
+        long: b"sentencebreak",
+        short: b"sb",
+        key: Key::Values(MapTable::SENTENCE_BREAK, NamesTable::SENTENCE_BREAK),
+    },
+    NamedKey {
+        long: b"wordbreak",
+        short: b"wb",
+        key: Key::Values(MapTable::WORD_BREAK, NamesTable::WORD_BREAK),
+    },
+    NamedKey {
+        long: b"eastasianwidth",
+        short: b"ea",
+        key: Key::Values(MapTable::EAST_ASIAN_WIDTH, NamesTable::EAST_ASIAN_WIDTH),
+    },
+    NamedKey {
+        long: b"canonicalcombiningclass",
+        short: b"ccc",
+        key: Key::Values(
+            MapTable::CANONICAL_COMBINING_CLASS,
+            NamesTable::CANONICAL_COMBINING_CLASS,
+        ),
+    },
+    NamedKey {
+        long: b"scriptextensions",
+        short: b"scx",
+        key: Key::Extensions,
+    },
+    NamedKey {
+        long: b"block",
+        short: b"blk",
+        key: Key::Values(MapTable::BLOCK, NamesTable::BLOCK),
+    },
 ];
 
 /// The words for a binary property that a code point has.
@@ -54,56 +122,20 @@ fn folded(alloc: Global, key: &[u8]) -> Result<Vec<u8>, NoMemory>
     Ok(folded)
 }
 
-/// The index of the first of the keys with this name.
-fn place_in(keys: &[(&[u8], &[u8])], name: &[u8]) -> Option<usize>
-    ensures { result ≡ position (λ k. bytes_eq k.0.now name.now || bytes_eq k.1.now name.now) keys.now }
+/// What the first of the keys with this name asks.
+fn first_named(keys: &[NamedKey], name: &[u8]) -> Option<Key>
+    ensures { result ≡ option_map (λ k. k.key)
+        (find (λ k. bytes_eq k.long.now name.now || bytes_eq k.short.now name.now) keys.now) }
 {
-    keys.iter().position(|key| key.0 == name || key.1 == name)
-}
-
-/// The index of the key with this name, folded.
-fn place_of(name: &[u8]) -> Option<usize>
-    ensures { result ≡ position (has_name name.now) named_keys }
-{
-    place_in(&NAMES, name)
-}
-
-/// What the key at an index asks.
-fn asked_at(index: usize) -> Key
-    ensures { IfSome (slice_get named_keys index) (λ k. IsKey result k.2) }
-{
-    match index {
-        0 => Key::Categories,
-        1 => Key::Values(
-            MapTable::GRAPHEME_CLUSTER_BREAK,
-            NamesTable::GRAPHEME_CLUSTER_BREAK,
-        ),
-        2 => Key::Values(
-            MapTable::INDIC_CONJUNCT_BREAK,
-            NamesTable::INDIC_CONJUNCT_BREAK,
-        ),
-        3 => Key::Values(MapTable::LINE_BREAK, NamesTable::LINE_BREAK),
-        4 => Key::Values(MapTable::SCRIPT, NamesTable::SCRIPT),
-        5 => Key::Values(MapTable::SENTENCE_BREAK, NamesTable::SENTENCE_BREAK),
-        6 => Key::Values(MapTable::WORD_BREAK, NamesTable::WORD_BREAK),
-        7 => Key::Values(MapTable::EAST_ASIAN_WIDTH, NamesTable::EAST_ASIAN_WIDTH),
-        8 => Key::Values(
-            MapTable::CANONICAL_COMBINING_CLASS,
-            NamesTable::CANONICAL_COMBINING_CLASS,
-        ),
-        9 => Key::Extensions,
-        _ => Key::Values(MapTable::BLOCK, NamesTable::BLOCK),
-    }
+    let named = keys.iter().find(|named| named.has_name(name))?;
+    Some(named.key)
 }
 
 /// What the key with this name, folded, asks.
 fn key_named(name: &[u8]) -> Option<Key>
     ensures { AreKeys result (asked_by name.now) }
 {
-    match place_of(name) {
-        Some(index) => Some(asked_at(index)),
-        None => None,
-    }
+    first_named(&KEYS, name)
 }
 
 /// What a key asks, where its values have names.
