@@ -44,10 +44,7 @@ fn read_bracket<'v, 'd: 'v, 'a>(
     let mut bracket = OpenBracket::open(alloc, opening, 0)?;
     let mut place = Cursor::new(source).at(inner);
     loop {
-        let progress = match turn(alloc, syntax, resolver, place, &mut outer, &mut bracket) {
-            Ok(progress) => progress,
-            Err(error) => return Err(error),
-        };
+        let progress = turn(alloc, syntax, resolver, place, &mut outer, &mut bracket)?;
         match progress {
             Progress::GoesOn(rest) => place = place.at(rest),
             Progress::Done(set, rest) => return Ok((Box::into_inner(set), place.at(rest))),

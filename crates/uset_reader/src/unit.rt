@@ -1,5 +1,5 @@
 //! Units of a bracket: escapes, strings and properties.
-ghost use Rattle.std.specs.Prelude.{◌≡◌, ◌≤◌, ◌<◌, length, IfOk, IfErr};
+ghost use Rattle.std.specs.Prelude.{◌≡◌, ◌≤◌, ◌<◌, Bool, length, IfOk, IfErr};
 ghost use Rattle.std.specs.Str.{chars};
 ghost use Rattle.std.specs.String.{string_bytes};
 ghost use Rattle.uset_grammar.specs.Item.{text_item};
@@ -73,14 +73,13 @@ fn begins_property(text: &str) -> bool
 fn read_text<'v, 'a>(
     alloc: Global,
     syntax: &Syntax<'_>,
-    several: bool,
     text: &'a str,
 ) -> Result<(Item<'v>, &'a str), Stop<'a>>
     requires { IsString (chars text.now) }
-    ensures read { IfOk result
+    ensures read { (several : Bool) → IfOk result
         (λ p. (g : Gathering) → UnitIs (language_seen syntax.now) g several text.now p.0 p.1.now) }
     ensures proper { IfOk result (λ p. IsProper p.0) }
-    ensures stopped { IfErr result (UnitStops (language_seen syntax.now) several text.now) }
+    ensures stopped { (several : Bool) → IfErr result (UnitStops (language_seen syntax.now) several text.now) }
     ensures place { IfErr result (λ stop. left_at stop ≤ length text.now) }
     ensures shorter { IfOk result (λ p. length p.1.now < length text.now) }
 {
@@ -115,17 +114,17 @@ fn read_property_set<'v, 'd: 'v, 'a>(
     alloc: Global,
     syntax: &Syntax<'v>,
     resolver: &mut Resolver<'d>,
-    several: bool,
     gathered: &Gathering<'v>,
     text: &'a str,
 ) -> Result<(Item<'v>, &'a str), Stop<'a>>
     requires known { resolver.old ≡ syntax.now.database.now }
     requires begins { IsProperty (chars text.now) }
     ensures same { resolver.new ≡ resolver.old }
-    ensures read { IfOk result
+    ensures read { (several : Bool) → IfOk result
         (λ p. UnitInFitting (language_seen syntax.now) gathered.now several text.now p.0 p.1.now) }
     ensures proper { IfOk result (λ p. IsProper p.0) }
-    ensures stopped { IfErr result (UnitStopsIn (language_seen syntax.now) gathered.now several text.now) }
+    ensures stopped { (several : Bool) →
+        IfErr result (UnitStopsIn (language_seen syntax.now) gathered.now several text.now) }
     ensures place { IfErr result (λ stop. left_at stop ≤ length text.now) }
     ensures shorter { IfOk result (λ p. length p.1.now < length text.now) }
 {
@@ -165,8 +164,8 @@ pub(crate) fn read_unit<'v, 'd: 'v, 'a>(
     ensures shorter { IfOk result (λ p. length p.1.now < length text.now) }
 {
     match unit_kind(text) {
-        UnitKind::String => read_text(alloc, syntax, several, text),
+        UnitKind::String => read_text(alloc, syntax, text),
         UnitKind::Escape => read_escaped(alloc, syntax, several, text),
-        UnitKind::Property => read_property_set(alloc, syntax, resolver, several, gathered, text),
+        UnitKind::Property => read_property_set(alloc, syntax, resolver, gathered, text),
     }
 }
