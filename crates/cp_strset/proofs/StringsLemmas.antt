@@ -1,6 +1,6 @@
 -- Sets of strings, by their bytes.
-use Rattle.std.proofs.Common.{◌≡◌, ◌≢◌, ◌<◌, ◌+◌, take, slice_index_or, subst, ℕ, Bool, true, false, cond, ◌||◌, ◌&&◌, not, List, [], ◌∷◌, ◌++◌, zero, suc, map, length, filter, None, refl, sym, ap, ◌∙◌, inl, inr, arith, append-nil}
-use Rattle.std.proofs.lemmas.Bool.{cases_Bool, or_cases, and_parts, or_right}
+use Rattle.std.proofs.Common.{◌≡◌, ◌≢◌, ◌↔◌, ◌<◌, ◌+◌, take, slice_index_or, subst, ℕ, Bool, true, false, cond, ◌||◌, ◌&&◌, not, List, [], ◌∷◌, ◌++◌, zero, suc, map, length, filter, None, refl, sym, ap, ◌∙◌, inl, inr, arith, append-nil}
+use Rattle.std.proofs.lemmas.Bool.{cases_Bool, true≢false, or_cases, and_parts, or_right}
 use Rattle.std.proofs.lemmas.List.Elements.{All-from_recursion, All-map}
 use Rattle.std.proofs.lemmas.List.Folds.{list_any-append}
 use Rattle.std.proofs.lemmas.Map.Text.{is_eq-slice_cmp}
@@ -115,6 +115,14 @@ none_of_one_kept test ks kept all is bytes h = all bytes (and_parts (spelled_in 
 
 spells_itself : (k : String Global) → spells (string_bytes k) k ≡ true
 spells_itself k = is_eq-slice_cmp (string_bytes k) (string_bytes k) ∙ (bytes_eq-Decides (string_bytes k) (string_bytes k)).1 refl
+
+-- there are no strings just where none has any bytes
+pub none_spelled : (ks : List (String Global)) → (length ks ≡ 0) ↔ ((bytes : List ℕ) → spelled_in ks bytes ≡ false)
+none_spelled [] = (λ _ bytes. refl, λ _. refl)
+none_spelled (k ∷ ks) = (
+  λ none. absurd (omega arith),
+  λ none. absurd (true≢false (sym (ap (λ b. b || spelled_in ks (string_bytes k)) (spells_itself k)) ∙ none (string_bytes k))),
+)
 
 not_one : (cs : List ℕ) → sole_of cs ≡ None → length cs ≢ 1
 not_one [] h = λ e. omega (arith, e)

@@ -29,7 +29,7 @@ impl Model for Strings {
 }
 
 impl Strings {
-    ghost use Rattle.std.specs.Prelude.{◌≡◌, ◌||◌, ◌&&◌, not, ℕ, List, map, None, false, IfOk, OnOk, OnErr};
+    ghost use Rattle.std.specs.Prelude.{◌≡◌, ◌↔◌, ◌||◌, ◌&&◌, not, ℕ, List, map, None, false, IsTrue, IfOk, OnOk, OnErr};
     ghost use Rattle.std.specs.BTreeSet.{contains_text};
     ghost use Rattle.std.specs.Str.{chars, bytes_eq};
     ghost use Rattle.std.specs.String.{string_bytes};
@@ -42,6 +42,13 @@ impl Strings {
         Strings {
             texts: BTreeSet::new(alloc),
         }
+    }
+
+    /// Whether there is no string.
+    pub fn is_empty(&self) -> bool
+        ensures { IsTrue result ↔ ((bytes : List ℕ) → contains_text self.now bytes ≡ false) }
+    {
+        self.texts.is_empty()
     }
 
     /// Whether the text is one of the strings.

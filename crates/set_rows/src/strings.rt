@@ -161,6 +161,22 @@ fn gathered(alloc: Global, texts: &[&str]) -> Option<Strings> {
     Strings::new(alloc).insert_copies(alloc, &set).ok()
 }
 
+/// Whether these strings are said to be none.
+fn are_none(alloc: Global, texts: &[&str]) -> Option<bool> {
+    Some(gathered(alloc, texts)?.is_empty())
+}
+
+#[test]
+fn the_empty_string_is_a_string(rt: HostRuntime) {
+    for (texts, expected) in [
+        (&[] as &[&str], true),
+        (&[""], false),
+        (&["ab", "cd"], false),
+    ] {
+        assert_equal(&rt, are_none(rt.alloc(), texts), Some(expected));
+    }
+}
+
 /// The strings that are given.
 const GIVEN: &[&str] = &["ab", "ef"];
 

@@ -81,14 +81,18 @@ impl Gathered {
             Operand::Gathered(other) => {
                 let (code_points, strings) = other.into_parts();
                 self.code_points.join(code_points)?;
-                let own = replace(&mut self.strings, Strings::new(alloc));
-                self.strings = own.append(strings)?;
+                if !strings.is_empty() {
+                    let own = replace(&mut self.strings, Strings::new(alloc));
+                    self.strings = own.append(strings)?;
+                }
                 Ok(())
             }
             Operand::Set(set) => {
                 self.code_points.add_set(set.code_points())?;
-                let own = replace(&mut self.strings, Strings::new(alloc));
-                self.strings = own.insert_copies(alloc, set)?;
+                if !set.strings().is_empty() {
+                    let own = replace(&mut self.strings, Strings::new(alloc));
+                    self.strings = own.insert_copies(alloc, set)?;
+                }
                 Ok(())
             }
             Operand::CodePoints(source) => self.code_points.add_set(source.list()),
