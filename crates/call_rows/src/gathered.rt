@@ -79,7 +79,7 @@ fn take_step(
 ) -> Result<(), NoMemory> {
     match step {
         Step::Join => gathered.join(alloc, operand),
-        Step::Remove => gathered.remove(operand),
+        Step::Remove => gathered.remove(alloc, operand),
         Step::Retain => gathered.retain(alloc, operand),
         Step::Negate => {
             gathered.negate(alloc);

@@ -1,5 +1,5 @@
 -- Sets by their members, which are code points and strings.
-use Rattle.std.specs.Prelude.{◌≡◌, ℕ, Bool, List}
+use Rattle.std.specs.Prelude.{◌≡◌, ℕ, Bool, false, List}
 use Rattle.std.specs.BTreeSet.{contains_text}
 use Rattle.std.specs.Str.{chars}
 use Rattle.cp_invlist.specs.InversionList.{contains}
@@ -21,6 +21,10 @@ gathered_in g (string bytes) = contains_text g.strings bytes
 -- what was gathered has these members
 abbrev pub HasMembers : Gathered → (Member → Bool) → Type 0
 HasMembers g members = (m : Member) → gathered_in g m ≡ members m
+
+-- nothing was gathered
+abbrev pub IsEmpty : Gathered → Type 0
+IsEmpty g = (m : Member) → gathered_in g m ≡ false
 
 -- whether the member is the string with these bytes
 abbrev pub is_string : List ℕ → Member → Bool

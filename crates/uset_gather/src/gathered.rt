@@ -7,7 +7,7 @@ use std::alloc::Global;
 use std::mem::replace;
 
 /// A set in the making. A bracket that closes gives it to the one around it, and only that of the outermost
-/// one is made a list. Where memory is refused to `join`, `remove` or `retain` nothing is said of it, and it is to be let go.
+/// one is made a list. Where memory is refused while a set is gathered into it, it is empty then.
 pub struct Gathered {
     code_points: Painting,
     strings: Strings,
@@ -24,16 +24,16 @@ impl Drop for Gathered {
 }
 
 impl Gathered {
-    ghost use Rattle.std.specs.Prelude.{◌≡◌, ◌≤◌, ◌||◌, ◌&&◌, not, false, None, IfOk, OnOk, OnErr};
+    ghost use Rattle.std.specs.Prelude.{◌≡◌, ◌≤◌, ◌||◌, ◌&&◌, not, None, IfOk, OnOk, OnErr};
     ghost use Rattle.std.specs.Str.{chars};
     ghost use Rattle.std.specs.String.{string_bytes};
     ghost use Rattle.cp_strset.specs.StringList.{sole_of};
     ghost use Rattle.uset_grammar.specs.Tree.{Member, in_range, negation};
-    ghost use Rattle.uset_gather.specs.Gathered.{gathered_in, HasMembers, is_string, operand_in, in_set};
+    ghost use Rattle.uset_gather.specs.Gathered.{gathered_in, HasMembers, IsEmpty, is_string, operand_in, in_set};
 
     /// Nothing yet.
     pub fn new(alloc: Global) -> Gathered
-        ensures { (m : Member) → gathered_in result m ≡ false }
+        ensures { IsEmpty result }
     {
         Gathered {
             code_points: Painting::new(alloc),
@@ -73,8 +73,20 @@ impl Gathered {
         (code_points, strings)
     }
 
-    /// Adds the members of the operand. `NoMemory` says that a request for memory was refused.
+    /// Adds the members of the operand. Where memory is refused the set is empty.
     pub fn join(&mut self, alloc: Global, operand: Operand<'_>) -> Result<(), NoMemory>
+        ensures ok { OnOk result (HasMembers self.new (λ m. gathered_in self.old m || operand_in operand.entry m)) }
+        ensures err { OnErr result (IsEmpty self.new) }
+    {
+        let Err(refused) = self.try_join(alloc, operand) else {
+            return Ok(());
+        };
+        *self = Gathered::new(alloc);
+        Err(refused)
+    }
+
+    /// Adds the members of the operand.
+    fn try_join(&mut self, alloc: Global, operand: Operand<'_>) -> Result<(), NoMemory>
         ensures { OnOk result (HasMembers self.new (λ m. gathered_in self.old m || operand_in operand.entry m)) }
     {
         match operand {
@@ -100,8 +112,20 @@ impl Gathered {
         }
     }
 
-    /// Takes the members of the operand away. `NoMemory` says that a request for memory was refused.
-    pub fn remove(&mut self, operand: Operand<'_>) -> Result<(), NoMemory>
+    /// Takes the members of the operand away. Where memory is refused the set is empty.
+    pub fn remove(&mut self, alloc: Global, operand: Operand<'_>) -> Result<(), NoMemory>
+        ensures ok { OnOk result (HasMembers self.new (λ m. gathered_in self.old m && not (operand_in operand.entry m))) }
+        ensures err { OnErr result (IsEmpty self.new) }
+    {
+        let Err(refused) = self.try_remove(operand) else {
+            return Ok(());
+        };
+        *self = Gathered::new(alloc);
+        Err(refused)
+    }
+
+    /// Takes the members of the operand away.
+    fn try_remove(&mut self, operand: Operand<'_>) -> Result<(), NoMemory>
         ensures { OnOk result (HasMembers self.new (λ m. gathered_in self.old m && not (operand_in operand.entry m))) }
     {
         match operand {
@@ -119,8 +143,20 @@ impl Gathered {
         }
     }
 
-    /// Keeps only the members of the operand. `NoMemory` says that a request for memory was refused.
+    /// Keeps only the members of the operand. Where memory is refused the set is empty.
     pub fn retain(&mut self, alloc: Global, operand: Operand<'_>) -> Result<(), NoMemory>
+        ensures ok { OnOk result (HasMembers self.new (λ m. gathered_in self.old m && operand_in operand.entry m)) }
+        ensures err { OnErr result (IsEmpty self.new) }
+    {
+        let Err(refused) = self.try_retain(alloc, operand) else {
+            return Ok(());
+        };
+        *self = Gathered::new(alloc);
+        Err(refused)
+    }
+
+    /// Keeps only the members of the operand.
+    fn try_retain(&mut self, alloc: Global, operand: Operand<'_>) -> Result<(), NoMemory>
         ensures { OnOk result (HasMembers self.new (λ m. gathered_in self.old m && operand_in operand.entry m)) }
     {
         match operand {

@@ -1,5 +1,5 @@
 -- Sets in the making whose steps are put off.
-use Rattle.std.specs.Prelude.{◌≡◌, ℕ, Bool, true, Option, Some, None, is_some, slice_get, Box, if◌then◌else◌}
+use Rattle.std.specs.Prelude.{◌≡◌, ℕ, Bool, true, false, Option, Some, None, is_some, slice_get, Box, if◌then◌else◌}
 use Rattle.std.specs.Global.{Global}
 use Rattle.uset_grammar.specs.Tree.{Member, negation}
 use Rattle.uset_gather.specs.Gathered.{gathered_in}
@@ -69,6 +69,10 @@ pub record BecomesWith (sets : Sets) (new : Gathering) (members : Member → Boo
 -- the same for each meaning of the names that what was gathered before fits
 abbrev pub Becomes : Gathering → Gathering → (Sets → Member → Bool) → Type 0
 Becomes old new members = (sets : Sets) → Fits sets old → BecomesWith sets new (members sets)
+
+-- Nothing was gathered, whatever the names stand for.
+abbrev pub IsEmpty : Gathering → Type 0
+IsEmpty g = (sets : Sets) → BecomesWith sets g (λ m. false)
 
 -- the same members were gathered
 abbrev pub Settles : Gathering → Gathering → Type 0

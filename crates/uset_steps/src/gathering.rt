@@ -12,7 +12,7 @@ use uset_read::Query;
 
 /// What a bracket gathers. From the first large set with a name on, steps are put off until the set is needed, or about 8 MB
 /// are kept: then a set that was named again and again is gathered no more than twice. So each step costs no more than its name
-/// does. Where memory is refused to `gather` or `gather_named` nothing is said of it, and it is to be let go.
+/// does. Where memory is refused while a set is gathered into it, it is empty then.
 pub struct Gathering<'a> {
     gathered: Gathered,
     later: Option<Box<Later<'a>>>,
@@ -35,7 +35,7 @@ pub struct Place {
 }
 
 impl<'a> Gathering<'a> {
-    ghost use Rattle.std.specs.Prelude.{◌≡◌, ◌≤◌, ◌||◌, true, false, None, IfSome, IfNone, IfOk, OnOk, OnErr};
+    ghost use Rattle.std.specs.Prelude.{◌≡◌, ◌≤◌, ◌||◌, true, None, IfSome, IfNone, IfOk, OnOk, OnErr};
     ghost use Rattle.std.specs.Str.{chars};
     ghost use Rattle.std.specs.String.{string_bytes};
     ghost use Rattle.cp_strset.specs.StringList.{sole_of};
@@ -45,12 +45,11 @@ impl<'a> Gathering<'a> {
     ghost use Rattle.uset_steps.specs.Names.{property, Sets, IsSetOf, name_seen, named_in, is_large};
     ghost use Rattle.uset_steps.specs.Operations.{operated};
     ghost use Rattle.uset_steps.specs.Terms.{closed_in};
-    ghost use Rattle.uset_steps.specs.Gathering.{gathering_in, closed, kept_at, Fits, IsPlaceOf, IsNowhere, IsSomewhere, StandsForSome, GathersKept, KeepsPlaces, Settles, Becomes, BecomesWith};
+    ghost use Rattle.uset_steps.specs.Gathering.{gathering_in, closed, kept_at, Fits, IsPlaceOf, IsNowhere, IsSomewhere, StandsForSome, GathersKept, KeepsPlaces, Settles, Becomes, BecomesWith, IsEmpty};
 
     /// Nothing yet.
     pub fn new(alloc: Global) -> Gathering<'a>
-        ensures members { (sets : Sets) (m : Member) → gathering_in sets result m ≡ false }
-        ensures names { (sets : Sets) → Fits sets result }
+        ensures empty { IsEmpty result }
         ensures kept { (place : Place) → kept_at result place ≡ None }
     {
         Gathering {
@@ -135,10 +134,29 @@ impl<'a> Gathering<'a> {
         Ok(())
     }
 
-    /// Gathers the set of another bracket. The places that were told may end with it, as with `gather_named`.
-    /// `NoMemory` says that a request for memory was refused.
+    /// Gathers the set of another bracket. The places that were told may end with it, as with `gather_named`. Where memory is
+    /// refused all is empty.
     #[inline]
     pub fn gather(
+        &mut self,
+        alloc: Global,
+        operation: Operation,
+        set: Closed,
+    ) -> Result<(), NoMemory>
+        ensures becomes { OnOk result (Becomes self.old self.new
+            (λ sets m. operated operation (closed_in sets set m) (gathering_in sets self.old m))) }
+        ensures err { OnErr result (IsEmpty self.new) }
+    {
+        let Err(refused) = self.try_gather(alloc, operation, set) else {
+            return Ok(());
+        };
+        *self = Gathering::new(alloc);
+        Err(refused)
+    }
+
+    /// Gathers the set of another bracket.
+    #[inline]
+    fn try_gather(
         &mut self,
         alloc: Global,
         operation: Operation,
@@ -161,9 +179,29 @@ impl<'a> Gathering<'a> {
     }
 
     /// Gathers a set with a name. Each name stands for one set: whatever `sets` gives the names, where it gives those that were
-    /// told before the sets that were told with them, and so this one. A large set is kept. `NoMemory` says that a
-    /// request for memory was refused.
+    /// told before the sets that were told with them, and so this one. A large set is kept. Where memory is refused all is
+    /// empty.
     pub fn gather_named(
+        &mut self,
+        alloc: Global,
+        operation: Operation,
+        named: Named<'a>,
+    ) -> Result<(), NoMemory>
+        ensures becomes { OnOk result ((sets : Sets) → Fits sets self.old → IsSetOf sets named.entry → BecomesWith
+            sets self.new (λ m. operated operation (named_in named.entry.set m) (gathering_in sets self.old m))) }
+        ensures kept { OnOk result
+            (is_large named.entry.set ≡ true → IsSomewhere self.new (name_seen named.entry.name)) }
+        ensures err { OnErr result (IsEmpty self.new) }
+    {
+        let Err(refused) = self.try_gather_named(alloc, operation, named) else {
+            return Ok(());
+        };
+        *self = Gathering::new(alloc);
+        Err(refused)
+    }
+
+    /// Gathers a set with a name, and keeps a large one.
+    fn try_gather_named(
         &mut self,
         alloc: Global,
         operation: Operation,

@@ -46,7 +46,7 @@ pub(crate) fn gather(
 {
     match operation {
         Operation::Join => gathered.join(alloc, operand),
-        Operation::Remove => gathered.remove(operand),
+        Operation::Remove => gathered.remove(alloc, operand),
         Operation::Retain => gathered.retain(alloc, operand),
     }
 }

@@ -12,7 +12,7 @@ returns-in-Text-clause-becomes c =
 
 pub returns-in-Set-Inner-clause-becomes : goal.returns-in-Set-Inner-clause-becomes
 returns-in-Set-Inner-clause-becomes c =
-    rw (c.in-Set-Inner.is, c.in-Set-Inner.field-0-is) (on_ok_weaker c.gather.result (gathers_inner c.args.operation c.in-Set-Inner.set c.args.self.now.gathered c.gather.new.self) c.gather.ensures)
+    rw (c.in-Set-Inner.is, c.in-Set-Inner.field-0-is) (on_ok_weaker c.gather.result (gathers_inner c.args.operation c.in-Set-Inner.set c.args.self.now.gathered c.gather.new.self) c.gather.ensures.becomes)
 
 pub returns-in-Set-Named-clause-becomes : goal.returns-in-Set-Named-clause-becomes
 returns-in-Set-Named-clause-becomes c =

@@ -5,7 +5,7 @@ use Rattle.std.proofs.Math.Bool.{and-false}
 use Rattle.cp_invlist.specs.InversionList.{contains}
 use Rattle.uset_gather.proofs.GatheredLemmas.{each_member}
 use Rattle.uset_gather.proofs.PaintingLemmas.{lacked_outside}
-use Rattle.uset_gather.proofs.gathered.Gathered.retain.Goals as goal
+use Rattle.uset_gather.proofs.gathered.Gathered.try_retain.Goals as goal
 
 pub returns-in-Complement : goal.returns-in-Complement
 returns-in-Complement c =

@@ -4,7 +4,7 @@ use Rattle.std.specs.BTreeSet.{contains_text}
 use Rattle.cp_invlist.specs.InversionList.{contains}
 use Rattle.uset_gather.proofs.GatheredLemmas.{each_member}
 use Rattle.uset_gather.proofs.PaintingLemmas.{not_outside}
-use Rattle.uset_gather.proofs.gathered.Gathered.remove.Goals as goal
+use Rattle.uset_gather.proofs.gathered.Gathered.try_remove.Goals as goal
 use Rattle.std.proofs.Math.Bool.{and-true}
 
 pub returns-in-Complement : goal.returns-in-Complement

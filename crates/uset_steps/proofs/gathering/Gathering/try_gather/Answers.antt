@@ -7,7 +7,7 @@ use Rattle.uset_steps.specs.Names.{Sets}
 use Rattle.uset_steps.specs.Operations.{operated}
 use Rattle.uset_steps.specs.Terms.{closed_in}
 use Rattle.uset_steps.proofs.GatheringLemmas.{on_both, put_off, becomes_then, at_once}
-use Rattle.uset_steps.proofs.gathering.Gathering.gather.Goals as goal
+use Rattle.uset_steps.proofs.gathering.Gathering.try_gather.Goals as goal
 
 pub returns-in-Some-default : goal.returns-in-Some-default
 returns-in-Some-default c =

@@ -4,8 +4,8 @@ use Rattle.std.proofs.lemmas.Result.{on_ok_weaker}
 use Rattle.uset_gather.specs.Gathered.{gathered_in}
 use Rattle.uset_steps.specs.Operations.{operated}
 use Rattle.uset_steps.proofs.GatheringLemmas.{becomes_then, at_once, Holds, held, held_none, put_off_named, then_with}
-use Rattle.uset_steps.proofs.gathering.Gathering.gather_named.Goals.{in-Some, in-None+in_ok-later-in-None}
-use Rattle.uset_steps.proofs.gathering.Gathering.gather_named.Goals as goal
+use Rattle.uset_steps.proofs.gathering.Gathering.try_gather_named.Goals.{in-Some, in-None+in_ok-later-in-None}
+use Rattle.uset_steps.proofs.gathering.Gathering.try_gather_named.Goals as goal
 
 pub returns-clause-becomes : goal.returns-clause-becomes
 returns-clause-becomes c = λ sets fits is.
