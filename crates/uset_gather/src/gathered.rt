@@ -24,7 +24,8 @@ impl Drop for Gathered {
 }
 
 impl Gathered {
-    ghost use Rattle.std.specs.Prelude.{◌≡◌, ◌≤◌, ◌||◌, ◌&&◌, not, None, IfOk, OnOk, OnErr};
+    ghost use Rattle.std.specs.Prelude.{◌≡◌, ◌≤◌, ◌||◌, ◌&&◌, not, ℕ, List, None, IfOk, OnOk, OnErr};
+    ghost use Rattle.std.specs.BTreeSet.{contains_text};
     ghost use Rattle.std.specs.Str.{chars};
     ghost use Rattle.std.specs.String.{string_bytes};
     ghost use Rattle.cp_strset.specs.StringList.{sole_of};
@@ -93,11 +94,7 @@ impl Gathered {
             Operand::Gathered(other) => {
                 let (code_points, strings) = other.into_parts();
                 self.code_points.join(code_points)?;
-                if !strings.is_empty() {
-                    let own = replace(&mut self.strings, Strings::new(alloc));
-                    self.strings = own.append(strings)?;
-                }
-                Ok(())
+                self.join_strings(alloc, strings)
             }
             Operand::Set(set) => {
                 self.code_points.add_set(set.code_points())?;
@@ -110,6 +107,24 @@ impl Gathered {
             Operand::CodePoints(source) => self.code_points.add_set(source.list()),
             Operand::Complement(source) => self.code_points.add_outside(source.list()),
         }
+    }
+
+    /// Adds the strings. Mostly one side has none.
+    fn join_strings(&mut self, alloc: Global, strings: Strings) -> Result<(), NoMemory>
+        ensures code_points { self.new.code_points ≡ self.old.code_points }
+        ensures strings { OnOk result ((bytes : List ℕ) → contains_text self.new.strings bytes ≡
+            (contains_text self.old.strings bytes || contains_text strings bytes)) }
+    {
+        if strings.is_empty() {
+            return Ok(());
+        }
+        if self.strings.is_empty() {
+            self.strings = strings;
+            return Ok(());
+        }
+        let own = replace(&mut self.strings, Strings::new(alloc));
+        self.strings = own.append(strings)?;
+        Ok(())
     }
 
     /// Takes the members of the operand away. Where memory is refused the set is empty.
