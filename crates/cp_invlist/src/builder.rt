@@ -15,6 +15,9 @@ use std::alloc::Global;
 use std::marker::Model;
 use std::sync::ledger::Ledger;
 
+/// Room for so many elements is left to a set, however few it has.
+const LITTLE_ROOM: usize = 64;
+
 /// Builds a set step by step: members are added, sets are joined, taken away and kept. Where memory is refused (`NoMemory`) a
 /// step changes nothing. A contract sees the builder as the inversion list of the set so far.
 #[derive(Drop)]
@@ -219,8 +222,18 @@ impl CodePointInversionListBuilder {
         ensures list { result ≡ self }
         ensures canonical { IsInversionList result }
     {
-        CodePointInversionList::from_elements(self.elements)
+        CodePointInversionList::from_elements(without_spare_room(self.elements))
     }
+}
+
+/// The elements, without room for many more: a merge takes room for all of both lists, and may keep few.
+fn without_spare_room(mut elements: Vec<u32>) -> Vec<u32>
+    ensures { result.items ≡ elements.items }
+{
+    if elements.capacity() > LITTLE_ROOM && elements.capacity() / 2 > elements.len() {
+        elements.shrink_to_fit();
+    }
+    elements
 }
 
 /// The number past the last code point of the range, which has one.

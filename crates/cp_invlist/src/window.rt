@@ -8,9 +8,10 @@ use crate::words::{filled, turned};
 /// What is known of a set from a place on.
 #[derive(Clone, Copy)]
 pub struct Window {
-    /// How many elements of its list are at most the place.
+    /// How many elements of its list are at most the place, where that is before `next`.
     pub taken: usize,
-    /// The next element: up to it either all code points are members or none is.
+    /// Up to this code point, which may be the next element or one before it, all code points from the place on are members or
+    /// none is.
     pub next: u32,
 }
 

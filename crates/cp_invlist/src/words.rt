@@ -20,7 +20,7 @@ pub fn turned(word: u64, offset: u32) -> u64
     word ^ (u64::MAX << offset)
 }
 
-/// The word of a set that has all or none.
+/// The word with all bits where `inside` is true, and with none elsewhere.
 pub fn filled(inside: bool) -> u64
     ensures { (j : ℕ) → j < 64 → has_bit result j ≡ inside }
 {
