@@ -15,7 +15,6 @@ use std::marker::Model;
 /// list of both in the order of the names.
 #[derive(Drop)]
 pub struct NamesBuilder {
-    alloc: Global,
     names: BTreeMap<String, u16>,
     /// The values by the foldings of the names.
     foldings: BTreeMap<String, u16>,
@@ -38,7 +37,6 @@ impl NamesBuilder {
         ensures { result ≡ [] }
     {
         NamesBuilder {
-            alloc,
             names: BTreeMap::new(alloc),
             foldings: BTreeMap::new(alloc),
         }

@@ -21,7 +21,7 @@ pub fn stored_folding(alloc: Global, name: &[u8]) -> Result<String, NoMemory>
     requires ascii { All (λ c. c < 128) name.now }
     ensures { IfOk result (λ text. string_bytes text ≡ stored_folding name.now) }
 {
-    let mut folded = String::new(alloc);
+    let mut folded = String::with_capacity(alloc, name.len())?;
     for byte in name {
         if *byte != b'_' {
             folded.push(char::from(byte.to_ascii_lowercase()))?;
@@ -35,7 +35,7 @@ pub fn ascii_text(alloc: Global, name: &[u8]) -> Result<String, NoMemory>
     requires ascii { All (λ c. c < 128) name.now }
     ensures { IfOk result (λ text. string_bytes text ≡ name.now) }
 {
-    let mut text = String::new(alloc);
+    let mut text = String::with_capacity(alloc, name.len())?;
     for byte in name {
         text.push(char::from(*byte))?;
     }

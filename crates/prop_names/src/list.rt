@@ -86,7 +86,7 @@ fn rows_of(alloc: Global, map: BTreeMap<String, u16>) -> Result<Vec<(String, u16
 fn copy_of(alloc: Global, rows: &[(String, u16)]) -> Result<Vec<(String, u16)>, NoMemory>
     ensures { IfOk result (λ copy. texts copy.items ≡ texts rows.now) }
 {
-    let mut copy = Vec::new(alloc);
+    let mut copy = Vec::with_capacity(alloc, rows.len())?;
     for (name, value) in rows {
         copy.push((name.clone()?, *value))?;
     }

@@ -20,7 +20,7 @@ pub trait PropertyEnumToValueNameLookup {
         ensures value { option_copied result ≡ name_of self.now prop }
         ensures filled { IfSome result (λ name. 0 < length name.now) };
 
-    /// The same names.
+    /// The same names. `NoMemory` says that a request for memory was refused.
     fn copy(&self, alloc: Global) -> Result<Self, NoMemory>
     where
         Self: Sized,
@@ -43,7 +43,7 @@ impl Drop for LinearNames {
     }
 }
 
-/// The names of values whose numbers begin at 0.
+/// The names of values, most of which have one: as a list by their numbers, or in the order of these.
 #[derive(Drop)]
 pub struct PropertyEnumToValueNameLinearMap {
     names: LinearNames,

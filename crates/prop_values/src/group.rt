@@ -70,9 +70,9 @@ const PACKINGS: [(u16, u32); 38] = [
     (0xFFFD, 0x1C0),
     (0xFFFC, 0xE00),
     (0xFFFB, 0x7000),
-    (0xFFFA, 0x78001),
-    (0xFFF9, 0x30F80000),
-    (0xFFF8, 0xF000000),
+    (0xFFFA, 0x7_8001),
+    (0xFFF9, 0x30F8_0000),
+    (0xFFF8, 0x0F00_0000),
 ];
 
 /// The short names with their groups.
@@ -122,229 +122,229 @@ impl GeneralCategoryGroup {
     pub const Unassigned: GeneralCategoryGroup = GeneralCategoryGroup(1 << 0);
 
     /// `Unassigned` (`Cn`).
-    pub const Cn: GeneralCategoryGroup = GeneralCategoryGroup(1 << 0);
+    pub const Cn: GeneralCategoryGroup = GeneralCategoryGroup::Unassigned;
 
     /// `Uppercase_Letter` (`Lu`).
     pub const UppercaseLetter: GeneralCategoryGroup = GeneralCategoryGroup(1 << 1);
 
     /// `Uppercase_Letter` (`Lu`).
-    pub const Lu: GeneralCategoryGroup = GeneralCategoryGroup(1 << 1);
+    pub const Lu: GeneralCategoryGroup = GeneralCategoryGroup::UppercaseLetter;
 
     /// `Lowercase_Letter` (`Ll`).
     pub const LowercaseLetter: GeneralCategoryGroup = GeneralCategoryGroup(1 << 2);
 
     /// `Lowercase_Letter` (`Ll`).
-    pub const Ll: GeneralCategoryGroup = GeneralCategoryGroup(1 << 2);
+    pub const Ll: GeneralCategoryGroup = GeneralCategoryGroup::LowercaseLetter;
 
     /// `Titlecase_Letter` (`Lt`).
     pub const TitlecaseLetter: GeneralCategoryGroup = GeneralCategoryGroup(1 << 3);
 
     /// `Titlecase_Letter` (`Lt`).
-    pub const Lt: GeneralCategoryGroup = GeneralCategoryGroup(1 << 3);
+    pub const Lt: GeneralCategoryGroup = GeneralCategoryGroup::TitlecaseLetter;
 
     /// `Modifier_Letter` (`Lm`).
     pub const ModifierLetter: GeneralCategoryGroup = GeneralCategoryGroup(1 << 4);
 
     /// `Modifier_Letter` (`Lm`).
-    pub const Lm: GeneralCategoryGroup = GeneralCategoryGroup(1 << 4);
+    pub const Lm: GeneralCategoryGroup = GeneralCategoryGroup::ModifierLetter;
 
     /// `Other_Letter` (`Lo`).
     pub const OtherLetter: GeneralCategoryGroup = GeneralCategoryGroup(1 << 5);
 
     /// `Other_Letter` (`Lo`).
-    pub const Lo: GeneralCategoryGroup = GeneralCategoryGroup(1 << 5);
+    pub const Lo: GeneralCategoryGroup = GeneralCategoryGroup::OtherLetter;
 
     /// `Nonspacing_Mark` (`Mn`).
     pub const NonspacingMark: GeneralCategoryGroup = GeneralCategoryGroup(1 << 6);
 
     /// `Nonspacing_Mark` (`Mn`).
-    pub const Mn: GeneralCategoryGroup = GeneralCategoryGroup(1 << 6);
+    pub const Mn: GeneralCategoryGroup = GeneralCategoryGroup::NonspacingMark;
 
     /// `Enclosing_Mark` (`Me`).
     pub const EnclosingMark: GeneralCategoryGroup = GeneralCategoryGroup(1 << 7);
 
     /// `Enclosing_Mark` (`Me`).
-    pub const Me: GeneralCategoryGroup = GeneralCategoryGroup(1 << 7);
+    pub const Me: GeneralCategoryGroup = GeneralCategoryGroup::EnclosingMark;
 
     /// `Spacing_Mark` (`Mc`).
     pub const SpacingMark: GeneralCategoryGroup = GeneralCategoryGroup(1 << 8);
 
     /// `Spacing_Mark` (`Mc`).
-    pub const Mc: GeneralCategoryGroup = GeneralCategoryGroup(1 << 8);
+    pub const Mc: GeneralCategoryGroup = GeneralCategoryGroup::SpacingMark;
 
     /// `Decimal_Number` (`Nd`).
     pub const DecimalNumber: GeneralCategoryGroup = GeneralCategoryGroup(1 << 9);
 
     /// `Decimal_Number` (`Nd`).
-    pub const Nd: GeneralCategoryGroup = GeneralCategoryGroup(1 << 9);
+    pub const Nd: GeneralCategoryGroup = GeneralCategoryGroup::DecimalNumber;
 
     /// `Letter_Number` (`Nl`).
     pub const LetterNumber: GeneralCategoryGroup = GeneralCategoryGroup(1 << 10);
 
     /// `Letter_Number` (`Nl`).
-    pub const Nl: GeneralCategoryGroup = GeneralCategoryGroup(1 << 10);
+    pub const Nl: GeneralCategoryGroup = GeneralCategoryGroup::LetterNumber;
 
     /// `Other_Number` (`No`).
     pub const OtherNumber: GeneralCategoryGroup = GeneralCategoryGroup(1 << 11);
 
     /// `Other_Number` (`No`).
-    pub const No: GeneralCategoryGroup = GeneralCategoryGroup(1 << 11);
+    pub const No: GeneralCategoryGroup = GeneralCategoryGroup::OtherNumber;
 
     /// `Space_Separator` (`Zs`).
     pub const SpaceSeparator: GeneralCategoryGroup = GeneralCategoryGroup(1 << 12);
 
     /// `Space_Separator` (`Zs`).
-    pub const Zs: GeneralCategoryGroup = GeneralCategoryGroup(1 << 12);
+    pub const Zs: GeneralCategoryGroup = GeneralCategoryGroup::SpaceSeparator;
 
     /// `Line_Separator` (`Zl`).
     pub const LineSeparator: GeneralCategoryGroup = GeneralCategoryGroup(1 << 13);
 
     /// `Line_Separator` (`Zl`).
-    pub const Zl: GeneralCategoryGroup = GeneralCategoryGroup(1 << 13);
+    pub const Zl: GeneralCategoryGroup = GeneralCategoryGroup::LineSeparator;
 
     /// `Paragraph_Separator` (`Zp`).
     pub const ParagraphSeparator: GeneralCategoryGroup = GeneralCategoryGroup(1 << 14);
 
     /// `Paragraph_Separator` (`Zp`).
-    pub const Zp: GeneralCategoryGroup = GeneralCategoryGroup(1 << 14);
+    pub const Zp: GeneralCategoryGroup = GeneralCategoryGroup::ParagraphSeparator;
 
     /// `Control` (`Cc`).
     pub const Control: GeneralCategoryGroup = GeneralCategoryGroup(1 << 15);
 
     /// `Control` (`Cc`).
-    pub const Cc: GeneralCategoryGroup = GeneralCategoryGroup(1 << 15);
+    pub const Cc: GeneralCategoryGroup = GeneralCategoryGroup::Control;
 
     /// `Format` (`Cf`).
     pub const Format: GeneralCategoryGroup = GeneralCategoryGroup(1 << 16);
 
     /// `Format` (`Cf`).
-    pub const Cf: GeneralCategoryGroup = GeneralCategoryGroup(1 << 16);
+    pub const Cf: GeneralCategoryGroup = GeneralCategoryGroup::Format;
 
     /// `Private_Use` (`Co`).
     pub const PrivateUse: GeneralCategoryGroup = GeneralCategoryGroup(1 << 17);
 
     /// `Private_Use` (`Co`).
-    pub const Co: GeneralCategoryGroup = GeneralCategoryGroup(1 << 17);
+    pub const Co: GeneralCategoryGroup = GeneralCategoryGroup::PrivateUse;
 
     /// `Surrogate` (`Cs`).
     pub const Surrogate: GeneralCategoryGroup = GeneralCategoryGroup(1 << 18);
 
     /// `Surrogate` (`Cs`).
-    pub const Cs: GeneralCategoryGroup = GeneralCategoryGroup(1 << 18);
+    pub const Cs: GeneralCategoryGroup = GeneralCategoryGroup::Surrogate;
 
     /// `Dash_Punctuation` (`Pd`).
     pub const DashPunctuation: GeneralCategoryGroup = GeneralCategoryGroup(1 << 19);
 
     /// `Dash_Punctuation` (`Pd`).
-    pub const Pd: GeneralCategoryGroup = GeneralCategoryGroup(1 << 19);
+    pub const Pd: GeneralCategoryGroup = GeneralCategoryGroup::DashPunctuation;
 
     /// `Open_Punctuation` (`Ps`).
     pub const OpenPunctuation: GeneralCategoryGroup = GeneralCategoryGroup(1 << 20);
 
     /// `Open_Punctuation` (`Ps`).
-    pub const Ps: GeneralCategoryGroup = GeneralCategoryGroup(1 << 20);
+    pub const Ps: GeneralCategoryGroup = GeneralCategoryGroup::OpenPunctuation;
 
     /// `Close_Punctuation` (`Pe`).
     pub const ClosePunctuation: GeneralCategoryGroup = GeneralCategoryGroup(1 << 21);
 
     /// `Close_Punctuation` (`Pe`).
-    pub const Pe: GeneralCategoryGroup = GeneralCategoryGroup(1 << 21);
+    pub const Pe: GeneralCategoryGroup = GeneralCategoryGroup::ClosePunctuation;
 
     /// `Connector_Punctuation` (`Pc`).
     pub const ConnectorPunctuation: GeneralCategoryGroup = GeneralCategoryGroup(1 << 22);
 
     /// `Connector_Punctuation` (`Pc`).
-    pub const Pc: GeneralCategoryGroup = GeneralCategoryGroup(1 << 22);
+    pub const Pc: GeneralCategoryGroup = GeneralCategoryGroup::ConnectorPunctuation;
 
     /// `Other_Punctuation` (`Po`).
     pub const OtherPunctuation: GeneralCategoryGroup = GeneralCategoryGroup(1 << 23);
 
     /// `Other_Punctuation` (`Po`).
-    pub const Po: GeneralCategoryGroup = GeneralCategoryGroup(1 << 23);
+    pub const Po: GeneralCategoryGroup = GeneralCategoryGroup::OtherPunctuation;
 
     /// `Math_Symbol` (`Sm`).
     pub const MathSymbol: GeneralCategoryGroup = GeneralCategoryGroup(1 << 24);
 
     /// `Math_Symbol` (`Sm`).
-    pub const Sm: GeneralCategoryGroup = GeneralCategoryGroup(1 << 24);
+    pub const Sm: GeneralCategoryGroup = GeneralCategoryGroup::MathSymbol;
 
     /// `Currency_Symbol` (`Sc`).
     pub const CurrencySymbol: GeneralCategoryGroup = GeneralCategoryGroup(1 << 25);
 
     /// `Currency_Symbol` (`Sc`).
-    pub const Sc: GeneralCategoryGroup = GeneralCategoryGroup(1 << 25);
+    pub const Sc: GeneralCategoryGroup = GeneralCategoryGroup::CurrencySymbol;
 
     /// `Modifier_Symbol` (`Sk`).
     pub const ModifierSymbol: GeneralCategoryGroup = GeneralCategoryGroup(1 << 26);
 
     /// `Modifier_Symbol` (`Sk`).
-    pub const Sk: GeneralCategoryGroup = GeneralCategoryGroup(1 << 26);
+    pub const Sk: GeneralCategoryGroup = GeneralCategoryGroup::ModifierSymbol;
 
     /// `Other_Symbol` (`So`).
     pub const OtherSymbol: GeneralCategoryGroup = GeneralCategoryGroup(1 << 27);
 
     /// `Other_Symbol` (`So`).
-    pub const So: GeneralCategoryGroup = GeneralCategoryGroup(1 << 27);
+    pub const So: GeneralCategoryGroup = GeneralCategoryGroup::OtherSymbol;
 
     /// `Initial_Punctuation` (`Pi`).
     pub const InitialPunctuation: GeneralCategoryGroup = GeneralCategoryGroup(1 << 28);
 
     /// `Initial_Punctuation` (`Pi`).
-    pub const Pi: GeneralCategoryGroup = GeneralCategoryGroup(1 << 28);
+    pub const Pi: GeneralCategoryGroup = GeneralCategoryGroup::InitialPunctuation;
 
     /// `Final_Punctuation` (`Pf`).
     pub const FinalPunctuation: GeneralCategoryGroup = GeneralCategoryGroup(1 << 29);
 
     /// `Final_Punctuation` (`Pf`).
-    pub const Pf: GeneralCategoryGroup = GeneralCategoryGroup(1 << 29);
+    pub const Pf: GeneralCategoryGroup = GeneralCategoryGroup::FinalPunctuation;
 
     /// `Lu`, `Ll` and `Lt`.
     pub const CasedLetter: GeneralCategoryGroup = GeneralCategoryGroup(0xE);
 
     /// `Lu`, `Ll` and `Lt`.
-    pub const LC: GeneralCategoryGroup = GeneralCategoryGroup(0xE);
+    pub const LC: GeneralCategoryGroup = GeneralCategoryGroup::CasedLetter;
 
     /// `Lu`, `Ll`, `Lt`, `Lm` and `Lo`.
     pub const Letter: GeneralCategoryGroup = GeneralCategoryGroup(0x3E);
 
     /// `Lu`, `Ll`, `Lt`, `Lm` and `Lo`.
-    pub const L: GeneralCategoryGroup = GeneralCategoryGroup(0x3E);
+    pub const L: GeneralCategoryGroup = GeneralCategoryGroup::Letter;
 
     /// `Mn`, `Me` and `Mc`.
     pub const Mark: GeneralCategoryGroup = GeneralCategoryGroup(0x1C0);
 
     /// `Mn`, `Me` and `Mc`.
-    pub const M: GeneralCategoryGroup = GeneralCategoryGroup(0x1C0);
+    pub const M: GeneralCategoryGroup = GeneralCategoryGroup::Mark;
 
     /// `Nd`, `Nl` and `No`.
     pub const Number: GeneralCategoryGroup = GeneralCategoryGroup(0xE00);
 
     /// `Nd`, `Nl` and `No`.
-    pub const N: GeneralCategoryGroup = GeneralCategoryGroup(0xE00);
+    pub const N: GeneralCategoryGroup = GeneralCategoryGroup::Number;
 
     /// `Zs`, `Zl` and `Zp`.
     pub const Separator: GeneralCategoryGroup = GeneralCategoryGroup(0x7000);
 
     /// `Zs`, `Zl` and `Zp`.
-    pub const Z: GeneralCategoryGroup = GeneralCategoryGroup(0x7000);
+    pub const Z: GeneralCategoryGroup = GeneralCategoryGroup::Separator;
 
     /// `Cn`, `Cc`, `Cf`, `Co` and `Cs`.
-    pub const Other: GeneralCategoryGroup = GeneralCategoryGroup(0x78001);
+    pub const Other: GeneralCategoryGroup = GeneralCategoryGroup(0x7_8001);
 
     /// `Cn`, `Cc`, `Cf`, `Co` and `Cs`.
-    pub const C: GeneralCategoryGroup = GeneralCategoryGroup(0x78001);
+    pub const C: GeneralCategoryGroup = GeneralCategoryGroup::Other;
 
     /// `Pd`, `Ps`, `Pe`, `Pc`, `Po`, `Pi` and `Pf`.
-    pub const Punctuation: GeneralCategoryGroup = GeneralCategoryGroup(0x30F80000);
+    pub const Punctuation: GeneralCategoryGroup = GeneralCategoryGroup(0x30F8_0000);
 
     /// `Pd`, `Ps`, `Pe`, `Pc`, `Po`, `Pi` and `Pf`.
-    pub const P: GeneralCategoryGroup = GeneralCategoryGroup(0x30F80000);
+    pub const P: GeneralCategoryGroup = GeneralCategoryGroup::Punctuation;
 
     /// `Sm`, `Sc`, `Sk` and `So`.
-    pub const Symbol: GeneralCategoryGroup = GeneralCategoryGroup(0xF000000);
+    pub const Symbol: GeneralCategoryGroup = GeneralCategoryGroup(0x0F00_0000);
 
     /// `Sm`, `Sc`, `Sk` and `So`.
-    pub const S: GeneralCategoryGroup = GeneralCategoryGroup(0xF000000);
+    pub const S: GeneralCategoryGroup = GeneralCategoryGroup::Symbol;
 
     /// The short names with their groups, the groups of several categories behind their members.
     pub fn names() -> [(&'static str, GeneralCategoryGroup); 38]

@@ -43,10 +43,10 @@ impl HangulSyllableType {
     pub const LVTSyllable: HangulSyllableType = HangulSyllableType(5);
 
     /// `LV_Syllable` (`LV`).
-    pub const LeadingVowelSyllable: HangulSyllableType = HangulSyllableType(4);
+    pub const LeadingVowelSyllable: HangulSyllableType = HangulSyllableType::LVSyllable;
 
     /// `LVT_Syllable` (`LVT`).
-    pub const LeadingVowelTrailingSyllable: HangulSyllableType = HangulSyllableType(5);
+    pub const LeadingVowelTrailingSyllable: HangulSyllableType = HangulSyllableType::LVTSyllable;
 
     /// The number of the value.
     pub fn to_icu4c_value(self) -> u8

@@ -44,7 +44,7 @@ impl Script {
     pub const Ethiopic: Script = Script(11);
 
     /// `Ethiopic` (`Ethi`).
-    pub const Ethiopian: Script = Script(11);
+    pub const Ethiopian: Script = Script::Ethiopic;
 
     /// `Han` (`Hani`).
     pub const Han: Script = Script(17);
