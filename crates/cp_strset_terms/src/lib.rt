@@ -31,16 +31,16 @@ use std::alloc::Global;
 pub use string_numbers::StringNumbers;
 
 /// The set that the steps make of the leaves, which they name by their indices. A leaf that isn't there is the empty set, and
-/// a complement has code points alone. Where leaves have numbers, they are those by which all the strings are known: with
-/// these a set of few strings is found without going along the strings of leaves that have many. `NoMemory` says that a request
-/// for memory was refused.
+/// a complement has code points alone. `numbers` has the number of each string of a leaf that has numbers: by these a set of few
+/// strings is found without going along the strings of leaves that have many. `NoMemory` says that a request for memory was
+/// refused.
 pub fn evaluate(
     alloc: Global,
-    all: &StringNumbers,
+    numbers: &StringNumbers,
     leaves: &[Leaf<'_>],
     steps: &[Step],
 ) -> Result<CodePointInversionListAndStringList, NoMemory>
-    requires { All (FitsNumbers all.now) leaves.now }
+    requires { All (FitsNumbers numbers.now) leaves.now }
     ensures code_points { IfOk result (λ set. (c : ℕ) → contains set.code_points c ≡
         (is_code_point c && value_of (leaf_contains leaves.now c) steps.now)) }
     ensures strings { IfOk result (λ set. (bytes : List ℕ) → holds set.strings bytes ≡
@@ -48,7 +48,7 @@ pub fn evaluate(
 {
     let lists = code_point_lists(alloc, leaves)?;
     let code_points = cp_terms::evaluate(alloc, &lists, steps)?;
-    let strings = strings_of_term(alloc, all, leaves, steps)?;
+    let strings = strings_of_term(alloc, numbers, leaves, steps)?;
     faultless();
     match CodePointInversionListAndStringList::try_from(code_points, strings) {
         Ok(set) => Ok(set),

@@ -24,20 +24,27 @@ use std::alloc::Global;
 /// A term has few strings where its candidates have so many times as many, or where it has no more than so many.
 const FEW: usize = 16;
 
-/// How many strings the leaves have together.
-fn count_strings(leaves: &[Leaf<'_>]) -> usize {
-    let mut count: usize = 0;
-    for leaf in leaves {
-        count = count.saturating_add(strings(leaf).len());
-    }
-    count
-}
-
 /// Whether the leaf has numbers.
 fn is_numbered(leaf: &Leaf<'_>) -> bool
     ensures { result ≡ is_numbered leaf.now }
 {
     matches!(leaf, Leaf::Numbered(_, _))
+}
+
+/// How many strings the leaves have together.
+fn count_strings(leaves: &[Leaf<'_>]) -> usize {
+    leaves.iter().fold(
+        0,
+        |count: usize, leaf| count.saturating_add(strings(leaf).len()),
+    )
+}
+
+/// How many strings the leaves without numbers have together.
+fn count_looked_up(leaves: &[Leaf<'_>]) -> usize {
+    leaves.iter().filter(|leaf| !is_numbered(leaf)).fold(
+        0,
+        |count: usize, leaf| count.saturating_add(strings(leaf).len()),
+    )
 }
 
 /// The leaves without numbers.
@@ -56,16 +63,8 @@ fn unnumbered<'a>(alloc: Global, leaves: &[Leaf<'a>]) -> Result<Vec<Leaf<'a>>, N
 }
 
 /// Whether numbers are worth a look: some candidate has them, and no more strings are to be looked up than gone along else.
-fn are_worth(
-    alloc: Global,
-    leaves: &[Leaf<'_>],
-    candidates: &[Leaf<'_>],
-) -> Result<bool, NoMemory> {
-    if !candidates.iter().any(is_numbered) {
-        return Ok(false);
-    }
-    let looked_up = unnumbered(alloc, leaves)?;
-    Ok(count_strings(&looked_up) <= count_strings(candidates))
+fn are_worth(leaves: &[Leaf<'_>], candidates: &[Leaf<'_>]) -> bool {
+    candidates.iter().any(is_numbered) && count_looked_up(leaves) <= count_strings(candidates)
 }
 
 /// The strings at the places of the range, as far as there are any.
@@ -154,8 +153,7 @@ pub(crate) fn table_of_term<'a>(
         value_of (leaf_holds leaves.now text) steps.now ≡ true →
         holds (flat_map strings_of candidates.now) text ≡ true → holds (texts table.items) text ≡ true) }
 {
-    let worth = are_worth(alloc, leaves, candidates)?;
-    if !worth {
+    if !are_worth(leaves, candidates) {
         return string_table(alloc, candidates);
     }
     let numbers = numbers_of_term(alloc, all, leaves, steps)?;

@@ -25,8 +25,8 @@ returns c =
       ];
     }
 
-pub returns-then-not-worth-clause-canonical : goal.returns-then-not-worth-clause-canonical
-returns-then-not-worth-clause-canonical c = c.string_table.ensures.canonical
+pub returns-then-not-are_worth-clause-canonical : goal.returns-then-not-are_worth-clause-canonical
+returns-then-not-are_worth-clause-canonical c = c.string_table.ensures.canonical
 
 pub returns-then-not-are_few-clause-complete :
     goal.returns-then-not-are_few-clause-complete
@@ -42,6 +42,6 @@ in_order-requires c =
     c.in_ok-push_numbered.ensures.none_of_one (subst (All (λ s. length (chars s) ≢ 1)) (sym c.in_ok-table.ensures.strings) c.in_ok-table.ensures.none_of_one)
     (subst (All (λ s. length (chars s) ≢ 1)) (sym c.texts.ensures.bytes) c.texts.ensures.none_of_one)
 
-pub returns-then-not-worth-clause-complete : goal.returns-then-not-worth-clause-complete
-returns-then-not-worth-clause-complete c =
+pub returns-then-not-are_worth-clause-complete : goal.returns-then-not-are_worth-clause-complete
+returns-then-not-are_worth-clause-complete c =
     IfOk-weaker c.string_table.result _ _ (λ table same text valued held. same text ∙ held) c.string_table.ensures.complete
