@@ -50,7 +50,7 @@ fn converted_runs<T: TrieValue, P: TrieValue>(
     ensures whole { IfOk result (λ _. PassesEach (conversion T.packed P.unpacked) runs.now) }
     ensures refusal { IfErr result (NamesRefusedRun (conversion T.packed P.unpacked) runs.now) }
 {
-    let mut made = Vec::new(alloc);
+    let mut made = Vec::with_capacity(alloc, runs.len())?;
     for (index, run) in runs.iter().enumerate() {
         let Some(value) = converted(run.value) else {
             return Err(ConvertError::Value { index });

@@ -3,6 +3,7 @@ ghost use Rattle.std.specs.Prelude.{◌≡◌};
 ghost use Rattle.cp_trie.specs.declared.error.TrieError.TheVariants.{NoMemory as TrieNoMemory};
 ghost use Rattle.cp_trie.specs.declared.error.ConvertError.TheVariants.{NoMemory as ConvertNoMemory};
 
+use cp_invlist::NoMemory;
 use std::alloc::{AllocError, AllocFailed};
 use thiserror::Error;
 
@@ -58,10 +59,26 @@ impl From<AllocError> for TrieError {
     }
 }
 
+impl From<NoMemory> for TrieError {
+    ghost from_gives = { λ _ e. e ≡ TrieNoMemory };
+
+    fn from(_error: NoMemory) -> TrieError {
+        TrieError::NoMemory
+    }
+}
+
 impl From<AllocError> for ConvertError {
     ghost from_gives = { λ _ e. e ≡ ConvertNoMemory };
 
     fn from(_error: AllocError) -> ConvertError {
+        ConvertError::NoMemory
+    }
+}
+
+impl From<NoMemory> for ConvertError {
+    ghost from_gives = { λ _ e. e ≡ ConvertNoMemory };
+
+    fn from(_error: NoMemory) -> ConvertError {
         ConvertError::NoMemory
     }
 }

@@ -18,7 +18,7 @@ use crate::value_test::{IsValue, ValueTest};
 use cp_invlist::{
     CodePointInversionList, CodePointInversionListBuilder, LAST_CODE_POINT, NoMemory, Steps,
 };
-use std::alloc::{AllocError, Global};
+use std::alloc::Global;
 use std::marker::{Brand, Model};
 use std::sync::ledger::{Blank, Ledger};
 
@@ -72,12 +72,13 @@ impl<T: TrieValue> CodePointTrie<T> {
         Ok(CodePointTrie::from_joined(alloc, runs, error_value)?)
     }
 
-    /// The map of runs that cover 0 to 10FFFF in order.
-    pub(crate) fn from_cover(
+    /// The map of runs that cover 0 to 10FFFF in order, as `try_from_runs` makes it of them. `NoMemory` says that a request for
+    /// memory was refused.
+    pub fn from_cover(
         alloc: Global,
         runs: Vec<CodePointMapRange<T>>,
         error_value: T,
-    ) -> Result<CodePointTrie<T>, AllocError>
+    ) -> Result<CodePointTrie<T>, NoMemory>
         requires { first_fault runs.items ≡ None }
         ensures values { IfOk result (λ map. (c : ℕ) → value_at map c ≡ value_in runs.items error_value c) }
         ensures past_end { IfOk result (λ map. map.error_value ≡ error_value) }
@@ -91,7 +92,7 @@ impl<T: TrieValue> CodePointTrie<T> {
         alloc: Global,
         runs: Runs<T>,
         error_value: T,
-    ) -> Result<CodePointTrie<T>, AllocError>
+    ) -> Result<CodePointTrie<T>, NoMemory>
         requires { AreMaximalRuns T.eq (value_in runs error_value) runs }
         ensures { IfOk result (λ map. map ≡ record { runs = runs; error_value = error_value }) }
     {

@@ -1,10 +1,9 @@
 -- Runs that cover the code points below a number, and the values that they spell.
-use Rattle.std.proofs.Common.{◌≡◌, ℕ, ◌+◌, ◌<◌, ◌≤◌, Bool, true, false, ◌&&◌, cond, ◌==◌, nat_lt, Option, Some, None, Result, Err, List, [], ◌∷◌, ◌++◌, refl, sym, ap, ap₂, ◌∙◌, arith}
+use Rattle.std.proofs.Common.{◌≡◌, ℕ, ◌+◌, ◌<◌, ◌≤◌, Bool, true, false, ◌&&◌, cond, ◌==◌, nat_lt, Option, Some, None, List, [], ◌∷◌, ◌++◌, refl, sym, ap, ap₂, ◌∙◌, arith}
 use Rattle.std.proofs.lemmas.Bool.Decides.{nat_tests}
 use Rattle.cp_invlist.specs.Ranges.{in_range}
-use Rattle.cp_trie.specs.Faults.{fault_from, is_in_order, AnswersFault}
-use Rattle.cp_trie.specs.declared.error.TrieError.{TrieError}
-use Rattle.cp_trie.specs.declared.error.TrieError.TheVariants.{Gap, Order, NoMemory}
+use Rattle.cp_trie.specs.Faults.{fault_from, is_in_order}
+use Rattle.cp_trie.specs.declared.error.TrieError.TheVariants.{Gap, Order}
 use Rattle.cp_trie.specs.Runs.{value_in}
 use Rattle.cp_trie.specs.declared.ranges.CodePointMapRange.{CodePointMapRange}
 use Rattle.prop_data.specs.MapBuilder.{end_of_runs}
@@ -46,10 +45,6 @@ no_fault index n (r ∷ rs) h =
     let ordered : is_in_order r ≡ true = grind (arith, nat_tests, f.ordered, f.within) in
     ap₂ (λ a b. cond a (cond b (fault_from (index + 1) (r.range.end + 1) rs) (Some (Order index))) (Some (Gap index))) here ordered
     ∙ no_fault (index + 1) (r.range.end + 1) rs f.rest
-
--- of such runs no error is told but want of memory
-pub only_memory : {V M : Type 0} (rs : List (CodePointMapRange V)) (result : Result M TrieError) (e : TrieError) → end_of_runs 0 rs ≡ Some 0x11_0000 → AnswersFault rs result → result ≡ Err e → e ≡ NoMemory
-only_memory rs result e covers answers is = rw (no_fault 0 0 rs covers, is) at answers
 
 -- one more run at the end
 pub end_of_runs-append : {V : Type 0} (n m : ℕ) (rs : List (CodePointMapRange V)) (r : CodePointMapRange V) → end_of_runs n rs ≡ Some m → r.range.start ≡ m → m ≤ r.range.end → r.range.end ≤ 0x10_FFFF →

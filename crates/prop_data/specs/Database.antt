@@ -13,6 +13,8 @@ use Rattle.cp_strset.specs.StringSet.{StringSet}
 use Rattle.cp_strset.specs.StringList.{holds}
 use Rattle.prop_data.specs.Tables.{EmojiMembers, ExtensionList, ScriptNumbers, Tables}
 use Rattle.prop_data.specs.Extensions.{list_in, list_of, scripts_map}
+use Rattle.prop_data.specs.declared.load.texts.Length.{Length}
+use Rattle.prop_data.specs.declared.load.texts.Length.TheVariants.{Long, Short}
 use Rattle.prop_data.specs.declared.scripts.ScriptTable.{ScriptTable}
 use Rattle.prop_data.specs.declared.scripts.ScriptWithExtensionsProperty.{ScriptWithExtensionsProperty}
 use Rattle.prop_data.specs.TableText.{table_fault}
@@ -42,6 +44,11 @@ short_of database t =
     if nat_eq t combining_class_table then option_map sparse_text database.short_ccc
     else if nat_eq t script_table then option_map subtag_text database.short_script
     else option_map linear_text (get nat_cmp database.short_linear t)
+
+-- the names of this length
+abbrev pub texts_of : PropertyDatabase → Length → ℕ → Option (ℕ → Option (List ℕ))
+texts_of database Long t = long_of database t
+texts_of database Short t = short_of database t
 
 -- the emoji set of an emoji table, by the table's number
 abbrev pub emoji_of : PropertyDatabase → ℕ → Option StringSet

@@ -8,7 +8,7 @@ use Rattle.prop_names.specs.ValueNameTables.{name_at}
 use Rattle.prop_values.specs.Tables.{default_number, script_table}
 use Rattle.prop_data.specs.declared.database.PropertyDatabase.{PropertyDatabase}
 use Rattle.prop_data.specs.declared.line.Header.{Header as CodeHeader}
-use Rattle.prop_data.specs.declared.line.Header.TheVariants.{Set as SetHeader, Map as MapHeader, Names as NamesHeader, Long as LongHeader, Short as ShortHeader, Emoji as EmojiHeader, Scripts as ScxHeader, Extensions as ExtHeader}
+use Rattle.prop_data.specs.declared.line.Header.TheVariants.{Set as SetHeader, Map as MapHeader, Names as NamesHeader, Texts as TextsHeader, Emoji as EmojiHeader, Scripts as ScxHeader, Extensions as ExtHeader}
 use Rattle.prop_data.specs.declared.line.Row.{Row as CodeRow}
 use Rattle.prop_data.specs.declared.line.Line.{Line as CodeLine}
 use Rattle.prop_data.specs.declared.line.Line.TheVariants.{Blank, Header as HeaderLine, Row as RowLine, Closing, Other}
@@ -37,12 +37,16 @@ use Rattle.prop_data.specs.Tables.{EmojiMembers, ScriptNumbers, ExtensionList, T
 use Rattle.prop_data.specs.LineFault.{Above, line_fault, header_fault, row_fault, index_fault, no_text, no_emoji}
 use Rattle.prop_data.specs.TableText.{at_line}
 
+-- the header of a table of names of this length
+abbrev pub texts_header : Length → List ℕ → Header
+texts_header Long name = long_header name
+texts_header Short name = short_header name
+
 abbrev pub header_seen : CodeHeader → Header
 header_seen (SetHeader name) = set_header name.now
 header_seen (MapHeader name default) = map_header name.now default.now
 header_seen (NamesHeader name) = names_header name.now
-header_seen (LongHeader name) = long_header name.now
-header_seen (ShortHeader name) = short_header name.now
+header_seen (TextsHeader length name) = texts_header length name.now
 header_seen (EmojiHeader name) = emoji_header name.now
 header_seen (ScxHeader default) = scx_header default.now
 header_seen (ExtHeader index script) = ext_header index.now (option_copied script)

@@ -1,6 +1,6 @@
 //! How many tables of a kind a database has.
 ghost use Rattle.std.specs.Prelude.{◌≡◌, ◌<◌};
-ghost use Rattle.prop_data.specs.Counts.{table_bound, is_table, one_if, table_count};
+ghost use Rattle.prop_data.specs.Counts.{table_bound, is_table, table_count};
 ghost use Rattle.prop_data.specs.Database.{tables_of};
 
 use crate::database::PropertyDatabase;
@@ -18,12 +18,6 @@ fn table_bound(kind: TableKind) -> u16
     }
 }
 
-fn one_if(there: bool) -> usize
-    ensures { result ≡ one_if there }
-{
-    if there { 1 } else { 0 }
-}
-
 /// Whether there is a table of the kind with this number.
 fn is_table(database: &PropertyDatabase, kind: TableKind, number: u16) -> bool
     requires { number < table_bound kind }
@@ -33,8 +27,8 @@ fn is_table(database: &PropertyDatabase, kind: TableKind, number: u16) -> bool
         TableKind::Set => database.sets.contains_key(&(number as u8)),
         TableKind::Map => database.maps.contains_key(&(number as u8)),
         TableKind::Names => database.names.contains_key(&(number as u8)),
-        TableKind::Long => database.has_long_at(number as u8),
-        TableKind::Short => database.has_short_at(number as u8),
+        TableKind::Long => database.has_long(number as u8),
+        TableKind::Short => database.has_short(number as u8),
         TableKind::Scripts => database.scripts.is_some(),
         TableKind::Extensions => database.has_list(u64::from(number)),
         TableKind::Emoji => database.emoji.contains_key(&(number as u8)),
@@ -47,7 +41,7 @@ pub(crate) fn table_count(database: &PropertyDatabase, kind: TableKind) -> usize
 {
     let mut count = 0;
     for number in 0..table_bound(kind) {
-        count += one_if(is_table(database, kind, number));
+        count += usize::from(is_table(database, kind, number));
     }
     count
 }

@@ -79,7 +79,7 @@ impl PropertyDatabase {
     ghost use Rattle.prop_data.specs.Rows.{is_subtags};
     ghost use Rattle.prop_names.specs.ValueNameTables.{linear_text, name_at, sparse_text, subtag_text};
     ghost use Rattle.prop_data.specs.Changes.{no_tables, with_set, with_map, with_names, with_texts, with_emoji, with_scripts, with_list};
-    ghost use Rattle.prop_data.specs.Database.{set_of, map_of, names_of, long_of, short_of, emoji_of, emoji_seen, scripts_of, list_at, tables_of, IsFault};
+    ghost use Rattle.prop_data.specs.Database.{set_of, map_of, names_of, long_of, short_of, texts_of, emoji_of, emoji_seen, scripts_of, list_at, tables_of, IsFault};
     ghost use Rattle.prop_data.specs.Counts.{table_count};
     ghost use Rattle.prop_data.specs.Extensions.{list_seen};
     ghost use Rattle.prop_data.specs.LineFault.{lacks_some_list};
@@ -193,8 +193,7 @@ impl PropertyDatabase {
             self.short_script = Some(PropertyScriptToIcuScriptMap::from_ordered(texts));
             return Ok(());
         }
-        keep_linear(&mut self.short_linear, table, texts)?;
-        Ok(())
+        keep_linear(&mut self.short_linear, table, texts)
     }
 
     /// Keeps the emoji set as the table's.
@@ -353,15 +352,18 @@ impl PropertyDatabase {
         }
     }
 
-    /// Whether there are long names of the table.
-    pub(crate) fn has_long(&self, table: MapTable) -> bool
-        ensures { result ≡ is_some (long_of self.now table) }
+    /// Whether there are names of this length of the table.
+    pub(crate) fn has_texts(&self, length: Length, table: MapTable) -> bool
+        ensures { result ≡ is_some (texts_of self.now length table) }
     {
-        self.has_long_at(table.number())
+        match length {
+            Length::Long => self.has_long(table.number()),
+            Length::Short => self.has_short(table.number()),
+        }
     }
 
     /// Whether there are long names of the table with this number.
-    pub(crate) fn has_long_at(&self, number: u8) -> bool
+    pub(crate) fn has_long(&self, number: u8) -> bool
         ensures { result ≡ is_some (long_of self.now number) }
     {
         if number == MapTable::CANONICAL_COMBINING_CLASS.number() {
@@ -371,15 +373,8 @@ impl PropertyDatabase {
         }
     }
 
-    /// Whether there are short names of the table.
-    pub(crate) fn has_short(&self, table: MapTable) -> bool
-        ensures { result ≡ is_some (short_of self.now table) }
-    {
-        self.has_short_at(table.number())
-    }
-
     /// Whether there are short names of the table with this number.
-    pub(crate) fn has_short_at(&self, number: u8) -> bool
+    pub(crate) fn has_short(&self, number: u8) -> bool
         ensures { result ≡ is_some (short_of self.now number) }
     {
         if number == MapTable::CANONICAL_COMBINING_CLASS.number() {

@@ -4,6 +4,7 @@ ghost use Rattle.text_lines.specs.Fields.{fields};
 ghost use Rattle.prop_data.specs.Line.{line_of, line_of_one, line_of_two, line_of_three, is_header_word, is_end};
 ghost use Rattle.prop_data.specs.Loading.{line_seen};
 
+use crate::load::Length;
 use text_lines::{before_comment, split_field};
 
 /// The header of a table, by the fields behind its word.
@@ -22,12 +23,9 @@ pub(crate) enum Header<'a> {
     Names {
         name: &'a [u8],
     },
-    /// `long NAME`
-    Long {
-        name: &'a [u8],
-    },
-    /// `short NAME`
-    Short {
+    /// `long NAME`, or `short NAME`
+    Texts {
+        length: Length,
         name: &'a [u8],
     },
     /// `emoji NAME`
@@ -125,9 +123,15 @@ fn line_of_two<'a>(first: &'a [u8], second: &'a [u8]) -> Line<'a>
     } else if first == NAMES {
         Line::Header(Header::Names { name: second })
     } else if first == LONG {
-        Line::Header(Header::Long { name: second })
+        Line::Header(Header::Texts {
+            length: Length::Long,
+            name: second,
+        })
     } else if first == SHORT {
-        Line::Header(Header::Short { name: second })
+        Line::Header(Header::Texts {
+            length: Length::Short,
+            name: second,
+        })
     } else if first == EMOJI {
         Line::Header(Header::Emoji { name: second })
     } else if first == SCX {

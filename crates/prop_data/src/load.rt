@@ -1,8 +1,8 @@
 //! Reads the lines of a table text one by one.
 ghost use Rattle.std.specs.Prelude.{◌≡◌, [], None, true, OnOk, IfOk, IfErr};
 ghost use Rattle.text_lines.specs.Fields.{fields};
-ghost use Rattle.prop_data.specs.Line.{line_of, set_header, map_header, names_header, long_header, short_header, emoji_header, scx_header, ext_header, header as header_line, row as row_line, closing};
-ghost use Rattle.prop_data.specs.Loading.{kept, header_seen, row_seen, Takes, TakesRow, TakesFinished, Begins, NoEndFault};
+ghost use Rattle.prop_data.specs.Line.{line_of, set_header, map_header, names_header, emoji_header, scx_header, ext_header, header as header_line, row as row_line, closing};
+ghost use Rattle.prop_data.specs.Loading.{kept, texts_header, header_seen, row_seen, Takes, TakesRow, TakesFinished, Begins, NoEndFault};
 ghost use Rattle.prop_data.specs.Database.{tables_of};
 ghost use Rattle.prop_data.specs.LineFault.{above};
 ghost use Rattle.std.specs.Option.{option_copied};
@@ -195,30 +195,22 @@ impl Loader {
         Ok(OpenTable::Names(OpenNames::new(self.alloc, table)))
     }
 
-    /// The table of long names of a header, without rows.
-    fn begin_long(&self, name: &[u8], number: usize) -> Result<OpenTable, LoadError>
-        ensures { Begins (tables_of self.now.database) (long_header name.now) number result }
+    /// The table of one name for each value of a header, without rows.
+    fn begin_texts(
+        &self,
+        length: Length,
+        name: &[u8],
+        number: usize,
+    ) -> Result<OpenTable, LoadError>
+        ensures { Begins (tables_of self.now.database) (texts_header length name.now) number result }
     {
         let Some(table) = text_table(name) else {
             return Err(fault(number, TableErrorKind::UnknownTable));
         };
-        if self.database.has_long(table) {
+        if self.database.has_texts(length, table) {
             return Err(fault(number, TableErrorKind::TableTwice));
         }
-        Ok(OpenTable::Texts(OpenTexts::new(self.alloc, table, Length::Long)))
-    }
-
-    /// The table of short names of a header, without rows.
-    fn begin_short(&self, name: &[u8], number: usize) -> Result<OpenTable, LoadError>
-        ensures { Begins (tables_of self.now.database) (short_header name.now) number result }
-    {
-        let Some(table) = text_table(name) else {
-            return Err(fault(number, TableErrorKind::UnknownTable));
-        };
-        if self.database.has_short(table) {
-            return Err(fault(number, TableErrorKind::TableTwice));
-        }
-        Ok(OpenTable::Texts(OpenTexts::new(self.alloc, table, Length::Short)))
+        Ok(OpenTable::Texts(OpenTexts::new(self.alloc, table, length)))
     }
 
     /// The emoji table of a header, without rows.
@@ -281,8 +273,7 @@ impl Loader {
             Header::Set { name } => self.begin_set(name, number),
             Header::Map { name, default } => self.begin_map(name, default, number),
             Header::Names { name } => self.begin_names(name, number),
-            Header::Long { name } => self.begin_long(name, number),
-            Header::Short { name } => self.begin_short(name, number),
+            Header::Texts { length, name } => self.begin_texts(length, name, number),
             Header::Emoji { name } => self.begin_emoji(name, number),
             Header::Scripts { default } => self.begin_scripts(default, number),
             Header::Extensions { index, script } => self.begin_list(index, script, number),

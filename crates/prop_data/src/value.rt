@@ -9,10 +9,7 @@ use prop_values::{MapTable, NamesTable};
 pub(crate) fn accepted(table: MapTable, number: u64) -> Option<u32>
     ensures { result ≡ (if accepts_value table number then Some number else None) }
 {
-    if number > u64::from(u32::MAX) {
-        return None;
-    }
-    let number = number as u32;
+    let number = u32::try_from(number).ok()?;
     if table.accepts(number) {
         Some(number)
     } else {
@@ -24,20 +21,14 @@ pub(crate) fn accepted(table: MapTable, number: u64) -> Option<u32>
 pub(crate) fn accepted_script(number: u64) -> Option<u16>
     ensures { result ≡ (if accepts_value script_table number then Some number else None) }
 {
-    if number >= 0x1_0000 {
-        return None;
-    }
-    Some(number as u16)
+    u16::try_from(number).ok()
 }
 
 /// The number, where the table of names takes it.
 pub(crate) fn accepted_name(table: NamesTable, number: u64) -> Option<u16>
     ensures { result ≡ (if accepts_name table number then Some number else None) }
 {
-    if number > u64::from(u16::MAX) {
-        return None;
-    }
-    let number = number as u16;
+    let number = u16::try_from(number).ok()?;
     if table.accepts(number) {
         Some(number)
     } else {

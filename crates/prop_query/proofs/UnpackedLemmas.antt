@@ -1,13 +1,12 @@
 -- The map of the values that the numbers of a map unpack to.
-use Rattle.std.proofs.Common.{◌≡◌, ℕ, ◌+◌, ◌<◌, ◌≤◌, ◌^◌, true, false, ◌&&◌, ◌==◌, cond, List, [], ◌∷◌, Option, Some, None, Result, Err, nat_eq, nat_le, nat_lt, refl, sym, ap, ap₂, ◌∙◌, inl, inr, arith}
+use Rattle.std.proofs.Common.{◌≡◌, ℕ, ◌+◌, ◌<◌, ◌≤◌, ◌^◌, true, false, ◌&&◌, ◌==◌, cond, List, [], ◌∷◌, Option, Some, None, nat_eq, nat_le, nat_lt, refl, sym, ap, ap₂, ◌∙◌, inl, inr, arith}
 use Rattle.std.specs.Prelude.{is_some}
 use Rattle.std.proofs.lemmas.Bool.{cases_lt, and_parts}
 use Rattle.std.proofs.lemmas.Bool.Decides.{nat_tests}
 use Rattle.cp_invlist.specs.Ranges.{in_range}
-use Rattle.cp_trie.specs.Faults.{fault_from, AnswersFault}
+use Rattle.cp_trie.specs.Faults.{fault_from}
 use Rattle.cp_trie.specs.Runs.{value_in, AreRunsFrom}
-use Rattle.cp_trie.specs.declared.error.TrieError.{TrieError}
-use Rattle.cp_trie.specs.declared.error.TrieError.TheVariants.{Gap, Order, NoMemory}
+use Rattle.cp_trie.specs.declared.error.TrieError.TheVariants.{Gap, Order}
 use Rattle.cp_trie.specs.declared.ranges.CodePointMapRange.{CodePointMapRange}
 use Rattle.prop_data.specs.Accepted.{AreAccepted}
 use Rattle.prop_data.specs.LineFault.{accepts_value}
@@ -70,7 +69,7 @@ no_fault-run index n r (Some v) rs some starts low high rest =
     ap₂ (λ a b. cond a (cond b (fault_from (index + 1) (r.range.end + 1) rs) (Some (Order index))) (Some (Gap index))) here ordered ∙ rest
 
 -- the maximal runs of a map have no fault, with the values that their numbers unpack to
-no_fault-unpacked : {V : Type 0} (unpacked : ℕ → Option V) (at : ℕ → ℕ) (index n : ℕ) (rs : List (CodePointMapRange ℕ)) → AreRunsFrom nat_eq at n rs → ((k : ℕ) → is_some (unpacked (at k)) ≡ true) →
+pub no_fault-unpacked : {V : Type 0} (unpacked : ℕ → Option V) (at : ℕ → ℕ) (index n : ℕ) (rs : List (CodePointMapRange ℕ)) → AreRunsFrom nat_eq at n rs → ((k : ℕ) → is_some (unpacked (at k)) ≡ true) →
     fault_from index n (unpacked_runs unpacked rs) ≡ None
 no_fault-unpacked unpacked at index n [] runs all =
     let whole : (n == 0x11_0000) ≡ true = grind (arith, nat_tests, runs) in
@@ -78,8 +77,3 @@ no_fault-unpacked unpacked at index n [] runs all =
 no_fault-unpacked unpacked at index n (r ∷ rs) runs all =
     no_fault-run index n r (unpacked r.value) (unpacked_runs unpacked rs) (ap (λ k. is_some (unpacked k)) runs.3 ∙ all n) runs.0 runs.1 runs.2
     (no_fault-unpacked unpacked at (index + 1) (r.range.end + 1) rs runs.6 all)
-
--- of such runs no error is told but want of memory
-pub only_memory : {V M : Type 0} (unpacked : ℕ → Option V) (at : ℕ → ℕ) (rs : List (CodePointMapRange ℕ)) (given : List (CodePointMapRange V)) (result : Result M TrieError) (e : TrieError) →
-    AreRunsFrom nat_eq at 0 rs → ((k : ℕ) → is_some (unpacked (at k)) ≡ true) → given ≡ unpacked_runs unpacked rs → AnswersFault given result → result ≡ Err e → e ≡ NoMemory
-only_memory unpacked at rs given result e runs all same answers is = rw (same, no_fault-unpacked unpacked at 0 0 rs runs all, is) at answers

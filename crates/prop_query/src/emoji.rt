@@ -8,6 +8,7 @@ ghost use Rattle.prop_data.specs.Database.{emoji_of};
 ghost use Rattle.prop_query.specs.Answers.{NeedsTable, NeedsTableAndMemory};
 ghost use Rattle.prop_query.specs.Borrowed.{emoji_in};
 
+use crate::absent::absent;
 use cp_invlist::NoMemory;
 use cp_strset::CodePointInversionListAndStringList;
 use prop_binary::EmojiSet;
@@ -44,12 +45,10 @@ impl EmojiSetData {
         ensures needs { NeedsTable (TableName.Emoji P.TABLE)
             (emoji_of database.now P.TABLE) result }
     {
-        match database.emoji(P::TABLE) {
-            Some(set) => Ok(EmojiSetDataBorrowed { set }),
-            None => Err(DataError::Absent {
-                table: TableName::Emoji(P::TABLE),
-            }),
-        }
+        let set = database
+            .emoji(P::TABLE)
+            .ok_or(absent(TableName::Emoji(P::TABLE)))?;
+        Ok(EmojiSetDataBorrowed { set })
     }
 
     /// A copy of the emoji set of a property. `Absent` names it where the database has none, and `NoMemory` says that
@@ -62,11 +61,9 @@ impl EmojiSetData {
         ensures needs { NeedsTableAndMemory (TableName.Emoji P.TABLE)
             (emoji_of database.now P.TABLE) result }
     {
-        let Some(set) = database.emoji(P::TABLE) else {
-            return Err(DataError::Absent {
-                table: TableName::Emoji(P::TABLE),
-            });
-        };
+        let set = database
+            .emoji(P::TABLE)
+            .ok_or(absent(TableName::Emoji(P::TABLE)))?;
         Ok(EmojiSetData {
             set: set.copy(alloc)?,
         })

@@ -1,6 +1,7 @@
 //! Queries over a property database: sets, maps, emoji sets, names of values, and scripts with their extensions.
 #![tactic(auto)]
 
+mod absent;
 mod emoji;
 mod lookup;
 mod map;

@@ -9,6 +9,7 @@ ghost use Rattle.prop_query.specs.Lookups.{subtag_or_unknown, script_or_unknown,
 ghost use Rattle.prop_query.specs.Maps.{unpacked_at};
 ghost use Rattle.prop_values.specs.Tables.{script_table};
 
+use crate::absent::absent;
 use crate::emoji::EmojiSetData;
 use crate::names::{PropertyNamesLong, PropertyNamesShort, PropertyParser};
 use crate::set::CodePointSetData;
@@ -26,12 +27,10 @@ pub fn for_char<T: EnumeratedProperty>(
         unpacked_at T.unpacked (map_of database.now T.TABLE) ch ≡ Some value) }
     ensures needs { NeedsTable (TableName.Map T.TABLE) (map_of database.now T.TABLE) result }
 {
-    match database.map(T::TABLE) {
-        Some(numbers) => Ok(value_of(numbers.get(ch))),
-        None => Err(DataError::Absent {
-            table: TableName::Map(T::TABLE),
-        }),
-    }
+    let numbers = database
+        .map(T::TABLE)
+        .ok_or(absent(TableName::Map(T::TABLE)))?;
+    Ok(value_of(numbers.get(ch)))
 }
 
 /// Whether a character has a binary property. `Absent` names the property's set where the database has none.

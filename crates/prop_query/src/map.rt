@@ -15,6 +15,7 @@ ghost use Rattle.prop_query.specs.Answers.{NeedsTableAndMemory};
 ghost use Rattle.prop_query.specs.Borrowed.{map_in};
 ghost use Rattle.prop_query.specs.Maps.{lacks_value, is_in_group, unpacked_at};
 
+use crate::absent::absent;
 use crate::ranges::{IsNot, RangesForGroup, RangesForOthers, RangesForValue, RangesWhere};
 use crate::set::CodePointSetData;
 use crate::value::values_of;
@@ -60,11 +61,9 @@ impl<T: EnumeratedProperty> CodePointMapData<T> {
         ensures needs { NeedsTableAndMemory (TableName.Map T.TABLE)
             (map_of database.now T.TABLE) result }
     {
-        let Some(numbers) = database.map(T::TABLE) else {
-            return Err(DataError::Absent {
-                table: TableName::Map(T::TABLE),
-            });
-        };
+        let numbers = database
+            .map(T::TABLE)
+            .ok_or(absent(TableName::Map(T::TABLE)))?;
         Ok(CodePointMapData {
             trie: values_of(alloc, numbers)?,
         })

@@ -8,6 +8,7 @@ ghost use Rattle.prop_names.specs.ValueNameTables.{subtag_text};
 ghost use Rattle.prop_query.specs.Answers.{NeedsTable, NeedsTableAndMemory};
 ghost use Rattle.prop_query.specs.Borrowed.{names_in, long_in, long_borrowed, short_in, short_borrowed, name_in};
 
+use crate::absent::absent;
 use cp_trie::TrieValue;
 use prop_data::{DataError, NamedEnumeratedProperty, PropertyDatabase, TableName};
 use prop_names::{PropertyEnumToValueNameLookup, PropertyValueNameToEnumMap};
@@ -48,15 +49,13 @@ impl<T: ParseableEnumeratedProperty> PropertyParser<T> {
         ensures needs { NeedsTable (TableName.Names T.NAMES)
             (names_of database.now T.NAMES) result }
     {
-        match database.names(T::NAMES) {
-            Some(names) => Ok(PropertyParserBorrowed {
-                names,
-                value: PhantomData,
-            }),
-            None => Err(DataError::Absent {
-                table: TableName::Names(T::NAMES),
-            }),
-        }
+        let names = database
+            .names(T::NAMES)
+            .ok_or(absent(TableName::Names(T::NAMES)))?;
+        Ok(PropertyParserBorrowed {
+            names,
+            value: PhantomData,
+        })
     }
 
     /// A copy of the names of a property's values. `Absent` names their table where the database has none, and
@@ -69,11 +68,9 @@ impl<T: ParseableEnumeratedProperty> PropertyParser<T> {
         ensures needs { NeedsTableAndMemory (TableName.Names T.NAMES)
             (names_of database.now T.NAMES) result }
     {
-        let Some(names) = database.names(T::NAMES) else {
-            return Err(DataError::Absent {
-                table: TableName::Names(T::NAMES),
-            });
-        };
+        let names = database
+            .names(T::NAMES)
+            .ok_or(absent(TableName::Names(T::NAMES)))?;
         Ok(PropertyParser {
             names: names.copy(alloc)?,
             value: PhantomData,
@@ -219,12 +216,8 @@ impl<T: NamedEnumeratedProperty> PropertyNamesLong<T> {
             ≡ T.DataStructLong.name_of (long_borrowed names) n) }
         ensures needs { NeedsTable (TableName.Long T.TABLE) (long_of database.now T.TABLE) result }
     {
-        match T::long_table(database) {
-            Some(names) => Ok(PropertyNamesLongBorrowed { names }),
-            None => Err(DataError::Absent {
-                table: TableName::Long(T::TABLE),
-            }),
-        }
+        let names = T::long_table(database).ok_or(absent(TableName::Long(T::TABLE)))?;
+        Ok(PropertyNamesLongBorrowed { names })
     }
 
     /// A copy of the long names of a property's values. `Absent` names their table where the database has none, and
@@ -239,11 +232,7 @@ impl<T: NamedEnumeratedProperty> PropertyNamesLong<T> {
         ensures needs { NeedsTableAndMemory (TableName.Long T.TABLE)
             (long_of database.now T.TABLE) result }
     {
-        let Some(names) = T::long_table(database) else {
-            return Err(DataError::Absent {
-                table: TableName::Long(T::TABLE),
-            });
-        };
+        let names = T::long_table(database).ok_or(absent(TableName::Long(T::TABLE)))?;
         Ok(PropertyNamesLong {
             names: names.copy(alloc)?,
         })
@@ -303,12 +292,8 @@ impl<T: NamedEnumeratedProperty> PropertyNamesShort<T> {
         ensures needs { NeedsTable (TableName.Short T.TABLE)
             (short_of database.now T.TABLE) result }
     {
-        match T::short_table(database) {
-            Some(names) => Ok(PropertyNamesShortBorrowed { names }),
-            None => Err(DataError::Absent {
-                table: TableName::Short(T::TABLE),
-            }),
-        }
+        let names = T::short_table(database).ok_or(absent(TableName::Short(T::TABLE)))?;
+        Ok(PropertyNamesShortBorrowed { names })
     }
 
     /// A copy of the short names of a property's values. `Absent` names their table where the database has none, and
@@ -323,11 +308,7 @@ impl<T: NamedEnumeratedProperty> PropertyNamesShort<T> {
         ensures needs { NeedsTableAndMemory (TableName.Short T.TABLE)
             (short_of database.now T.TABLE) result }
     {
-        let Some(names) = T::short_table(database) else {
-            return Err(DataError::Absent {
-                table: TableName::Short(T::TABLE),
-            });
-        };
+        let names = T::short_table(database).ok_or(absent(TableName::Short(T::TABLE)))?;
         Ok(PropertyNamesShort {
             names: names.copy(alloc)?,
         })

@@ -11,6 +11,7 @@ ghost use Rattle.prop_query.specs.Scripts.{script_of, extensions_of, has_script,
 mod extensions;
 mod has_script;
 
+use crate::absent::absent;
 use crate::ranges::RangesWhere;
 use cp_invlist::laws::{one_list_of_ranges, ranges_hold_members};
 use cp_invlist::{CodePointInversionList, LAST_CODE_POINT, NoMemory};
@@ -19,11 +20,6 @@ use has_script::HasScript;
 use prop_data::{DataError, PropertyDatabase, ScriptWithExtensionsProperty, TableName};
 use prop_values::{Script, ScriptWithExt};
 use std::alloc::Global;
-
-/// What a call answers where a database has no scripts with extensions.
-const ABSENT: DataError = DataError::Absent {
-    table: TableName::Scripts,
-};
 
 /// The scripts with extensions of a database (UAX 24, section 2.8), as a copy of its own.
 #[derive(Drop)]
@@ -63,7 +59,7 @@ impl ScriptWithExtensions {
             IsSomeAnd (scripts_of database.now) (AnswersAs (table_owned scripts))) }
         ensures needs { NeedsTableAndMemory TableName.Scripts (scripts_of database.now) result }
     {
-        let property = database.scripts().ok_or(ABSENT)?;
+        let property = database.scripts().ok_or(absent(TableName::Scripts))?;
         Ok(ScriptWithExtensions {
             property: property.copy(alloc)?,
         })
@@ -89,7 +85,7 @@ impl<'a> ScriptWithExtensionsBorrowed<'a> {
         ensures table { IfOk result (λ scripts. scripts_of database.now ≡ Some (table_of scripts)) }
         ensures needs { NeedsTable TableName.Scripts (scripts_of database.now) result }
     {
-        let property = database.scripts().ok_or(ABSENT)?;
+        let property = database.scripts().ok_or(absent(TableName::Scripts))?;
         Ok(ScriptWithExtensionsBorrowed { property })
     }
 

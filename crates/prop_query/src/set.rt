@@ -9,6 +9,7 @@ ghost use Rattle.prop_data.specs.Database.{set_of};
 ghost use Rattle.prop_query.specs.Answers.{NeedsTable, NeedsTableAndMemory};
 ghost use Rattle.prop_query.specs.Borrowed.{set_in};
 
+use crate::absent::absent;
 use cp_invlist::{CodePointInversionList, ComplementedRanges, InversionListRanges, NoMemory};
 use prop_binary::{BinaryProperty, SetTable, ecma262_table};
 use prop_data::{DataError, PropertyDatabase, TableName};
@@ -43,12 +44,8 @@ fn lent(
     ensures members { IfOk result (λ set. set_of database.now table ≡ Some (set_in set)) }
     ensures needs { NeedsTable (TableName.Set table) (set_of database.now table) result }
 {
-    match database.set(table) {
-        Some(set) => Ok(CodePointSetDataBorrowed { set }),
-        None => Err(DataError::Absent {
-            table: TableName::Set(table),
-        }),
-    }
+    let set = database.set(table).ok_or(absent(TableName::Set(table)))?;
+    Ok(CodePointSetDataBorrowed { set })
 }
 
 /// A copy of the set of a table.
@@ -60,11 +57,7 @@ fn copied(
     ensures members { IfOk result (λ set. set_of database.now table ≡ Some set) }
     ensures needs { NeedsTableAndMemory (TableName.Set table) (set_of database.now table) result }
 {
-    let Some(set) = database.set(table) else {
-        return Err(DataError::Absent {
-            table: TableName::Set(table),
-        });
-    };
+    let set = database.set(table).ok_or(absent(TableName::Set(table)))?;
     Ok(CodePointSetData {
         set: set.copy(alloc)?,
     })
@@ -149,6 +142,14 @@ impl CodePointSetData {
         ensures { option_copied result ≡ Some self.now }
     {
         Some(&self.set)
+    }
+
+    /// Keeps an index beside the list: a bit for each code point, 139 kB, so that a member is found by one read. The set stays as
+    /// it is. `NoMemory` says that a request for memory was refused.
+    pub fn index(&mut self, alloc: Global) -> Result<(), NoMemory>
+        ensures { self.new ≡ self.old }
+    {
+        self.set.index(alloc)
     }
 
     /// A copy of the inversion list of the set. `NoMemory` says that a request for memory was refused.

@@ -6,7 +6,7 @@ ghost use Rattle.prop_data.specs.LineFault.{accepts_value};
 ghost use Rattle.prop_query.specs.Unpacked.{unpacked_runs, AreRunsAccepted};
 
 use cp_invlist::NoMemory;
-use cp_trie::{CodePointMapRange, CodePointTrie, TrieError, TrieRanges};
+use cp_trie::{CodePointMapRange, CodePointTrie, TrieRanges};
 use prop_values::EnumeratedProperty;
 use std::alloc::{AllocError, Global};
 
@@ -33,13 +33,7 @@ pub(crate) fn values_of<T: EnumeratedProperty>(
         T.is_default (value_at map c)) }
 {
     let runs = unpacked(alloc, numbers.iter_ranges())?;
-    match CodePointTrie::try_from_runs(alloc, runs, T::default()) {
-        Ok(map) => Ok(map),
-        Err(TrieError::NoMemory) => Err(NoMemory),
-        // The runs cover the code points in order.
-        Err(TrieError::Gap { .. }) => unreachable!(),
-        Err(TrieError::Order { .. }) => unreachable!(),
-    }
+    CodePointTrie::from_cover(alloc, runs, T::default())
 }
 
 /// The runs with the values of their numbers.

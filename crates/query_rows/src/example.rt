@@ -43,10 +43,8 @@ fn the_example_of_the_guide_has_its_answers(rt: HostRuntime) -> Result<(), Fail>
 fn a_set_with_an_index_answers_alike(rt: HostRuntime) -> Result<(), Fail> {
     let alloc = rt.alloc();
     let database = PropertyDatabase::from_text(alloc, TABLES)?;
-    let copy = CodePointSetData::try_new_unstable::<Alphabetic>(alloc, &database)?;
-    let mut list = copy.to_code_point_inversion_list(alloc)?;
-    list.index(alloc)?;
-    let letters = CodePointSetData::from_code_point_inversion_list(list);
+    let mut letters = CodePointSetData::try_new_unstable::<Alphabetic>(alloc, &database)?;
+    letters.index(alloc)?;
     let set = letters.as_borrowed();
     let found = [
         set.contains32(0x40),

@@ -257,6 +257,8 @@ fn scripts_with_extensions_tell_their_kind(rt: HostRuntime) {
     assert_unpacks::<ScriptWithExt>(&rt, &[(65_536, None)]);
     assert_equal(&rt, Script::from(ScriptWithExt(25)), Script::Latin);
     assert_equal(&rt, u32::from(ScriptWithExt(3077)), 3077);
+    let indices = [1024, 2053, 3077].map(|number| ScriptWithExt(number).list_index());
+    assert_equal(&rt, indices, [0, 5, 5]);
 }
 
 #[test]

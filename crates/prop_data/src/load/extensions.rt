@@ -73,7 +73,7 @@ impl OpenList {
     {
         let mut scripts = Vec::new(alloc);
         if let Some(script) = script {
-            scripts.push(Script::from_icu4c_value(script))?;
+            push_script(&mut scripts, script)?;
         }
         Ok(OpenList {
             index,

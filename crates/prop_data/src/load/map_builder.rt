@@ -6,7 +6,7 @@ ghost use Rattle.cp_trie.specs.Runs.{value_in};
 ghost use Rattle.prop_data.specs.MapBuilder.{end_of_runs, next_of, up_to};
 
 use cp_invlist::{CodePointRange, LAST_CODE_POINT, NoMemory};
-use cp_trie::{CodePointMapRange, CodePointTrie, TrieError, TrieValue};
+use cp_trie::{CodePointMapRange, CodePointTrie, TrieValue};
 use std::alloc::Global;
 
 /// A map whose values are read in ascending order. Code points that were given no value have the default.
@@ -109,12 +109,6 @@ impl<T: TrieValue> MapBuilder<T> {
             (if nat_lt 0x10_FFFF c then past else value_in self.runs.items self.default c)) }
     {
         self.fill_to(LAST_CODE_POINT + 1)?;
-        match CodePointTrie::try_from_runs(alloc, self.runs, past) {
-            Ok(map) => Ok(map),
-            Err(TrieError::NoMemory) => Err(NoMemory),
-            // The runs cover the code points in order.
-            Err(TrieError::Gap { .. }) => unreachable!(),
-            Err(TrieError::Order { .. }) => unreachable!(),
-        }
+        CodePointTrie::from_cover(alloc, self.runs, past)
     }
 }

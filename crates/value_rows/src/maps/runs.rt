@@ -1,6 +1,7 @@
 //! Runs that make no map, and the maximal runs of maps.
 use crate::fixtures::assert_equal;
 use crate::maps::fixtures::{map_of, run};
+use cp_invlist::{CodePointRange, NoMemory};
 use cp_trie::{CodePointMapRange, CodePointTrie, TrieError};
 use std::alloc::{AllocError, Global};
 
@@ -39,6 +40,50 @@ fn runs_that_do_not_cover_are_refused(rt: HostRuntime) {
 
 /// The ends and the values of four steps of a walk.
 type Walk<T> = [Option<CodePointMapRange<T>>; 4];
+
+/// A walk over the runs of a map of runs that cover, of which two have the same value, and the value past them.
+fn covered(alloc: Global) -> Result<(Walk<u8>, u8), NoMemory> {
+    let runs = vec![in alloc;
+        CodePointMapRange {
+            range: CodePointRange {
+                start: 0,
+                end: 0x40
+            },
+            value: 1
+        },
+        CodePointMapRange {
+            range: CodePointRange {
+                start: 0x41,
+                end: 0x5A
+            },
+            value: 1
+        },
+        CodePointMapRange {
+            range: CodePointRange {
+                start: 0x5B,
+                end: 0x10_FFFF
+            },
+            value: 2
+        },
+    ]?;
+    let map = CodePointTrie::from_cover(alloc, runs, 9)?;
+    let mut walk = map.iter_ranges();
+    Ok((
+        [walk.next(), walk.next(), walk.next(), walk.next()],
+        map.get32(0x11_0000),
+    ))
+}
+
+#[test]
+fn runs_that_cover_make_a_map(rt: HostRuntime) {
+    let expected = [
+        Some(run(0, 0x5A, 1)),
+        Some(run(0x5B, 0x10_FFFF, 2)),
+        None,
+        None,
+    ];
+    assert_equal(&rt, covered(rt.alloc()), Ok((expected, 9)));
+}
 
 /// A walk over the runs of a map.
 fn walk(alloc: Global) -> Result<Walk<u16>, TrieError> {
