@@ -4,7 +4,7 @@ use cp_strset::CodePointInversionListAndStringList;
 use prop_data::PropertyDatabase;
 use std::alloc::Global;
 use std::test::Fail;
-use uset_parse::{VariableMap, parse_with_variables};
+use uset_parse::{InsertError, VariableMap, parse_with_variables};
 
 /// The tables of the pattern syntax, for ASCII.
 const TABLES: &str = "set Pattern_White_Space\n9-D\n20\n\
@@ -49,8 +49,10 @@ fn shown(
 fn digraph(alloc: Global) -> Result<VariableMap, Fail> {
     let mut variables = VariableMap::new(alloc);
     let name = String::from_str(alloc, "digraph")?;
-    if variables.insert_str(name, "ch").is_err() {
-        return Err("the name is bound".into());
+    match variables.insert_str(name, "ch") {
+        Ok(()) => {}
+        Err(InsertError::Present(_)) => return Err("the name is bound".into()),
+        Err(InsertError::NoMemory) => return Err("there is no memory for it".into()),
     }
     Ok(variables)
 }

@@ -76,9 +76,11 @@ fn read_front<'v, 'd: 'v>(
 }
 
 /// Reads the pattern at the front of the source (UTS 35, Unicode Sets), with these variables, over the resolver's database. The
-/// answer is the set, and the number of bytes that were read; what follows them is free. Where one of the three tables of the
-/// syntax is absent from the database the fault is `Internal`, without a place; `NoMemory` says that a request for memory was
-/// refused. The lists that are made for properties are kept by the resolver: patterns that are read by one share them.
+/// answer is the set, and the number of bytes that were read; what follows them is free. The error is the source's one fault:
+/// its kind, and the byte offset of its place in the source, where it has one (`ParseError::kind`, `offset`). Where one of the
+/// three tables of the syntax is absent from the database that is `Internal`, without a place; `NoMemory` says that a request
+/// for memory was refused. The lists that are made for properties are kept by the resolver: patterns that are read by one share
+/// them.
 pub fn parse_with_resolver(
     alloc: Global,
     source: &str,
@@ -104,8 +106,9 @@ pub enum WholeSource {
     TextBehind(usize),
 }
 
-/// Reads a source that should be a pattern as a whole, as `parse_with_resolver` does. Where text stands behind the pattern, no
-/// set is made.
+/// Reads a source that should be a pattern as a whole, with these variables, over the resolver's database. The answer is the set,
+/// or where text stands behind the pattern the number of its bytes, and no set is made. The errors are those of
+/// `parse_with_resolver`.
 pub fn parse_whole_with_resolver(
     alloc: Global,
     source: &str,
@@ -124,7 +127,11 @@ pub fn parse_whole_with_resolver(
     Ok(WholeSource::Pattern(set))
 }
 
-/// The answer of `parse_with_resolver` with a new resolver over the database.
+/// Reads the pattern at the front of the source, with these variables, over the database. The answer is the set, and the number
+/// of bytes that were read; what follows them is free. The error is the source's one fault: its kind, and the byte offset of its
+/// place, where it has one; `Internal` without a place where a table of the syntax is absent, and `NoMemory` where a request for
+/// memory was refused. Who reads many patterns over one database reads them by `parse_with_resolver`, which keeps the lists that
+/// it makes for properties.
 pub fn parse_unstable_with_variables(
     alloc: Global,
     source: &str,
@@ -142,7 +149,8 @@ pub fn parse_unstable_with_variables(
     )
 }
 
-/// The answer of `parse_unstable_with_variables`.
+/// Reads the pattern at the front of the source, with these variables, over the database: the same call as
+/// `parse_unstable_with_variables`, by the name that the original has for data that is compiled in.
 pub fn parse_with_variables(
     alloc: Global,
     source: &str,
@@ -155,7 +163,9 @@ pub fn parse_with_variables(
     parse_unstable_with_variables(alloc, source, variable_map, database)
 }
 
-/// Reads the pattern at the front of the source, as `parse_unstable_with_variables` does where no variable is bound.
+/// Reads the pattern at the front of the source over the database, where no variable is bound. The answer is the set, and the
+/// number of bytes that were read; what follows them is free. The error is the source's one fault, as that of
+/// `parse_unstable_with_variables`.
 pub fn parse_unstable(
     alloc: Global,
     source: &str,
@@ -167,7 +177,8 @@ pub fn parse_unstable(
     parse_unstable_with_variables(alloc, source, &VariableMap::new(alloc), database)
 }
 
-/// The answer of `parse_unstable`.
+/// Reads the pattern at the front of the source over the database, where no variable is bound: the same call as
+/// `parse_unstable`, by the name that the original has for data that is compiled in.
 pub fn parse(
     alloc: Global,
     source: &str,

@@ -24,7 +24,8 @@ pub(crate) struct Later<'a> {
     places: Places,
     sets: Vec<Named<'a>>,
     steps: Vec<Step>,
-    /// About how much memory is kept, in ranges.
+    /// About how much memory the sets and the inner brackets take, in ranges. Ranges, strings and names said again aren't counted:
+    /// they take a few bytes for each byte of their text.
     kept: usize,
     /// Whether one of the sets is so large that the set of the bracket becomes a term.
     huge: bool,
