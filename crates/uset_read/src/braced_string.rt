@@ -127,7 +127,8 @@ fn read_pieces<'a>(
 
 /// Reads the string at the front of the text, which begins with its opening brace. The answer is the string and the text behind
 /// its closing brace. `Stop` says at which rest of the text which fault is, that the text ends inside the string, or that memory
-/// was refused.
+/// was refused. The grammar is kept to where the text begins so and white space has no hexadecimal digit, no `}` and no
+/// backslash, as that of patterns hasn't; elsewhere only the places and lengths are told.
 pub fn read_string<'a>(
     alloc: Global,
     white_space: &CodePointInversionList,

@@ -289,6 +289,8 @@ pub(crate) fn read_letter<'a>(
 
 /// Reads the escape at the front of the text, which begins with its backslash. The answer is what it spells and the text behind
 /// it. `Stop` says at which rest of the text which fault is, that the text ends inside the escape, or that memory was refused.
+/// The grammar is kept to where the text begins so and white space has no hexadecimal digit, no `}` and no backslash, as that of
+/// patterns hasn't; elsewhere only the places and lengths are told.
 pub fn read_escape<'a>(
     alloc: Global,
     white_space: &CodePointInversionList,

@@ -104,7 +104,7 @@ fn mark(form: Form) -> char
 fn is_nothing(text: &str) -> bool
     ensures { result ≡ is_nothing (chars text.now) }
 {
-    split_first(text).is_none()
+    text.is_empty()
 }
 
 /// Reads what stands behind the bracket in front of a property. The answer is true where a `^` does.
@@ -274,6 +274,8 @@ fn read_inner<'a>(
 /// Reads the property at the front of the text, which begins with `[:` or a backslash, up to its end
 /// mark, at which the rest begins. Whether it resolves comes before what closes it. The answer is how it is written, what it asks
 /// and the rest. `Stop` says at which rest of the text which fault is, that the text ends inside it, or that memory was refused.
+/// The grammar is kept to where the text begins so and white space has no `a`, as that of patterns hasn't; elsewhere only the
+/// places and lengths are told.
 pub fn read_property<'a>(
     alloc: Global,
     white_space: &CodePointInversionList,

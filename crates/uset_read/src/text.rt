@@ -34,10 +34,7 @@ pub(crate) fn take_first(text: &str) -> Result<(char, &str), Stop<'_>>
     ensures shorter { IfOk result (λ p. length p.1.now < length text.now) }
     ensures fewer { IfOk result (λ p. length (chars p.1.now) < length (chars text.now)) }
 {
-    match split_first(text) {
-        Some(parts) => Ok(parts),
-        None => Err(Stop::Ended),
-    }
+    split_first(text).ok_or(Stop::Ended)
 }
 
 /// Reads this character.

@@ -47,56 +47,54 @@ impl Arranged {
     ghost use Rattle.uset_reader.specs.declared.arrange.Awaits.TheVariants.{AfterSet as BehindSet};
 
     /// The item adds nothing in front.
-    fn goes_on(awaits: Awaits) -> Option<Arranged>
-        ensures { result ≡ Some (record { adds = None; operation = Join; awaits = awaits }) }
+    fn goes_on(awaits: Awaits) -> Arranged
+        ensures { result ≡ record { adds = None; operation = Join; awaits = awaits } }
     {
-        Some(Arranged {
+        Arranged {
             adds: None,
             operation: Operation::Join,
             awaits,
-        })
+        }
     }
 
     /// The range is added in front.
-    fn adds(first: CodePoint, last: CodePoint, awaits: Awaits) -> Option<Arranged>
-        ensures { result ≡ Some (record {
-          adds = Some
-              (record { start = number_of first; end = number_of last });
+    fn adds(first: CodePoint, last: CodePoint, awaits: Awaits) -> Arranged
+        ensures { result ≡ record {
+          adds = Some (record { start = number_of first; end = number_of last });
           operation = Join;
           awaits = awaits;
-        }) }
+        } }
     {
-        Some(Arranged {
+        Arranged {
             adds: Some(CodePointRange {
                 start: first.number(),
                 end: last.number(),
             }),
             operation: Operation::Join,
             awaits,
-        })
+        }
     }
 
     /// The one code point is added in front.
-    fn adds_one(only: CodePoint, awaits: Awaits) -> Option<Arranged>
-        ensures { result ≡ Some (record {
-          adds = Some
-              (record { start = number_of only; end = number_of only });
+    fn adds_one(only: CodePoint, awaits: Awaits) -> Arranged
+        ensures { result ≡ record {
+          adds = Some (record { start = number_of only; end = number_of only });
           operation = Join;
           awaits = awaits;
-        }) }
+        } }
     {
         Arranged::adds(only, only, awaits)
     }
 
     /// A set is gathered so.
-    fn gathers(operation: Operation) -> Option<Arranged>
-        ensures { result ≡ Some (record { adds = None; operation = operation; awaits = BehindSet }) }
+    fn gathers(operation: Operation) -> Arranged
+        ensures { result ≡ record { adds = None; operation = operation; awaits = BehindSet } }
     {
-        Some(Arranged {
+        Arranged {
             adds: None,
             operation,
             awaits: Awaits::AfterSet,
-        })
+        }
     }
 }
 
@@ -106,7 +104,7 @@ pub(crate) fn arranged_behind(awaits: Awaits, item: &Item<'_>) -> Option<Arrange
         Arranges (next (awaits_seen awaits) (item_seen meant item.now)) (item_seen meant item.now) result }
     ensures within { IfSome result (λ a. IfSome a.adds (λ r. r.end ≤ 0x10FFFF)) }
 {
-    match (awaits, item) {
+    let arranged = match (awaits, item) {
         (Awaits::Element, Item::Minus) => Arranged::goes_on(Awaits::End),
         (Awaits::AfterSingle(first), Item::Minus) => Arranged::goes_on(Awaits::RangeEnd(first)),
         (Awaits::AfterSet, Item::Minus) => Arranged::goes_on(Awaits::RemoveOrEnd),
@@ -132,6 +130,7 @@ pub(crate) fn arranged_behind(awaits: Awaits, item: &Item<'_>) -> Option<Arrange
         (Awaits::AfterSingle(first), Item::Set(_)) => Arranged::adds_one(first, Awaits::AfterSet),
         (Awaits::RemoveOrEnd, Item::Set(_)) => Arranged::gathers(Operation::Remove),
         (Awaits::Keep, Item::Set(_)) => Arranged::gathers(Operation::Retain),
-        _ => None,
-    }
+        _ => return None,
+    };
+    Some(arranged)
 }

@@ -55,9 +55,6 @@ impl CodePoint {
     pub(crate) fn as_character(self) -> char
         ensures { result ≡ as_character (number_of self) }
     {
-        match char::from_u32(self.number) {
-            Some(c) => c,
-            None => char::REPLACEMENT_CHARACTER,
-        }
+        char::from_u32(self.number).unwrap_or(char::REPLACEMENT_CHARACTER)
     }
 }

@@ -183,7 +183,7 @@ fn is_last_property(item: &Item<'_>, rest: &str) -> bool
         result ≡ is_last_property of_unit i (chars rest.now) }
 {
     match item {
-        Item::Set(_) => split_first(rest).is_none(),
+        Item::Set(_) => rest.is_empty(),
         _ => false,
     }
 }
@@ -286,9 +286,9 @@ fn close<'v, 'a>(
     let Some(set) = inner.close(alloc)? else {
         return Err(fault_at(cursor, ParseErrorKind::UnexpectedChar(']'), text));
     };
-    let Some(_) = split_first(rest) else {
+    if rest.is_empty() {
         return Err(ParseErrorKind::Eof.into());
-    };
+    }
     match bracket.take(alloc, Item::Set(Operand::Inner(set)))? {
         Taken::Fits => Ok(Progress::GoesOn(rest)),
         _ => Err(ParseError::at(ParseErrorKind::UnexpectedChar('['), before)),

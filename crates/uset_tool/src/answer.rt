@@ -11,7 +11,7 @@ ghost use Rattle.uset_tool.specs.Answer.{code_point_text, range_text, linked, st
 
 use cp_invlist::{CodePointInversionList, CodePointRange, NoMemory};
 use cp_strset::CodePointInversionListAndStringList;
-use std::alloc::{AllocError, Global};
+use std::alloc::Global;
 use std::fmt::Write;
 use uset_parse::{ParseError, ParseErrorKind, Resolver, VariableMap, parse_with_resolver};
 
@@ -110,7 +110,7 @@ fn answer_read(
 }
 
 /// The answer that says why a line is not answered otherwise.
-pub(crate) fn answer_err(alloc: Global, words: &str) -> Result<Answer, AllocError>
+pub(crate) fn answer_err(alloc: Global, words: &str) -> Result<Answer, NoMemory>
     ensures text { IfOk result (λ a. string_bytes a.text ≡ codes "err " ++ (words.now ++ line_end)) }
     ensures err { IfOk result (λ a. a.is_err ≡ true) }
 {
@@ -130,7 +130,7 @@ pub(crate) fn answer_fault(
         return Err(NoMemory);
     }
     let words = error.fmt_with_source(alloc, source)?;
-    Ok(answer_err(alloc, &words)?)
+    answer_err(alloc, &words)
 }
 
 /// The answer to a pattern.

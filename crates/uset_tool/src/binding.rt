@@ -165,6 +165,6 @@ pub(crate) fn answer_line(
         Line::Binding(name, definition) => answer_binding(
             alloc, name, definition, variables, resolver,
         ),
-        Line::Bad => Ok(answer_err(alloc, "bad line")?),
+        Line::Bad => answer_err(alloc, "bad line"),
     }
 }

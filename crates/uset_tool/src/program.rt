@@ -109,8 +109,7 @@ fn answer<K: Sink>(alloc: Global, script: &str, database: &PropertyDatabase, sin
     ensures counted { K.faults sink.new ≡ count_after (is_write_fault result) (K.faults sink.old) }
 {
     match answer_script(alloc, script, database, sink) {
-        Ok(false) => Status::Done,
-        Ok(true) => Status::SomeErr,
+        Ok(some_err) => status_of(some_err),
         Err(WriteError::Failed) => Status::WriteFault,
         Err(WriteError::NoMemory) => Status::NoMemory,
     }
