@@ -1,12 +1,12 @@
 //! Keys of the properties whose values have names, and the words for truth and falsehood.
-ghost use Rattle.std.specs.Prelude.{◌≡◌, ◌||◌, IfOk, find, option_map};
+ghost use Rattle.std.specs.Prelude.{◌≡◌, ◌||◌, find, map, option_map};
+ghost use Rattle.std.specs.Char.{to_ascii_lowercase};
+ghost use Rattle.std.specs.List.{list_any};
 ghost use Rattle.std.specs.Str.{bytes_eq};
-ghost use Rattle.uset_resolve.specs.Keys.{folded, asked_by, key_of, falsy};
+ghost use Rattle.uset_resolve.specs.Keys.{folded, key_of, falsy};
 ghost use Rattle.uset_resolve.specs.Sources.{AreKeys};
 
-use cp_invlist::NoMemory;
 use prop_values::{MapTable, NamesTable};
-use std::alloc::Global;
 
 /// What the value behind a key names.
 #[derive(Clone, Copy)]
@@ -27,11 +27,12 @@ struct NamedKey {
 }
 
 impl NamedKey {
-    /// Whether the text is one of the names.
-    fn has_name(&self, text: &[u8]) -> bool
-        ensures { result ≡ (bytes_eq self.now.long.now text.now || bytes_eq self.now.short.now text.now) }
+    /// Whether the key has one of the names.
+    fn has_name(&self, key: &[u8]) -> bool
+        ensures { result ≡ (bytes_eq self.now.long.now (folded key.now)
+            || bytes_eq self.now.short.now (folded key.now)) }
     {
-        self.long == text || self.short == text
+        is_folding(self.long, key) || is_folding(self.short, key)
     }
 }
 
@@ -104,59 +105,68 @@ const KEYS: [NamedKey; 11] = [
 ];
 
 /// The words for a binary property that a code point has.
-const TRUE: [&[u8]; 4] = [b"true", b"t", b"yes", b"y"];
+const TRUE: [&str; 4] = ["true", "t", "yes", "y"];
 
 /// The words for one that it lacks.
-const FALSE: [&[u8]; 4] = [b"false", b"f", b"no", b"n"];
+const FALSE: [&str; 4] = ["false", "f", "no", "n"];
 
-/// The key in lower case, without `_`.
-fn folded(alloc: Global, key: &[u8]) -> Result<Vec<u8>, NoMemory>
-    ensures { IfOk result (λ v. v.items ≡ folded key.now) }
+/// Whether the name is the key in lower case, without `_`. The key is folded as it is compared.
+fn is_folding(name: &[u8], key: &[u8]) -> bool
+    ensures { result ≡ bytes_eq name.now (folded key.now) }
 {
-    let mut folded = Vec::new(alloc);
+    let mut rest = name;
     for byte in key {
-        if *byte != b'_' {
-            folded.push(byte.to_ascii_lowercase())?;
+        if *byte == b'_' {
+            continue;
+        }
+        match rest.split_first() {
+            Some((first, behind)) if *first == byte.to_ascii_lowercase() => rest = behind,
+            _ => return false,
         }
     }
-    Ok(folded)
+    rest.is_empty()
 }
 
 /// What the first of the keys with this name asks.
-fn first_named(keys: &[NamedKey], name: &[u8]) -> Option<Key>
+fn first_named(keys: &[NamedKey], key: &[u8]) -> Option<Key>
     ensures { result ≡ option_map (λ k. k.key)
-        (find (λ k. bytes_eq k.long.now name.now || bytes_eq k.short.now name.now) keys.now) }
+        (find (λ k. bytes_eq k.long.now (folded key.now) || bytes_eq k.short.now (folded key.now)) keys.now) }
 {
-    let named = keys.iter().find(|named| named.has_name(name))?;
+    let named = keys.iter().find(|named| named.has_name(key))?;
     Some(named.key)
 }
 
-/// What the key with this name, folded, asks.
-fn key_named(name: &[u8]) -> Option<Key>
-    ensures { AreKeys result (asked_by name.now) }
+/// What a key asks, where its values have names.
+pub(crate) fn key_of(key: &[u8]) -> Option<Key>
+    ensures { AreKeys result (key_of key.now) }
 {
-    first_named(&KEYS, name)
+    first_named(&KEYS, key)
 }
 
-/// What a key asks, where its values have names.
-pub(crate) fn key_of(alloc: Global, key: &[u8]) -> Result<Option<Key>, NoMemory>
-    ensures { IfOk result (λ k. AreKeys k (key_of key.now)) }
+/// Whether the words are the same, ASCII case ignored.
+fn is_same_word(one: &str, other: &str) -> bool
+    ensures { result ≡ bytes_eq (map to_ascii_lowercase one.now) (map to_ascii_lowercase other.now) }
 {
-    let name = folded(alloc, key)?;
-    Ok(key_named(&name))
+    one.eq_ignore_ascii_case(other)
+}
+
+/// Whether the word is one of these, ASCII case ignored.
+fn is_one_of(words: &[&str], word: &str) -> bool
+    ensures { result ≡
+        list_any (λ w. bytes_eq (map to_ascii_lowercase w.now) (map to_ascii_lowercase word.now)) words.now }
+{
+    words.iter().any(|known| is_same_word(known, word))
 }
 
 /// Whether the word stands for falsehood. `None` where it is no word for that or for truth, ASCII case ignored.
-pub(crate) fn falsy(alloc: Global, word: &[u8]) -> Result<Option<bool>, NoMemory>
-    ensures { IfOk result (λ f. f ≡ falsy word.now) }
+pub(crate) fn falsy(word: &str) -> Option<bool>
+    ensures { result ≡ falsy word.now }
 {
-    let lower = word.to_ascii_lowercase(alloc)?;
-    let lower = lower.as_slice();
-    if TRUE.contains(&lower) {
-        return Ok(Some(false));
+    if is_one_of(&TRUE, word) {
+        return Some(false);
     }
-    if FALSE.contains(&lower) {
-        return Ok(Some(true));
+    if is_one_of(&FALSE, word) {
+        return Some(true);
     }
-    Ok(None)
+    None
 }

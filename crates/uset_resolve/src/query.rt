@@ -24,13 +24,15 @@ pub enum Resolution<'a> {
         /// Whether the value is a word for falsehood, which negates.
         falsy: bool,
     },
-    /// Nothing.
+    /// Nothing, for any other reason than `Lacking`'s: a table of another property than Block may be absent.
     Unknown,
-    /// A table is absent that the key and the value ask for.
+    /// Nothing, since Block is asked for a value and a table is absent: that of the names of blocks; or the map of
+    /// blocks, where the value is the name of one or a decimal number of at most 65535.
     Lacking,
 }
 
-/// Whether the names of blocks are absent, or the value is a block and the map of blocks is absent.
+/// Whether a table is absent that a value of Block asks for: that of the names of blocks; or the map of blocks, where
+/// the value is the name of one or a decimal number of at most 65535.
 fn lacks_block(database: &PropertyDatabase, value: &str) -> bool
     ensures { result ≡ lacks_block (tables_of database.now) value.now }
 {
@@ -39,7 +41,7 @@ fn lacks_block(database: &PropertyDatabase, value: &str) -> bool
             && database.map(MapTable::BLOCK).is_none())
 }
 
-/// Whether a table is absent that the key and the value ask for.
+/// Whether Block is asked for the value, and a table is absent that the value asks for.
 fn lacks_table(database: &PropertyDatabase, key: &Key, value: &str) -> bool
     ensures { (k : Asked) → IsKey key.now k → result ≡ lacks_for (tables_of database.now) value.now (Some k) }
 {
@@ -51,23 +53,18 @@ fn lacks_table(database: &PropertyDatabase, key: &Key, value: &str) -> bool
 
 impl<'a> Resolver<'a> {
     /// What a key resolves to with a word for truth or falsehood.
-    fn resolve_word(
-        &self,
-        alloc: Global,
-        key: &str,
-        value: &str,
-    ) -> Result<Resolution<'a>, NoMemory>
-        ensures { IfOk result (λ r. IsResolution r (of_word (tables_of self.now) key.now value.now) false) }
+    fn resolve_word(&self, key: &str, value: &str) -> Resolution<'a>
+        ensures { IsResolution result (of_word (tables_of self.now) key.now value.now) false }
     {
-        let Some(falsy) = falsy(alloc, value.as_bytes())? else {
-            return Ok(Resolution::Unknown);
+        let Some(falsy) = falsy(value) else {
+            return Resolution::Unknown;
         };
         match of_binary(self.database, key.as_bytes()) {
-            Some(set) => Ok(Resolution::Found {
+            Some(set) => Resolution::Found {
                 source: Source::Lent(set),
                 falsy,
-            }),
-            None => Ok(Resolution::Unknown),
+            },
+            None => Resolution::Unknown,
         }
     }
 
@@ -81,8 +78,8 @@ impl<'a> Resolver<'a> {
         ensures resolved { IfOk result (ResolvesTo (tables_of self.old) key.now (Some value.now)) }
         ensures same { self.new ≡ self.old }
     {
-        let Some(asked) = key_of(alloc, key.as_bytes())? else {
-            return self.resolve_word(alloc, key, value);
+        let Some(asked) = key_of(key.as_bytes()) else {
+            return Ok(self.resolve_word(key, value));
         };
         match self.of_value(alloc, &asked, value)? {
             Some(source) => Ok(Resolution::Found {
