@@ -9,7 +9,7 @@ use crate::value::{KeptValue, VariableString, VariableValue};
 use cp_invlist::NoMemory;
 use cp_strset::CodePointInversionListAndStringList;
 use cp_strset_terms::{NumberSet, StringNumbers};
-use std::alloc::Global;
+use std::alloc::{AllocError, Global};
 use std::collections::BTreeMap;
 
 /// Why a name is not bound anew.
@@ -19,6 +19,26 @@ pub enum InsertError<'a> {
     Present(&'a VariableValue),
     /// A request for memory was refused.
     NoMemory,
+}
+
+impl<'a> From<NoMemory> for InsertError<'a> {
+    ghost use Rattle.uset_variables.specs.declared.map.InsertError.TheVariants.{NoMemory as OutOfMemory};
+
+    ghost from_gives = { λ _ error. error ≡ OutOfMemory };
+
+    fn from(_error: NoMemory) -> InsertError<'a> {
+        InsertError::NoMemory
+    }
+}
+
+impl<'a> From<AllocError> for InsertError<'a> {
+    ghost use Rattle.uset_variables.specs.declared.map.InsertError.TheVariants.{NoMemory as OutOfMemory};
+
+    ghost from_gives = { λ _ error. error ≡ OutOfMemory };
+
+    fn from(_error: AllocError) -> InsertError<'a> {
+        InsertError::NoMemory
+    }
 }
 
 /// A map from the names of variables to their values. A string of exactly one character is kept as that character. For names
@@ -64,10 +84,7 @@ impl VariableMap {
         ensures value { option_copied result ≡ bound self.now key.now }
         ensures kept { IfSome result (λ v. is_kept v.now ≡ true) }
     {
-        match self.values.get(key) {
-            Some(kept) => Some(kept.as_value()),
-            None => None,
-        }
+        self.values.get(key).map(KeptValue::as_value)
     }
 
     /// Binds the name to the value, where it is bound to nothing. A string of exactly one character is kept as that
@@ -80,10 +97,8 @@ impl VariableMap {
         if self.get(key.as_str()).is_some() {
             return Err(self.refusal(key.as_str()));
         }
-        match self.bind(key, KeptValue::new(value)) {
-            Ok(()) => Ok(()),
-            Err(NoMemory) => Err(InsertError::NoMemory),
-        }
+        self.bind(key, KeptValue::new(value))?;
+        Ok(())
     }
 
     /// Binds the name to a character, as `insert`.
@@ -107,10 +122,11 @@ impl VariableMap {
         ensures* ends { sem 𝓛 (EndsInserted self.entry (string_bytes key) (kept (Spelled s.now)) result) }
         ensures present { present_in result ≡ bound self.old (string_bytes key) }
     {
-        match String::from_str(*key.allocator(), s) {
-            Ok(text) => self.insert_string(key, text),
-            Err(_) => Err(self.refusal(key.as_str())),
+        if self.get(key.as_str()).is_none() {
+            let text = String::from_str(*key.allocator(), s)?;
+            return self.insert_string(key, text);
         }
+        Err(self.refusal(key.as_str()))
     }
 
     /// Binds the name to a set, as `insert`.
@@ -126,6 +142,7 @@ impl VariableMap {
     }
 
     /// Frees the name. The answer is the value that it was bound to, as it was kept, and `None` where it was bound to nothing.
+    /// Strings that got numbers by `index` keep them for good: the map holds these strings until it is let go itself.
     pub fn remove(&mut self, key: &str) -> Option<VariableValue>
         ensures value { result ≡ bound self.old key.now }
         ensures kept { IfSome result (λ v. is_kept v ≡ true) }
@@ -135,10 +152,7 @@ impl VariableMap {
         ensures strings { numbered_strings self.new ≡ numbered_strings self.old }
     {
         let _ = self.indices.remove(key);
-        match self.values.remove(key) {
-            Some(kept) => Some(kept.into_value()),
-            None => None,
-        }
+        self.values.remove(key).map(KeptValue::into_value)
     }
 
     /// Numbers the strings of the set that the name is bound to, where there are at least 64 or they have at least 4,096 bytes
@@ -153,6 +167,9 @@ impl VariableMap {
             || is_some (numbers_at self.old name))) }
         ensures err { OnErr result ((name : List ℕ) → numbers_at self.new name ≡ numbers_at self.old name) }
     {
+        if self.indices.contains_key(key) {
+            return Ok(());
+        }
         let Some(kept) = self.values.get(key) else {
             return Ok(());
         };

@@ -16,17 +16,12 @@ invariant_of-self c = record {
       (btree_map_updates_text c.args.key.now c.args.self.now.values c.remove-2.new.self None c.remove-2.ensures.updates));
 }
 
-pub returns-in-Some-clause-removes : goal.returns-in-Some-clause-removes
-returns-in-Some-clause-removes c = λ name.
+pub returns-clause-removes : goal.returns-clause-removes
+returns-clause-removes c = λ name.
     ap (λ kept. option_map (λ k. k.value) kept) (btree_map_updates_text c.args.key.now c.args.self.now.values c.remove-2.new.self None c.remove-2.ensures.updates name)
     ∙ option_map-cond (λ k. k.value) (bytes_eq c.args.key.now name) None (get_by_text c.args.self.now.values name)
 
-pub returns-in-Some-clause-numbers : goal.returns-in-Some-clause-numbers
-returns-in-Some-clause-numbers c = λ name.
-    ap (λ index. option_map (λ i. i.numbers) index) (btree_map_updates_text c.args.key.now c.args.self.now.indices c.remove.new.self None c.remove.ensures.updates name)
-    ∙ option_map-cond (λ i. i.numbers) (bytes_eq c.args.key.now name) None (get_by_text c.args.self.now.indices name)
-
-pub returns-in-None-clause-numbers : goal.returns-in-None-clause-numbers
-returns-in-None-clause-numbers c = λ name.
+pub returns-clause-numbers : goal.returns-clause-numbers
+returns-clause-numbers c = λ name.
     ap (λ index. option_map (λ i. i.numbers) index) (btree_map_updates_text c.args.key.now c.args.self.now.indices c.remove.new.self None c.remove.ensures.updates name)
     ∙ option_map-cond (λ i. i.numbers) (bytes_eq c.args.key.now name) None (get_by_text c.args.self.now.indices name)
