@@ -22,8 +22,8 @@ pub enum ParseErrorKind {
     /// The source ends where more is due.
     #[error("The source is an incomplete unicode set.")]
     Eof,
-    /// A table of the syntax is absent from the database, or of a property that asks for Block with a value the names of blocks
-    /// are, or the map of blocks where the value is the name of one.
+    /// A table is absent from the database: one of the syntax; or, where a property asks Block for a value, that of the
+    /// names of blocks, or the map of blocks, where the value is the name of one or a decimal number of at most 65535.
     #[error("Something unexpected went wrong with our code. Please file a bug report on GitHub.")]
     Internal,
     /// `\N`, which isn't read.
@@ -69,8 +69,9 @@ impl ParseError {
         self.kind
     }
 
-    /// The place of the fault, as a byte offset into the source. It has none where more is due at the end, where a table of
-    /// the syntax is absent, and where memory was refused.
+    /// The place of the fault, as a byte offset into the source. What `at` made has one, and what was made of a kind
+    /// alone has none. An error of the reader has none where more is due at the end, where a table of the syntax is
+    /// absent, and where memory was refused.
     pub fn offset(&self) -> Option<usize>
         ensures { result ≡ offset_in self.now }
     {
