@@ -16,7 +16,7 @@ use std::alloc::Global;
 use uset_grammar::laws::units_by_parts;
 
 /// How a property is written.
-#[derive(Clone, Copy, Drop)]
+#[derive(Clone, Copy, PartialEq, Eq, Debug, Drop)]
 pub enum Form {
     /// `[:..:]`.
     Posix,

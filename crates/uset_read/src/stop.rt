@@ -3,7 +3,7 @@ use cp_invlist::NoMemory;
 use std::alloc::AllocFailed;
 
 /// What is wrong at a place.
-#[derive(Clone, Copy, Drop)]
+#[derive(Clone, Copy, PartialEq, Eq, Debug, Drop)]
 pub enum Kind {
     /// The character can't stand there.
     UnexpectedChar(char),
