@@ -9,7 +9,7 @@ use std::alloc::Global;
 use std::process::Abort;
 use uset_read::{
     Around, Cursor, Form, Kind, Query, Spelled, Stop, close_property, read_escape, read_name,
-    read_property, read_string,
+    read_property, read_string, skip_white_space, split_first,
 };
 
 /// White space of patterns.
@@ -38,37 +38,55 @@ fn assert_rows_of_list<R: Row<CodePointInversionList>>(
     assert_equal(rt, first_wrong_of_list(alloc, list, rows), Ok(None));
 }
 
-/// Whether the escape spells so many numbers, the first of which this is, or this character where the count is 0.
-fn spells(spelled: &Spelled, first: u32, count: usize) -> bool {
-    match spelled {
-        Spelled::Itself(c) => count == 0 && *c as u32 == first,
-        Spelled::Numbers(number, more) => {
-            *number == first && count != 0 && more.len() == count - 1
+/// What an escape spells, as a constant can have it.
+#[derive(Clone, Copy)]
+enum Spelling {
+    /// A character, by itself or by its letter.
+    Itself(char),
+    /// Numbers: the first, and those behind it.
+    Numbers(u32, &'static [u32]),
+}
+
+/// Whether the escape spells this.
+fn spells(spelled: &Spelled, expected: Spelling) -> bool {
+    match (spelled, expected) {
+        (Spelled::Itself(c), Spelling::Itself(expected)) => *c == expected,
+        (Spelled::Numbers(number, more), Spelling::Numbers(first, behind)) => {
+            *number == first && more.as_slice() == behind
         }
+        _ => false,
     }
 }
 
-/// A text, the first number or the character that the escape in front spells, the count of the numbers, and the text
-/// behind the escape.
-type Escape = (&'static str, u32, usize, &'static str);
+/// A text, what the escape in front spells, and the text behind the escape.
+type Escape = (&'static str, Spelling, &'static str);
 
 impl Row<CodePointInversionList> for Escape {
     fn holds(&self, alloc: Global, white_space: &CodePointInversionList) -> bool {
-        let (text, first, count, rest) = *self;
+        let (text, expected, rest) = *self;
         match read_escape(alloc, white_space, Around::Bracket { several: true }, text) {
-            Ok((spelled, behind)) => behind == rest && spells(&spelled, first, count),
+            Ok((spelled, behind)) => behind == rest && spells(&spelled, expected),
             Err(_) => false,
         }
     }
 }
 
 const ESCAPES: &[Escape] = &[
-    ("\\u0041]", 0x41, 1, "]"),
-    ("\\x{ 61 0062   63 }-", 0x61, 3, "-"),
-    ("\\U0010FFFFx", 0x10_FFFF, 1, "x"),
-    ("\\u{d800}", 0xD800, 1, ""),
-    ("\\n]", 0xA, 0, "]"),
-    ("\\ ]", 0x20, 0, "]"),
+    ("\\u0041]", Spelling::Numbers(0x41, &[]), "]"),
+    (
+        "\\x{ 61 0062   63 }-",
+        Spelling::Numbers(0x61, &[0x62, 0x63]),
+        "-",
+    ),
+    (
+        "\\u{10FFFF d800 0}",
+        Spelling::Numbers(0x10_FFFF, &[0xD800, 0]),
+        "",
+    ),
+    ("\\U0010FFFFx", Spelling::Numbers(0x10_FFFF, &[]), "x"),
+    ("\\u{d800}", Spelling::Numbers(0xD800, &[]), ""),
+    ("\\n]", Spelling::Itself('\n'), "]"),
+    ("\\ ]", Spelling::Itself(' '), "]"),
 ];
 
 #[test]
@@ -76,21 +94,11 @@ fn escapes_are_read(rt: HostRuntime) {
     assert_rows_of_list(&rt, rt.alloc(), SPACES, ESCAPES);
 }
 
-/// The character of an unexpected character, and a letter for each other kind.
-fn letter_of(kind: Kind) -> char {
-    match kind {
-        Kind::UnexpectedChar(c) => c,
-        Kind::Unimplemented => 'U',
-        Kind::InvalidEscape => 'E',
-        Kind::UnknownProperty | Kind::Internal => '?',
-    }
-}
-
 /// Why a unit is not read.
 #[derive(Clone, Copy)]
 enum Why {
-    /// It has a fault of the kind with this letter, at this place in bytes.
-    Fault(char, usize),
+    /// It has a fault of this kind, at this place in bytes.
+    Fault(Kind, usize),
     /// The text ends inside it.
     Ended,
 }
@@ -100,8 +108,8 @@ fn is_stopped(cursor: Cursor<'_>, stop: Stop<'_>, why: Why) -> bool
     requires { left_at stop ≤ length (left_of cursor) }
 {
     match (stop, why) {
-        (Stop::Fault(kind, rest), Why::Fault(letter, offset)) => {
-            letter_of(kind) == letter && cursor.at(rest).offset() == offset
+        (Stop::Fault(kind, rest), Why::Fault(expected, offset)) => {
+            kind == expected && cursor.at(rest).offset() == offset
         }
         (Stop::Ended, Why::Ended) => true,
         _ => false,
@@ -156,15 +164,43 @@ const IN_RANGE: Unit = Unit::Escape(Around::Bracket { several: false });
 const IN_STRING: Unit = Unit::Escape(Around::String);
 
 const STOPPED_ESCAPES: &[Stopped] = &[
-    (IN_BRACKET, "\\xag", Why::Fault('g', 3)),
-    (IN_BRACKET, "\\x{}", Why::Fault('}', 3)),
-    (IN_BRACKET, "\\x{10ffff0}", Why::Fault('0', 9)),
-    (IN_RANGE, "\\u{41 42}", Why::Fault('\\', 0)),
-    (IN_BRACKET, "\\x{dabeef}", Why::Fault('E', 8)),
-    (IN_BRACKET, "\\N{DASH}", Why::Fault('U', 1)),
-    (IN_STRING, "\\uD800", Why::Fault('E', 0)),
-    (IN_STRING, "\\u{D800 62}", Why::Fault('E', 0)),
-    (IN_STRING, "\\x{61 D800}", Why::Fault('E', 6)),
+    (
+        IN_BRACKET,
+        "\\xag",
+        Why::Fault(Kind::UnexpectedChar('g'), 3),
+    ),
+    (
+        IN_BRACKET,
+        "\\x{}",
+        Why::Fault(Kind::UnexpectedChar('}'), 3),
+    ),
+    (
+        IN_BRACKET,
+        "\\x{10ffff0}",
+        Why::Fault(Kind::UnexpectedChar('0'), 9),
+    ),
+    (
+        IN_RANGE,
+        "\\u{41 42}",
+        Why::Fault(Kind::UnexpectedChar('\\'), 0),
+    ),
+    (
+        IN_BRACKET,
+        "\\x{dabeef}",
+        Why::Fault(Kind::InvalidEscape, 8),
+    ),
+    (IN_BRACKET, "\\N{DASH}", Why::Fault(Kind::Unimplemented, 1)),
+    (IN_STRING, "\\uD800", Why::Fault(Kind::InvalidEscape, 0)),
+    (
+        IN_STRING,
+        "\\u{D800 62}",
+        Why::Fault(Kind::InvalidEscape, 0),
+    ),
+    (
+        IN_STRING,
+        "\\x{61 D800}",
+        Why::Fault(Kind::InvalidEscape, 6),
+    ),
     (IN_STRING, "\\", Why::Ended),
     (IN_STRING, "\\u", Why::Ended),
     (IN_STRING, "\\u{", Why::Ended),
@@ -178,11 +214,91 @@ fn a_fault_of_an_escape_has_one_place(rt: HostRuntime) {
     assert_rows_of_list(&rt, rt.alloc(), SPACES, STOPPED_ESCAPES);
 }
 
+/// A source, what is left of it, and where that begins and the last character in front of it, in bytes.
+type Placed = (&'static str, &'static str, usize, usize);
+
+impl Row<()> for Placed {
+    fn holds(&self, _alloc: Global, _lent: &()) -> bool {
+        let (source, rest, offset, last) = *self;
+        if rest.len() >= source.len() {
+            return false;
+        }
+        let cursor = Cursor::new(source).at(rest);
+        cursor.rest() == rest && cursor.offset() == offset && cursor.last_offset() == last
+    }
+}
+
+const PLACED: &[Placed] = &[
+    ("ä]", "]", 2, 0),
+    ("ä]", "", 3, 2),
+    ("aä", "", 3, 1),
+    ("[\u{1F600}]", "]", 5, 1),
+    ("[\u{2260}a", "a", 4, 1),
+];
+
 #[test]
 fn a_cursor_counts_bytes(rt: HostRuntime) {
+    assert_rows(&rt, rt.alloc(), PLACED);
+}
+
+#[test]
+fn a_new_cursor_stands_in_front(rt: HostRuntime) {
     let cursor = Cursor::new("ä]");
-    let found = (cursor.offset(), cursor.rest(), cursor.at("]").offset());
-    assert_equal(&rt, found, (0, "ä]", 2));
+    assert_equal(&rt, (cursor.offset(), cursor.rest()), (0, "ä]"));
+}
+
+/// A text, and its first character and the text behind that, if it has one.
+type Split = (&'static str, Option<(char, &'static str)>);
+
+impl Row<()> for Split {
+    fn holds(&self, _alloc: Global, _lent: &()) -> bool {
+        let (text, expected) = *self;
+        split_first(text) == expected
+    }
+}
+
+const SPLIT: &[Split] = &[
+    ("ab", Some(('a', "b"))),
+    ("ä]", Some(('ä', "]"))),
+    ("\u{1F600}", Some(('\u{1F600}', ""))),
+    (" a", Some((' ', "a"))),
+    ("", None),
+];
+
+#[test]
+fn a_text_is_split_behind_its_first_character(rt: HostRuntime) {
+    assert_rows(&rt, rt.alloc(), SPLIT);
+}
+
+/// An inversion list of white space, a text, and the text without that in front.
+type Skipped = (&'static [u32], &'static str, &'static str);
+
+impl Row<()> for Skipped {
+    fn holds(&self, alloc: Global, _lent: &()) -> bool {
+        let (list, text, rest) = *self;
+        match CodePointInversionList::try_from_inversion_list(alloc, list) {
+            Ok(white_space) => skip_white_space(&white_space, text) == rest,
+            Err(_) => false,
+        }
+    }
+}
+
+const SKIPPED: &[Skipped] = &[
+    (SPACES, "a b", "a b"),
+    (SPACES, " \t\r\na b ", "a b "),
+    // no-break and ideographic spaces are none of patterns
+    (SPACES, "\u{85}\u{200E}\u{2029}\u{A0}", "\u{A0}"),
+    (SPACES, "\u{2028}\u{3000} ", "\u{3000} "),
+    (SPACES, "  ", ""),
+    (SPACES, "", ""),
+    (&[], " a", " a"),
+    (&[0x61, 0x62], "aab a", "b a"),
+    (&[0, 0x11_0000], "ä \u{10FFFF}", ""),
+];
+
+#[test]
+fn white_space_in_front_is_skipped(rt: HostRuntime) {
+    assert_rows(&rt, rt.alloc(), SKIPPED);
 }
 
 /// A text, the characters of the string in front, and the text behind the string.
@@ -211,12 +327,36 @@ fn strings_are_read(rt: HostRuntime) {
 }
 
 const STOPPED_STRINGS: &[Stopped] = &[
-    (Unit::String, "{\\uD800}", Why::Fault('E', 1)),
-    (Unit::String, "{a\\x{61 D800g}", Why::Fault('E', 8)),
-    (Unit::String, "{a\\x{61 62g}", Why::Fault('g', 10)),
-    (Unit::String, "{{\\udFFF ]", Why::Fault('E', 2)),
-    (Unit::String, "{ab\\N{DASH}}", Why::Fault('U', 4)),
-    (Unit::String, "{\\u{65}\\xag}", Why::Fault('g', 10)),
+    (
+        Unit::String,
+        "{\\uD800}",
+        Why::Fault(Kind::InvalidEscape, 1),
+    ),
+    (
+        Unit::String,
+        "{a\\x{61 D800g}",
+        Why::Fault(Kind::InvalidEscape, 8),
+    ),
+    (
+        Unit::String,
+        "{a\\x{61 62g}",
+        Why::Fault(Kind::UnexpectedChar('g'), 10),
+    ),
+    (
+        Unit::String,
+        "{{\\udFFF ]",
+        Why::Fault(Kind::InvalidEscape, 2),
+    ),
+    (
+        Unit::String,
+        "{ab\\N{DASH}}",
+        Why::Fault(Kind::Unimplemented, 4),
+    ),
+    (
+        Unit::String,
+        "{\\u{65}\\xag}",
+        Why::Fault(Kind::UnexpectedChar('g'), 10),
+    ),
     (Unit::String, "{a", Why::Ended),
 ];
 
@@ -261,10 +401,11 @@ fn asks(query: &Query, negated: bool, key: &str, value: Option<&str>) -> bool {
     query.negated == negated && query.key.as_str() == key && query.value.as_deref() == value
 }
 
-/// A text, what the property in front asks (whether it is negated, its key and its value), and the text from its end
-/// mark on.
+/// A text, how the property in front is written, what it asks (whether it is negated, its key and its value), and the
+/// text from its end mark on.
 type Asked = (
     &'static str,
+    Form,
     bool,
     &'static str,
     Option<&'static str>,
@@ -273,25 +414,43 @@ type Asked = (
 
 impl Row<CodePointInversionList> for Asked {
     fn holds(&self, alloc: Global, white_space: &CodePointInversionList) -> bool {
-        let (text, negated, key, value, rest) = *self;
+        let (text, form, negated, key, value, rest) = *self;
         match read_property(alloc, white_space, text) {
-            Ok((_, query, at)) => at == rest && asks(&query, negated, key, value),
+            Ok((written, query, at)) => {
+                written == form && at == rest && asks(&query, negated, key, value)
+            }
             Err(_) => false,
         }
     }
 }
 
 const PROPERTIES: &[Asked] = &[
-    ("[:^AHex≠True:]", false, "AHex", Some("True"), ":]"),
-    ("\\p{AHex≠False}", true, "AHex", Some("False"), "}"),
+    (
+        "[:^AHex≠True:]",
+        Form::Posix,
+        false,
+        "AHex",
+        Some("True"),
+        ":]",
+    ),
+    (
+        "\\p{AHex≠False}",
+        Form::Perl,
+        true,
+        "AHex",
+        Some("False"),
+        "}",
+    ),
     (
         "[:gc=lower-case-letter:]",
+        Form::Posix,
         false,
         "gc",
         Some("lower-case-letter"),
         ":]",
     ),
-    ("\\P{ L l }]", true, "Ll", None, "}]"),
+    ("\\P{ L l }]", Form::Perl, true, "Ll", None, "}]"),
+    ("[:^L:]", Form::Posix, true, "L", None, ":]"),
 ];
 
 #[test]
@@ -299,25 +458,25 @@ fn properties_are_read(rt: HostRuntime) {
     assert_rows_of_list(&rt, rt.alloc(), SPACES, PROPERTIES);
 }
 
-const SIGNED: &[Asked] = &[("\\p{A≠Hex}", false, "AHex", None, "}")];
+const SIGNED: &[Asked] = &[("\\p{A≠Hex}", Form::Perl, false, "AHex", None, "}")];
 
 #[test]
 fn a_sign_that_is_white_space_is_dropped(rt: HostRuntime) {
     assert_rows_of_list(&rt, rt.alloc(), &[0x2260, 0x2261], SIGNED);
 }
 
-/// The character that can't close the property, if there is one, and the text behind what closes it or from that character
-/// on. `None` where the text ends.
-fn closed(form: Form, text: &str) -> Option<(Option<char>, &str)> {
+/// Why the property can't be closed, if there is a fault, and the text behind what closes it or from the fault on. `None`
+/// where the text ends.
+fn closed(form: Form, text: &str) -> Option<(Option<Kind>, &str)> {
     match close_property(form, text) {
         Ok(rest) => Some((None, rest)),
-        Err(Stop::Fault(kind, rest)) => Some((Some(letter_of(kind)), rest)),
+        Err(Stop::Fault(kind, rest)) => Some((Some(kind), rest)),
         Err(_) => None,
     }
 }
 
 /// How a property is written, what follows it, and how that closes it, as `closed` tells.
-type Closed = (Form, &'static str, Option<(Option<char>, &'static str)>);
+type Closed = (Form, &'static str, Option<(Option<Kind>, &'static str)>);
 
 impl Row<()> for Closed {
     fn holds(&self, _alloc: Global, _lent: &()) -> bool {
@@ -328,12 +487,24 @@ impl Row<()> for Closed {
 
 const CLOSED: &[Closed] = &[
     (Form::Posix, ":]x", Some((None, "x"))),
-    (Form::Posix, ": ]", Some((Some(' '), " ]"))),
-    (Form::Posix, "}]", Some((Some('}'), "}]"))),
+    (
+        Form::Posix,
+        ": ]",
+        Some((Some(Kind::UnexpectedChar(' ')), " ]")),
+    ),
+    (
+        Form::Posix,
+        "}]",
+        Some((Some(Kind::UnexpectedChar('}')), "}]")),
+    ),
     (Form::Posix, ":", None),
     (Form::Posix, "", None),
     (Form::Perl, "}x", Some((None, "x"))),
-    (Form::Perl, ":]", Some((Some(':'), ":]"))),
+    (
+        Form::Perl,
+        ":]",
+        Some((Some(Kind::UnexpectedChar(':')), ":]")),
+    ),
     (Form::Perl, "", None),
 ];
 
@@ -343,14 +514,46 @@ fn properties_are_closed(rt: HostRuntime) {
 }
 
 const STOPPED_PROPERTIES: &[Stopped] = &[
-    (Unit::Property, "[:=", Why::Fault('=', 2)),
-    (Unit::Property, "[:=hello:]", Why::Fault('=', 2)),
-    (Unit::Property, "[::]", Why::Fault(':', 2)),
-    (Unit::Property, "[:gc=:]", Why::Fault(':', 5)),
-    (Unit::Property, "[:L]", Why::Fault(']', 3)),
-    (Unit::Property, "[:]", Why::Fault(']', 2)),
-    (Unit::Property, "\\p {L}", Why::Fault(' ', 2)),
-    (Unit::Property, "\\p{lower-case}", Why::Fault('-', 8)),
+    (
+        Unit::Property,
+        "[:=",
+        Why::Fault(Kind::UnexpectedChar('='), 2),
+    ),
+    (
+        Unit::Property,
+        "[:=hello:]",
+        Why::Fault(Kind::UnexpectedChar('='), 2),
+    ),
+    (
+        Unit::Property,
+        "[::]",
+        Why::Fault(Kind::UnexpectedChar(':'), 2),
+    ),
+    (
+        Unit::Property,
+        "[:gc=:]",
+        Why::Fault(Kind::UnexpectedChar(':'), 5),
+    ),
+    (
+        Unit::Property,
+        "[:L]",
+        Why::Fault(Kind::UnexpectedChar(']'), 3),
+    ),
+    (
+        Unit::Property,
+        "[:]",
+        Why::Fault(Kind::UnexpectedChar(']'), 2),
+    ),
+    (
+        Unit::Property,
+        "\\p {L}",
+        Why::Fault(Kind::UnexpectedChar(' '), 2),
+    ),
+    (
+        Unit::Property,
+        "\\p{lower-case}",
+        Why::Fault(Kind::UnexpectedChar('-'), 8),
+    ),
     (Unit::Property, "[:", Why::Ended),
     (Unit::Property, "[:^", Why::Ended),
     (Unit::Property, "[:L", Why::Ended),
