@@ -8,6 +8,8 @@ mod built;
 #[cfg(test)]
 mod counted;
 #[cfg(test)]
+mod errors;
+#[cfg(test)]
 mod fixtures;
 #[cfg(test)]
 mod indexed;

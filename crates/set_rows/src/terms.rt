@@ -8,7 +8,7 @@ use std::alloc::Global;
 const SETS: &[&[u32]] = &[
     // 0: letters
     &[0x41, 0x5B, 0x61, 0x7B],
-    // 1: up to the border of a word of 128 code points
+    // 1: up to the border of a word of 64 code points
     &[0x70, 0x80],
     // 2: from there on, and beyond the border of a stretch of 16384
     &[0x80, 0x4001],
