@@ -20,6 +20,8 @@ enum Expected {
     Number(u32, GeneralCategory),
     /// The maximal run of an index, with its category, if there are that many runs.
     Run(usize, Option<(Ends, GeneralCategory)>),
+    /// The maximal run of an index, of letters or of other code points, if there are that many runs.
+    MappedRun(usize, Option<(Ends, bool)>),
     /// The maximal range of an index, of those with a category.
     Range(GeneralCategory, usize, Option<Ends>),
     /// The maximal range of an index, of those with another category.
@@ -33,9 +35,9 @@ enum Expected {
 }
 
 /// Whether the run is the expected one.
-fn is_run(
-    found: Option<CodePointMapRange<GeneralCategory>>,
-    expected: Option<(Ends, GeneralCategory)>,
+fn is_run<T: PartialEq + Drop>(
+    found: Option<CodePointMapRange<T>>,
+    expected: Option<(Ends, T)>,
 ) -> bool {
     match (found, expected) {
         (Some(run), Some((ends, value))) => is_range(Some(run.range), Some(ends))
@@ -55,6 +57,20 @@ fn is_set(found: Result<CodePointSetData, NoMemory>, list: &[u32]) -> bool {
     }
 }
 
+/// The run of this index, of letters or of other code points.
+fn mapped_run(
+    map: CodePointMapDataBorrowed<'_, GeneralCategory>,
+    index: usize,
+) -> Option<CodePointMapRange<bool>> {
+    let mut runs = map.iter_ranges_mapped(|category| {
+        matches!(
+            category,
+            GeneralCategory::UppercaseLetter | GeneralCategory::LowercaseLetter
+        )
+    });
+    runs.nth(index)
+}
+
 /// Whether the map answers so.
 fn answers(
     alloc: Global,
@@ -65,6 +81,7 @@ fn answers(
         Expected::Character(ch, category) => map.get(ch) == category,
         Expected::Number(number, category) => map.get32(number) == category,
         Expected::Run(index, run) => is_run(map.iter_ranges().nth(index), run),
+        Expected::MappedRun(index, run) => is_run(mapped_run(map, index), run),
         Expected::Range(category, index, ends) => {
             is_range(map.iter_ranges_for_value(category).nth(index), ends)
         }
@@ -172,6 +189,13 @@ const ANSWERS: &[Expected] = &[
     Expected::Run(7, Some(((0xD800, 0xDFFF), GeneralCategory::Surrogate))),
     Expected::Run(8, Some(((0xE000, 0x10_FFFF), GeneralCategory::Unassigned))),
     Expected::Run(9, None),
+    // the runs of letters and of other code points: those of neighbours with one answer are joined
+    Expected::MappedRun(0, Some(((0, 0x40), false))),
+    Expected::MappedRun(1, Some(((0x41, 0x5A), true))),
+    Expected::MappedRun(2, Some(((0x5B, 0x60), false))),
+    Expected::MappedRun(3, Some(((0x61, 0x7A), true))),
+    Expected::MappedRun(4, Some(((0x7B, 0x10_FFFF), false))),
+    Expected::MappedRun(5, None),
     // ranges and sets of categories
     Expected::Range(GeneralCategory::DecimalNumber, 0, Some((0x30, 0x39))),
     Expected::Range(GeneralCategory::DecimalNumber, 1, None),
