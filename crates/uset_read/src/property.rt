@@ -104,7 +104,7 @@ fn mark(form: Form) -> char
 fn is_nothing(text: &str) -> bool
     ensures { result ≡ is_nothing (chars text.now) }
 {
-    text.is_empty()
+    split_first(text).is_none()
 }
 
 /// Reads what stands behind the bracket in front of a property. The answer is true where a `^` does.

@@ -108,7 +108,7 @@ pub(crate) fn look_at_first<'a>(syntax: &Syntax<'_>, source: &'a str) -> First<'
         },
         '$' => match read_name(syntax.start, syntax.continuing, rest) {
             Some((name, behind)) => First::Variable(name, behind),
-            None if rest.is_empty() => First::TooShort,
+            None if split_first(rest).is_none() => First::TooShort,
             None => First::Bare,
         },
         '\\' => First::Property,

@@ -183,7 +183,7 @@ fn is_last_property(item: &Item<'_>, rest: &str) -> bool
         result ≡ is_last_property of_unit i (chars rest.now) }
 {
     match item {
-        Item::Set(_) => rest.is_empty(),
+        Item::Set(_) => split_first(rest).is_none(),
         _ => false,
     }
 }
@@ -286,7 +286,7 @@ fn close<'v, 'a>(
     let Some(set) = inner.close(alloc)? else {
         return Err(fault_at(cursor, ParseErrorKind::UnexpectedChar(']'), text));
     };
-    if rest.is_empty() {
+    if split_first(rest).is_none() {
         return Err(ParseErrorKind::Eof.into());
     }
     match bracket.take(alloc, Item::Set(Operand::Inner(set)))? {

@@ -14,16 +14,16 @@ returns-clause-values g c =
     let unpacked = g.T.TrieValue.unpacked in
     IfOk-weaker c.from_cover.result _ _ (
     λ map values n within.
-        rw (values n, c.in_ok-runs.ensures) (
-        value_in-unpacked_runs unpacked at 0 c.iter_ranges.result c.default.result n c.iter_ranges.ensures.maximal (unpacks unpacked g.T.EnumeratedProperty.TABLE g.met.T.EnumeratedProperty.accepted at c.requires) (omega arith) within
-        )
+    rw (values n, c.in_ok-runs.ensures) (
+    value_in-unpacked_runs unpacked at 0 c.iter_ranges.result c.default.result n c.iter_ranges.ensures.maximal (unpacks unpacked g.T.EnumeratedProperty.TABLE g.met.T.EnumeratedProperty.accepted at c.requires) (omega arith) within
+    )
     ) c.from_cover.ensures.values
 
 pub returns-clause-past_end : goal.returns-clause-past_end
 returns-clause-past_end g c =
     IfOk-weaker c.from_cover.result _ _ (
     λ map values n past.
-        rw (values n, c.in_ok-runs.ensures, value_in-past_end g.T.TrieValue.unpacked (value_at c.args.numbers.now) 0 c.iter_ranges.result c.default.result n c.iter_ranges.ensures.maximal past) c.default.ensures
+    rw (values n, c.in_ok-runs.ensures, value_in-past_end g.T.TrieValue.unpacked (value_at c.args.numbers.now) 0 c.iter_ranges.result c.default.result n c.iter_ranges.ensures.maximal past) c.default.ensures
     ) c.from_cover.ensures.values
 
 pub from_cover-requires : goal.from_cover-requires
