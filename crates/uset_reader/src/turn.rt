@@ -286,9 +286,9 @@ fn close<'v, 'a>(
     let Some(set) = inner.close(alloc)? else {
         return Err(fault_at(cursor, ParseErrorKind::UnexpectedChar(']'), text));
     };
-    if split_first(rest).is_none() {
+    let Some(_) = split_first(rest) else {
         return Err(ParseErrorKind::Eof.into());
-    }
+    };
     match bracket.take(alloc, Item::Set(Operand::Inner(set)))? {
         Taken::Fits => Ok(Progress::GoesOn(rest)),
         _ => Err(ParseError::at(ParseErrorKind::UnexpectedChar('['), before)),
