@@ -24,7 +24,10 @@ pub(crate) fn resolve_query<'v, 'd: 'v>(
     ensures resolved { IfOk result (ResolvesTo (tables_of resolver.old) (query_seen query.now)) }
     ensures same { resolver.new ≡ resolver.old }
 {
-    resolver.resolve(alloc, &query.key, query.value.as_deref())
+    match &query.value {
+        Some(value) => resolver.resolve(alloc, &query.key, Some(value)),
+        None => resolver.resolve(alloc, &query.key, None),
+    }
 }
 
 /// The set of a property, or what is wrong with it.
