@@ -1,40 +1,17 @@
-//! The texts that errors show.
+//! The texts that errors of devices show.
 use crate::fixtures::assert_equal;
-use cp_invlist::{InversionListError, NoMemory};
-use cp_strset::StringListError;
 use std::alloc::{AllocError, Global};
 use uset_tool::{Failed, WriteError};
 
 /// An error of one of the types.
 #[derive(Clone, Copy)]
 enum Shown {
-    NoMemory(NoMemory),
-    List(InversionListError),
-    Strings(StringListError),
     Failed(Failed),
     Write(WriteError),
 }
 
 /// Errors, and the names that they show.
 const SHOWN: &[(Shown, &str)] = &[
-    (Shown::NoMemory(NoMemory), "NoMemory"),
-    (
-        Shown::List(InversionListError::Invalid { index: 7 }),
-        "Invalid",
-    ),
-    (Shown::List(InversionListError::NoMemory), "NoMemory"),
-    (
-        Shown::Strings(StringListError::NotUnique { index: 7 }),
-        "NotUnique",
-    ),
-    (
-        Shown::Strings(StringListError::NotSorted { index: 7 }),
-        "NotSorted",
-    ),
-    (
-        Shown::Strings(StringListError::StringOfOne { index: 7 }),
-        "StringOfOne",
-    ),
     (Shown::Failed(Failed), "Failed"),
     (Shown::Write(WriteError::Failed), "Failed"),
     (Shown::Write(WriteError::NoMemory), "NoMemory"),
@@ -42,9 +19,6 @@ const SHOWN: &[(Shown, &str)] = &[
 
 fn text_of(alloc: Global, shown: Shown) -> Result<String, AllocError> {
     match shown {
-        Shown::NoMemory(error) => format!(in alloc; "{error}"),
-        Shown::List(error) => format!(in alloc; "{error}"),
-        Shown::Strings(error) => format!(in alloc; "{error}"),
         Shown::Failed(error) => format!(in alloc; "{error}"),
         Shown::Write(error) => format!(in alloc; "{error}"),
     }

@@ -1,4 +1,4 @@
-//! The examples of docs/PATTERNS.md, and the script of examples/script.txt.
+//! The examples of docs/PATTERNS.md, and the scripts examples/script.txt and examples/first.txt.
 use crate::fixtures::{assert_equal, is_evaluated};
 use std::alloc::{AllocError, Global};
 
@@ -93,6 +93,42 @@ const EXAMPLES: &[(&str, &str)] = &[
     ("pat $vowels;", "ok 7 0061 0065 0069 006F 0075"),
     ("let a char 62", "err a is bound"),
     ("let b set [a]x", "err text after the set at byte 3"),
+    // Ranges
+    ("pat [a - c]", "ok 7 0061-0063"),
+    ("pat [a-a]", "ok 5 0061"),
+    ("pat [{a}-\\x63]", "ok 10 0061-0063"),
+    ("pat [A-$a]", "ok 6 0041-0061"),
+    ("pat [b-a]", "err [b-a← error: unexpected character 'a'"),
+    (
+        "pat [b-\\x61]",
+        "err [b-\\x61← error: unexpected character 'a'",
+    ),
+    ("pat [b-$a]", "err [b-$a← error: unexpected character 'a'"),
+    ("pat [a-[b]]", "err [a-[← error: unexpected character '['"),
+    (
+        "pat [a-\\p{L}]",
+        "err [a-\\← error: unexpected character '\\\\'",
+    ),
+    (
+        "pat [a-$vowels]",
+        "err [a-$vowels← error: unexpected variable",
+    ),
+    ("pat [a-{bc}]", "err [a-{← error: unexpected character '{'"),
+    ("pat [a-{}]", "err [a-{← error: unexpected character '{'"),
+    ("pat [a-$ch]", "err [a-$ch← error: unexpected variable"),
+    (
+        "pat [a-\\x{62 63}]",
+        "err [a-\\← error: unexpected character '\\\\'",
+    ),
+    (
+        "pat [{ab}-c]",
+        "err [{ab}-c← error: unexpected character 'c'",
+    ),
+    (
+        "pat [\\x{61 62}-c]",
+        "err [\\x{61 62}-c← error: unexpected character 'c'",
+    ),
+    ("pat [a-b-c]", "err [a-b-c← error: unexpected character 'c'"),
     // Faults
     ("pat [a", "err [a← error: unexpected end of input"),
     ("pat [z-a]", "err [z-a← error: unexpected character 'a'"),
@@ -170,6 +206,17 @@ const SCRIPT: &[(&str, &str)] = &[
     ),
 ];
 
+/// Each line of examples/first.txt, and its answer, as in README.md.
+const FIRST: &[(&str, &str)] = &[
+    ("let vowels set [aeiou]", "bound vowels"),
+    (
+        "pat [[:Latn:]-[:Lu:]-$vowels]",
+        "ok 25 0062-0064 0066-0068 006A-006E 0070-0074 0076-007A",
+    ),
+    ("pat [a-z0", "err [a-z0← error: unexpected end of input"),
+    ("pat [a-z0]", "ok 6 0030 0061-007A"),
+];
+
 /// The tables and the lines of the rows, and their answers.
 fn script_and_answers(
     alloc: Global,
@@ -203,4 +250,9 @@ fn examples_of_the_guide_have_their_answers(rt: HostRuntime) {
 #[test]
 fn the_script_to_start_from_has_its_answers(rt: HostRuntime) {
     assert_equal(&rt, have_their_answers(rt.alloc(), SCRIPT), Ok(true));
+}
+
+#[test]
+fn the_first_script_has_its_answers(rt: HostRuntime) {
+    assert_equal(&rt, have_their_answers(rt.alloc(), FIRST), Ok(true));
 }
