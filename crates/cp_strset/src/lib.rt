@@ -172,7 +172,7 @@ impl CodePointInversionListAndStringList {
         self.code_points.size() + self.strings.len()
     }
 
-    /// An equal set. `NoMemory` says that a request for memory was refused.
+    /// An equal set, without an index of its code points. `NoMemory` says that a request for memory was refused.
     pub fn copy(&self, alloc: Global) -> Result<CodePointInversionListAndStringList, NoMemory>
         ensures { IfOk result (λ s. s ≡ self.now) }
     {

@@ -16,17 +16,22 @@ pub(crate) struct Repeated {
     pub(crate) count: usize,
 }
 
-/// How many chains the rows stand in, a power of two.
-const CHAINS: usize = 1024;
+/// How many bits at the front of a fingerprint tell its chain.
+const CHAIN_BITS: u32 = 10;
 
-/// How far a fingerprint is shifted so that the number of its chain is left.
-const TO_CHAIN: u32 = 54;
+/// How many chains the rows stand in.
+const CHAINS: usize = 1 << CHAIN_BITS;
 
 /// The number of no row, since a list of values has at most 17,408 of them.
 const NO_ROW: u16 = u16::MAX;
 
 /// How many rows all code points have.
 const MOST_ROWS: usize = 17_408;
+
+/// The number of the chain of a fingerprint.
+fn chain_of(fingerprint: u64) -> usize {
+    (fingerprint >> (u64::BITS - CHAIN_BITS)) as usize
+}
 
 /// A row in its chain.
 #[derive(Clone, Copy)]
@@ -64,8 +69,10 @@ impl Chains {
 
     /// The number of the last row in the chain of the fingerprint.
     fn last_of(&self, fingerprint: u64) -> u16 {
-        let chain = (fingerprint >> TO_CHAIN) as usize;
-        self.last.get(chain).copied().unwrap_or(NO_ROW)
+        self.last
+            .get(chain_of(fingerprint))
+            .copied()
+            .unwrap_or(NO_ROW)
     }
 
     /// Puts the row behind all others, and at the end of its chain.
@@ -75,7 +82,7 @@ impl Chains {
             fingerprint,
             before,
         })?;
-        if let Some(last) = self.last.get_mut((fingerprint >> TO_CHAIN) as usize) {
+        if let Some(last) = self.last.get_mut(chain_of(fingerprint)) {
             *last = number;
         }
         Ok(())
@@ -318,7 +325,7 @@ impl<V: TrieValue> Rows<V> {
     {
         Ok(Rows {
             shelf: Shelf::new(alloc, expected)?,
-            numbers: Vec::with_capacity(alloc, expected)?,
+            numbers: Vec::with_capacity(alloc, expected.min(MOST_ROWS))?,
             row: Row::new(alloc, value)?,
         })
     }

@@ -321,7 +321,7 @@ impl Loader {
         Ok(())
     }
 
-    /// Moves the open table into the database, where the lines end with `end`. `number` is that of the line behind them.
+    /// Sees to it that the lines end with `end`, and that no table is open then. `number` is that of the line behind them.
     fn end(&mut self, number: usize) -> Result<(), LoadError>
         ensures closed { OnOk result (self.old.is_closed ≡ true) }
         ensures tables { OnOk result (tables_of self.new.database ≡ (kept self.old).tables) }

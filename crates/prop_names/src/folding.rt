@@ -42,8 +42,8 @@ pub fn ascii_text(alloc: Global, name: &[u8]) -> Result<String, NoMemory>
     Ok(text)
 }
 
-/// The order of a folded name that is stored and the folding of a query: in lower case, without ASCII white space, `_` and
-/// hyphens. The query is folded as it is compared.
+/// The order of a folded name that is stored and the folding of a query: in lower case, without U+0009 to U+000D, U+0020, `_`
+/// and hyphens. The query is folded as it is compared.
 pub(crate) fn compare_folded(stored: &[u8], query: &[u8]) -> Ordering
     ensures { result ≡ slice_cmp nat_cmp stored.now (query_folding query.now) }
 {

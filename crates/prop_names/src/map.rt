@@ -65,8 +65,8 @@ impl PropertyValueNameToEnumMap {
     }
 
     /// The number of the value of the least name that folds as this one (UAX 44, section 5.9): in lower case and without
-    /// ASCII white space, `_` and hyphens. A name of the table loses its `_` alone, so that one with a hyphen is never found so.
-    /// A prefix `is` stays.
+    /// U+0009 to U+000D, U+0020, `_` and hyphens. A name of the table loses its `_` alone, so that one with a hyphen is never
+    /// found so. A prefix `is` stays.
     pub fn get_loose_u16(&self, name: &[u8]) -> Option<u16>
         ensures value { result ≡ loose self.now name.now }
         ensures strictly { LacksSpacesAndHyphens name.now →

@@ -150,8 +150,8 @@ impl<T: TrieValue> PropertyParserBorrowed<'_, T> {
     }
 
     /// The number of the value of the least name that folds as this one (UAX 44, section 5.9): in lower case and
-    /// without ASCII white space, `_` and hyphens. A name of the table loses its `_` alone, so that one with a hyphen is never
-    /// found so. A prefix `is` stays.
+    /// without U+0009 to U+000D, U+0020, `_` and hyphens. A name of the table loses its `_` alone, so that one with a hyphen is
+    /// never found so. A prefix `is` stays.
     pub fn get_loose_u16(self, name: &str) -> Option<u16>
         ensures value { result ≡ loose (names_in self.entry) name.now }
         ensures strictly { LacksSpacesAndHyphens name.now →

@@ -75,8 +75,8 @@ impl CodePointSetData {
         lent(database, P::TABLE)
     }
 
-    /// A copy of the set of a binary property. `Absent` names the property's set where the database has none, and
-    /// `NoMemory` says that a request for memory was refused.
+    /// A copy of the set of a binary property, without an index. `Absent` names the property's set where the database has none,
+    /// and `NoMemory` says that a request for memory was refused.
     pub fn try_new_unstable<P: BinaryProperty>(
         alloc: Global,
         database: &PropertyDatabase,
@@ -152,7 +152,7 @@ impl CodePointSetData {
         self.set.index(alloc)
     }
 
-    /// A copy of the inversion list of the set. `NoMemory` says that a request for memory was refused.
+    /// A copy of the inversion list of the set, without an index. `NoMemory` says that a request for memory was refused.
     pub fn to_code_point_inversion_list(
         &self,
         alloc: Global,

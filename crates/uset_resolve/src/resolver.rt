@@ -13,8 +13,11 @@ use std::marker::Model;
 use std::rc::Rc;
 use uset_gather::Source;
 
-/// Where lists with so many ranges are kept, they are forgotten before a further pattern is read.
+/// Where what is kept takes the room of so many ranges, it is forgotten before a further pattern is read.
 const FULL: usize = 1 << 23;
+
+/// The index of a list takes the room of so many ranges.
+const INDEX: usize = 17_408;
 
 /// What the code points of a list have in common.
 #[derive(Clone, Copy, PartialEq, Eq, PartialOrd, Ord)]
@@ -34,7 +37,7 @@ pub struct Resolver<'a> {
     made: BTreeMap<Origin, Rc<CodePointInversionList>>,
     /// What was asked for a second time, of that whose list is long.
     again: BTreeSet<Origin>,
-    /// How many ranges the lists have that are kept.
+    /// What the lists that are kept take, with their indexes: the room of so many ranges.
     ranges: usize,
 }
 
@@ -128,6 +131,7 @@ impl<'a> Resolver<'a> {
         }
         let mut indexed = list.copy(alloc)?;
         indexed.index(alloc)?;
+        self.ranges = self.ranges.saturating_add(INDEX);
         Ok(Some(self.keep(alloc, origin, indexed)?))
     }
 

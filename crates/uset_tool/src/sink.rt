@@ -9,7 +9,7 @@ use std::io::Write;
 use std::marker::Model;
 use thiserror::Error;
 
-/// Why a sink took nothing.
+/// Why a write was refused.
 #[derive(Clone, Copy, Debug, Drop, PartialEq, Eq, Error)]
 pub enum WriteError {
     /// The sink failed.

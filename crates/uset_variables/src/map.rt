@@ -205,8 +205,8 @@ impl VariableMap {
         Some((set, &index.numbers))
     }
 
-    /// A map that binds the same names to equal values. No strings have numbers in it until names are indexed again.
-    /// `NoMemory` says that a request for memory was refused.
+    /// A map that binds the same names to equal values. No strings have numbers in it until names are indexed again, and no set
+    /// has an index of its code points. `NoMemory` says that a request for memory was refused.
     pub fn copy(&self, alloc: Global) -> Result<VariableMap, NoMemory>
         ensures bound { IfOk result (λ map. IsSame self.now map) }
         ensures unnumbered { IfOk result (λ map. (name : List ℕ) → numbers_at map name ≡ None) }

@@ -101,7 +101,7 @@ impl VariableValue {
         }
     }
 
-    /// An equal value. `NoMemory` says that a request for memory was refused.
+    /// An equal value. A set has no index of its code points in it. `NoMemory` says that a request for memory was refused.
     pub fn copy(&self, alloc: Global) -> Result<VariableValue, NoMemory>
         ensures { IfOk result (λ value. value ≡ self.now) }
     {
