@@ -1,9 +1,9 @@
 -- Sets of code points in the making, code point by code point.
-use Rattle.std.proofs.Common.{◌≡◌, ℕ, Bool, true, false, not, length, take, eqb, arith, inl, inr, ◌||◌, ◌&&◌, if◌then◌else◌, List, [], ◌∷◌, ◌++◌, refl, sym, ap, ◌∙◌, subst}
-use Rattle.std.proofs.Math.Bool.{and-false, and_comm}
+use Rattle.std.proofs.Common.{◌≡◌, ℕ, Bool, true, false, not, ◌||◌, ◌&&◌, if◌then◌else◌, List, [], ◌∷◌, ◌++◌, refl, sym, ap, ◌∙◌, subst}
+use Rattle.std.proofs.Math.Bool.{and-false, and_comm, or-false}
 use Rattle.std.specs.Bool.{OnTrue}
-use Rattle.std.proofs.lemmas.Bool.{cases_Bool, eqb-true}
-use Rattle.std.proofs.lemmas.List.{take_all}
+use Rattle.std.proofs.lemmas.Bool.{OnTrue_from, and_parts}
+use Rattle.std.specs.List.{list_all}
 use Rattle.cp_invlist.specs.InversionList.{contains, differ, is_code_point}
 use Rattle.cp_invlist.specs.Ranges.{in_range, in_code_points, is_outside}
 use Rattle.uset_gather.specs.declared.layers.Layer.{Layer}
@@ -150,12 +150,6 @@ painting_kept old other others new c first second =
     second
     ∙ (ap (λ b. in_painting old c && not b) first ∙ kept_step (is_code_point c) (in_painting old c) (in_painting other c) (painting_within old c))
 
-on_equal : (m n : ℕ) {P : Type 0} → (m ≡ n → P) → OnTrue (eqb m n) P
-on_equal m n f = elim (cases_Bool (eqb m n)) [
-  | inl is ↦ rw is (f (eqb-true m n is))
-  | inr is ↦ rw is tt
-]
-
 covered_step : (inside code rest : Bool) → (code && rest) ≡ rest → (code && ((inside && code) || rest)) ≡ ((inside && code) || rest)
 covered_step inside true rest h = refl
 covered_step true false rest h = h
@@ -166,15 +160,26 @@ covered_within : (ps : List PaintedRange) (c : ℕ) → (is_code_point c && cove
 covered_within [] c = and-false (is_code_point c)
 covered_within (p ∷ ps) c = covered_step (in_range p.range c) (is_code_point c) (covered ps c) (covered_within ps c)
 
+member_step : (inside others b : Bool) → ((if inside then true else b) || others) ≡ (b || (inside || others))
+member_step true others true = refl
+member_step true others false = refl
+member_step false others b = refl
+
+-- ranges that were painted as members add what they cover
+members_painted : (ps : List PaintedRange) (c : ℕ) (b : Bool) → list_all (λ p. p.member) ps ≡ true → painted ps c b ≡ (b || covered ps c)
+members_painted [] c b all = sym (or-false b)
+members_painted (p ∷ ps) c b all =
+    members_painted ps c (if in_code_points p.range c then p.member else b) (and_parts p.member _ all).1
+    ∙ ((λ i. (if in_code_points p.range c then (and_parts p.member _ all).0 i else b) || covered ps c)
+    ∙ member_step (in_code_points p.range c) (covered ps c) b)
+
 -- there are no layers, and all ranges were painted as members
-pub plain : (s : Painting) (n len : ℕ) → len ≡ length s.ranges.items → s.layers.items ≡ [] → s.complemented ≡ false →
-    ((c : ℕ) (b : Bool) → painted (take n s.ranges.items) c b ≡ (b || covered (take n s.ranges.items) c)) →
-    OnTrue (eqb n len) ((c : ℕ) → in_painting s c ≡ covered s.ranges.items c)
+pub plain : (s : Painting) (members : Bool) → members ≡ list_all (λ p. p.member) s.ranges.items → s.layers.items ≡ [] → s.complemented ≡ false →
+    OnTrue members ((c : ℕ) → in_painting s c ≡ covered s.ranges.items c)
 unfolding in_painting seen
-plain s n len all_of none straight members = on_equal n len (λ e c.
-    let all = take_all n s.ranges.items (omega (arith, e, all_of)) in
-    (λ i. seen (straight i) (is_code_point c) (painted (sym all i) c (behind_all (none i) c false)))
-    ∙ (ap (λ b. is_code_point c && b) (members c false ∙ ap (λ ps. covered ps c) all)
+plain s members all none straight = OnTrue_from members _ (λ is c.
+    (λ i. seen (straight i) (is_code_point c) (painted s.ranges.items c (behind_all (none i) c false)))
+    ∙ (ap (λ b. is_code_point c && b) (members_painted s.ranges.items c false (sym all ∙ is))
     ∙ covered_within s.ranges.items c))
 
 -- a complemented set has what the set of its layers and ranges lacks

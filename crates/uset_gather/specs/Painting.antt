@@ -23,10 +23,6 @@ painted (p ∷ ps) c b = painted ps c (if in_code_points p.range c then p.member
 abbrev pub covered : List PaintedRange → ℕ → Bool
 covered ps c = list_any (λ p. in_code_points p.range c) ps
 
--- all of the ranges are painted as members
-abbrev pub AreMembers : List PaintedRange → Type 0
-AreMembers ps = (c : ℕ) (b : Bool) → painted ps c b ≡ (b || covered ps c)
-
 -- the code point is in the builder or was put aside
 unfoldable pub in_run : Run → ℕ → Bool
 in_run r c = contains r.builder c || in_some r.aside.items c

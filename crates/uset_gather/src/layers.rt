@@ -1,7 +1,7 @@
 //! Layers: what painted ranges make of a set, and how many of them become one.
-ghost use Rattle.std.specs.Prelude.{◌≡◌, ◌≤◌, ℕ, Bool, false, if◌then◌else◌, IfOk, OnOk, IfNone, option_to_list, [], ◌++◌, length, take};
+ghost use Rattle.std.specs.Prelude.{◌≡◌, ℕ, Bool, false, if◌then◌else◌, IfOk, OnOk, IfNone, option_to_list, [], ◌++◌};
 ghost use Rattle.cp_invlist.specs.InversionList.{contains};
-ghost use Rattle.uset_gather.specs.Painting.{in_changed, AreMembers, IsPutOnto, painted, painted_alike, behind, behind_all};
+ghost use Rattle.uset_gather.specs.Painting.{in_changed, IsPutOnto, painted, painted_alike, behind, behind_all};
 
 use crate::painting::PaintedRange;
 use crate::run::Run;
@@ -156,17 +156,4 @@ pub(crate) fn flattened(
     ensures { IfOk result (λ set. (c : ℕ) → contains set c ≡ painted ranges.items c (behind_all layers.items c false)) }
 {
     Ok(merged(layers, layered(alloc, ranges)?)?.added)
-}
-
-/// How many ranges at the front are painted as members: all before the first that isn't.
-pub(crate) fn members_in_front(ranges: &[PaintedRange]) -> usize
-    ensures bound { result ≤ length ranges.now }
-    ensures members { AreMembers (take result ranges.now) }
-{
-    for (index, painted) in ranges.iter().enumerate() {
-        if !painted.member {
-            return index;
-        }
-    }
-    ranges.len()
 }

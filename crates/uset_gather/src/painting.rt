@@ -1,9 +1,10 @@
 //! The code points of a set in the making.
 ghost use Rattle.std.specs.Prelude.{◌≡◌, ℕ, IfOk};
+ghost use Rattle.std.specs.List.{list_all};
 ghost use Rattle.cp_invlist.specs.InversionList.{contains};
 ghost use Rattle.cp_invlist.specs.Ranges.{is_outside};
 
-use crate::layers::{Layer, flattened, layered, members_in_front, push, size_of};
+use crate::layers::{Layer, flattened, layered, push, size_of};
 use cp_invlist::laws::{members_are_code_points, ranges_hold_members};
 use cp_invlist::{CodePointInversionList, CodePointInversionListBuilder, CodePointRange, NoMemory};
 use std::alloc::Global;
@@ -37,6 +38,13 @@ pub(crate) struct Painting {
     /// What was painted over the layers, the first in front.
     ranges: Vec<PaintedRange>,
     complemented: bool,
+}
+
+/// Whether all the ranges were painted as members.
+fn are_members(ranges: &[PaintedRange]) -> bool
+    ensures { result ≡ list_all (λ p. p.member) ranges.now }
+{
+    ranges.iter().all(|painted| painted.member)
 }
 
 /// A copy of the set.
@@ -226,10 +234,7 @@ impl Painting {
     fn is_plain(&self) -> bool
         ensures { OnTrue result ((c : ℕ) → in_painting self.now c ≡ covered self.now.ranges.items c) }
     {
-        if !self.layers.is_empty() {
-            return false;
-        }
-        !self.complemented && members_in_front(&self.ranges) == self.ranges.len()
+        self.layers.is_empty() && !self.complemented && are_members(&self.ranges)
     }
 
     /// Adds the code points of all the ranges.
