@@ -1,5 +1,5 @@
 -- The ranges that an inversion list spells are the maximal ranges of its members, and there are no others.
-use Rattle.std.proofs.Common.{◌≡◌, ℕ, suc, ◌+◌, ◌-◌, ◌<◌, ◌≤◌, Bool, true, false, not, List, [], ◌∷◌, length, take, drop, get_or, refl, sym, ap, ap₂, ◌∙◌, arith, true≢false, subst, inl, inr}
+use Rattle.std.proofs.Common.{◌≡◌, ℕ, suc, ◌+◌, ◌-◌, ◌/◌, ◌<◌, ◌≤◌, Bool, true, false, not, List, [], ◌∷◌, length, take, drop, get_or, refl, sym, ap, ap₂, ◌∙◌, arith, true≢false, subst, inl, inr}
 use Rattle.std.proofs.lemmas.Bool.{le-leb, lt-leb, cases_lt}
 use Rattle.std.proofs.lemmas.List.{take_rest}
 use Rattle.cp_invlist.specs.InversionList.{differ, contains, ascends_from, has_even_length, IsInversionList}
@@ -50,6 +50,12 @@ pub AreMaximalRanges-ranges_of : (xs : List ℕ) → IsInversionList xs → AreM
 AreMaximalRanges-ranges_of xs h =
     let parts = IsInversionList-parts xs h in
     ranges_of-maximal (contains xs) 0 xs parts.0 parts.1 (λ c _. refl)
+
+-- each range is spelled by two elements
+pub length-ranges_of : (xs : List ℕ) → length (ranges_of xs) ≡ length xs / 2
+length-ranges_of [] = refl
+length-ranges_of (a ∷ []) = refl
+length-ranges_of (a ∷ b ∷ xs) = omega (arith, length-ranges_of xs)
 
 -- a set has one list of maximal ranges
 pub AreRangesFrom-unique : (m : ℕ → Bool) (n : ℕ) (rs ss : List CodePointRange) → AreRangesFrom m n rs → AreRangesFrom m n ss → rs ≡ ss

@@ -1,5 +1,5 @@
 //! The set: its list, and what it answers.
-ghost use Rattle.std.specs.Prelude.{◌≡◌, ℕ, ◌≤◌, ◌↔◌, IsTrue, IsErrOf, IfOk, OnOk, IfNone, Some, nat_eq, nat_le, length, [], ◌∷◌, List};
+ghost use Rattle.std.specs.Prelude.{◌≡◌, ℕ, ◌≤◌, ◌↔◌, IsTrue, IsErrOf, IfOk, OnOk, IfNone, Some, ◌/◌, nat_eq, nat_le, length, [], ◌∷◌, List};
 ghost use Rattle.std.specs.Cmp.Lexicographic.{pointwise};
 ghost use Rattle.cp_invlist.specs.Fault.{fault_of, IsFaultAt};
 ghost use Rattle.cp_invlist.specs.Size.{count_members, SumsTo};
@@ -155,6 +155,14 @@ impl CodePointInversionList {
         ensures only { (rs : List CodePointRange) → AreMaximalRanges (is_outside self.now) rs → rs ≡ result }
     {
         ComplementedRanges::new(&self.elements)
+    }
+
+    /// How many maximal ranges of members there are.
+    pub fn get_range_count(&self) -> usize
+        ensures ranges { (rs : List CodePointRange) → AreMaximalRanges (contains self.now) rs → result ≡ length rs }
+        ensures list { result ≡ length self.now / 2 }
+    {
+        self.elements.len() / 2
     }
 
     /// How many members the set has.

@@ -14,6 +14,8 @@ enum Expected {
     /// How many code points it has.
     Size(usize),
     Ranges(&'static [CodePointRange]),
+    /// How many ranges it has.
+    RangeCount(usize),
     /// The ranges of the other code points.
     Gaps(&'static [CodePointRange]),
     Char(char, bool),
@@ -29,6 +31,7 @@ impl Expected {
             Expected::List(list) => set.get_inversion_list() == list,
             Expected::Size(size) => set.size() == size,
             Expected::Ranges(ranges) => set.iter_ranges().eq(ranges.iter().copied()),
+            Expected::RangeCount(count) => set.get_range_count() == count,
             Expected::Gaps(gaps) => set.iter_ranges_complemented().eq(gaps.iter().copied()),
             Expected::Char(ch, is_member) => set.contains(ch) == is_member,
             Expected::Number(c, is_member) => set.contains32(c) == is_member,
@@ -81,6 +84,7 @@ const OF_LETTERS: &[Expected] = &[
             end: 0x7A,
         },
     ]),
+    Expected::RangeCount(2),
     Expected::Gaps(&[
         CodePointRange {
             start: 0,
@@ -107,7 +111,11 @@ fn a_list_gives_its_set(rt: HostRuntime) {
     assert_equal(&rt, wrong, Ok(None));
 }
 
-const OF_NOTHING: &[Expected] = &[Expected::Empty(true), Expected::Size(0)];
+const OF_NOTHING: &[Expected] = &[
+    Expected::Empty(true),
+    Expected::Size(0),
+    Expected::RangeCount(0),
+];
 
 #[test]
 fn the_empty_list_gives_the_empty_set(rt: HostRuntime) {
@@ -137,7 +145,11 @@ fn a_list_out_of_order_is_refused(rt: HostRuntime) {
     }
 }
 
-const OF_ALL: &[Expected] = &[Expected::List(&[0, 0x11_0000]), Expected::Size(1_114_112)];
+const OF_ALL: &[Expected] = &[
+    Expected::List(&[0, 0x11_0000]),
+    Expected::Size(1_114_112),
+    Expected::RangeCount(1),
+];
 
 /// The index of the first row that does not hold of the set of all code points.
 fn first_wrong_of_all(alloc: Global) -> Result<Option<usize>, NoMemory> {

@@ -148,7 +148,7 @@ impl Painting {
     pub(crate) fn add_set(&mut self, set: &CodePointInversionList) -> Result<(), NoMemory>
         ensures { OnOk result ((c : ℕ) → in_painting self.new c ≡ (in_painting self.old c || contains set.now c)) }
     {
-        let count = set.get_inversion_list().len() / 2;
+        let count = set.get_range_count();
         if count >= MANY {
             return self.put_on(copied(self.alloc, set)?, count);
         }
@@ -173,7 +173,7 @@ impl Painting {
     pub(crate) fn add_outside(&mut self, set: &CodePointInversionList) -> Result<(), NoMemory>
         ensures { OnOk result ((c : ℕ) → in_painting self.new c ≡ (in_painting self.old c || is_outside set.now c)) }
     {
-        let count = set.get_inversion_list().len() / 2;
+        let count = set.get_range_count();
         if count >= MANY {
             return self.put_on(outside(self.alloc, set)?, count);
         }

@@ -156,7 +156,7 @@ impl<'a> Resolver<'a> {
         let Some(list) = make()? else {
             return Ok(None);
         };
-        let ranges = list.get_inversion_list().len() / 2;
+        let ranges = list.get_range_count();
         self.ranges = self.ranges.saturating_add(ranges);
         Ok(Some(self.keep(alloc, origin, list)?))
     }
