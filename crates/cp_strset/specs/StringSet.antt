@@ -1,6 +1,7 @@
 -- What a set with strings is seen as.
-use Rattle.std.specs.Prelude.{◌≡◌, ℕ, Bool, ◌&&◌, nat_eq, Option, Some, None, List}
+use Rattle.std.specs.Prelude.{◌≡◌, ℕ, Bool, ◌&&◌, ◌||◌, nat_eq, nat_le, length, Option, Some, None, List}
 use Rattle.std.specs.Cmp.Lexicographic.{pointwise}
+use Rattle.std.specs.List.{sum_by}
 use Rattle.std.specs.Str.{chars}
 use Rattle.cp_invlist.specs.InversionList.{contains}
 use Rattle.cp_strset.specs.StringList.{sole_of, holds, HoldSame}
@@ -27,3 +28,11 @@ contains_text set bs = contains_sole set bs (sole_of (chars bs))
 -- whether two sets have the same lists
 abbrev pub same_members : StringSet → StringSet → Bool
 same_members a b = pointwise nat_eq a.code_points b.code_points && pointwise (pointwise nat_eq) a.strings b.strings
+
+-- how many bytes the strings have together
+abbrev pub bytes_of : List (List ℕ) → ℕ
+bytes_of strings = sum_by (λ s. length s) strings
+
+-- so many strings, or strings of so many bytes, that it takes long to go along them
+abbrev pub has_many_strings : List (List ℕ) → Bool
+has_many_strings strings = nat_le 64 (length strings) || nat_le 4096 (bytes_of strings)

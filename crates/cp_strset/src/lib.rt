@@ -1,7 +1,7 @@
 //! A set of code points together with strings.
 #![tactic(auto)]
 
-ghost use Rattle.std.specs.Prelude.{◌≡◌, ◌+◌, ◌&&◌, ◌↔◌, false, IsTrue, IfOk, OnOk, List, length, map, None, Some};
+ghost use Rattle.std.specs.Prelude.{◌≡◌, ◌+◌, ◌&&◌, ◌↔◌, nat_le, false, IsTrue, IfOk, OnOk, List, length, map, None, Some};
 ghost use Rattle.std.specs.List.{AllPass};
 ghost use Rattle.std.specs.Option.{option_copied};
 ghost use Rattle.std.specs.Str.{IsUtf8, chars};
@@ -10,7 +10,7 @@ ghost use Rattle.cp_invlist.specs.InversionList.{contains};
 ghost use Rattle.cp_invlist.specs.Size.{count_members};
 ghost use Rattle.cp_strset.specs.PatternText.{IsPatternOf, is_printable_ascii};
 ghost use Rattle.cp_strset.specs.StringList.{AreCanonical, sole_of, holds, fault_at, first_fault};
-ghost use Rattle.cp_strset.specs.StringSet.{contains_text, same_members, HaveSameMembers};
+ghost use Rattle.cp_strset.specs.StringSet.{bytes_of, contains_text, has_many_strings, same_members, HaveSameMembers};
 
 pub mod laws;
 mod pattern_text;
@@ -46,6 +46,13 @@ pub enum StringListError {
         index: usize,
     },
 }
+
+/// From so many strings on a set has many.
+const MANY_STRINGS: usize = 64;
+
+/// Strings of so many bytes are many, however few they are: to copy them, or to compare those that begin alike, goes along
+/// their bytes.
+pub const MANY_STRING_BYTES: usize = 4096;
 
 /// A set of code points and of strings. The strings are strictly ascending by bytes, and none has exactly one character,
 /// since that is a code point. A contract sees it as both lists, and each string by its bytes.
@@ -128,6 +135,13 @@ impl CodePointInversionListAndStringList {
         ensures canonical { AreCanonical self.now.strings }
     {
         &self.strings
+    }
+
+    /// Whether it takes long to go along the strings: there are at least 64, or they have at least 4,096 bytes together.
+    pub fn has_many_strings(&self) -> bool
+        ensures { result ≡ has_many_strings self.now.strings }
+    {
+        self.strings.len() >= MANY_STRINGS || have_bytes(&self.strings, MANY_STRING_BYTES)
     }
 
     /// Whether the text is in the set: a text of exactly one character as a code point, any other as a string.
@@ -279,4 +293,15 @@ fn find_fault(strings: &[String]) -> Option<StringListError>
         before = Some(string.as_str());
     }
     None
+}
+
+/// Whether the strings have at least so many bytes together.
+fn have_bytes(strings: &[String], count: usize) -> bool
+    ensures { result ≡ nat_le count (bytes_of (map string_bytes strings.now)) }
+{
+    let mut missing = count;
+    for string in strings {
+        missing = missing.saturating_sub(string.len());
+    }
+    missing == 0
 }

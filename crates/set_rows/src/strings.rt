@@ -166,6 +166,43 @@ fn are_none(alloc: Global, texts: &[&str]) -> Option<bool> {
     Some(gathered(alloc, texts)?.is_empty())
 }
 
+/// How many strings a set has, how many bytes each of them, and whether these are many strings.
+const MANY: &[(u32, usize, bool)] = &[
+    (0, 0, false),
+    (63, 65, false),
+    (63, 66, true),
+    (64, 4, true),
+    (1, 4_095, false),
+    (1, 4_096, true),
+];
+
+/// So many strings of so many bytes, at least two, in order.
+fn strings_of(alloc: Global, count: u32, bytes: usize) -> Option<Vec<String>> {
+    let mut strings = Vec::new(alloc);
+    for number in 0..count {
+        let mut text = "z".repeat(alloc, bytes.saturating_sub(1)).ok()?;
+        text.push(char::from_u32(number.saturating_add(0x30))?)
+            .ok()?;
+        strings.push(text).ok()?;
+    }
+    Some(strings)
+}
+
+/// Whether the set of so many strings of so many bytes has many strings.
+fn has_many(alloc: Global, count: u32, bytes: usize) -> Option<bool> {
+    let list = CodePointInversionList::try_from_inversion_list(alloc, LETTERS).ok()?;
+    let strings = strings_of(alloc, count, bytes)?;
+    let set = CodePointInversionListAndStringList::try_from(list, strings).ok()?;
+    Some(set.has_many_strings())
+}
+
+#[test]
+fn many_strings_are_64_or_4096_bytes(rt: HostRuntime) {
+    for (count, bytes, is_many) in MANY {
+        assert_equal(&rt, has_many(rt.alloc(), *count, *bytes), Some(*is_many));
+    }
+}
+
 #[test]
 fn the_empty_string_is_a_string(rt: HostRuntime) {
     for (texts, expected) in [

@@ -13,15 +13,6 @@ const MANY_RANGES: usize = 32;
 /// The same of strings, each of which is copied.
 const MANY_STRINGS: usize = 4;
 
-/// From so many ranges on a set is named in terms, and not gathered.
-const HUGE_RANGES: usize = 4096;
-
-/// The same of strings.
-const HUGE_STRINGS: usize = 64;
-
-/// The same of the bytes of all strings, which are copied where they are gathered.
-const HUGE_BYTES: usize = 4096;
-
 /// A set that has a name, without the name.
 pub enum NamedSet<'a> {
     /// A set with strings.
@@ -113,7 +104,7 @@ impl NamedSet<'_> {
             NamedSet::Set(set) => (set.code_points(), set.strings().len()),
             NamedSet::CodePoints(source) | NamedSet::Complement(source) => (source.list(), 0),
         };
-        (list.get_inversion_list().len() / 2, strings)
+        (list.get_range_count(), strings)
     }
 
     /// Whether gathering the set takes more time than putting it off.
@@ -124,21 +115,11 @@ impl NamedSet<'_> {
         ranges >= MANY_RANGES || strings >= MANY_STRINGS
     }
 
-    /// How many bytes the strings of the set have.
-    fn string_bytes(&self) -> usize {
-        let NamedSet::Set(set) = self else {
-            return 0;
-        };
-        let mut bytes: usize = 0;
-        for text in set.strings() {
-            bytes = bytes.saturating_add(text.len());
-        }
-        bytes
-    }
-
     /// Whether the set is so large that brackets which name it are left as terms.
     pub(crate) fn is_huge(&self) -> bool {
-        let (ranges, strings) = self.sizes();
-        ranges >= HUGE_RANGES || strings >= HUGE_STRINGS || self.string_bytes() >= HUGE_BYTES
+        match self {
+            NamedSet::Set(set) => set.code_points().is_long() || set.has_many_strings(),
+            NamedSet::CodePoints(source) | NamedSet::Complement(source) => source.list().is_long(),
+        }
     }
 }

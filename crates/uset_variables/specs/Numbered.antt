@@ -1,11 +1,10 @@
 -- Numbers of the strings of what names are bound to.
-use Rattle.std.specs.Prelude.{◌≡◌, ℕ, Bool, true, false, ◌||◌, nat_le, List, length, Option, None, Some, option_map, is_some}
+use Rattle.std.specs.Prelude.{◌≡◌, ℕ, Bool, true, false, nat_le, List, length, Option, None, Some, option_map, is_some}
 use Rattle.std.specs.BTreeMap.{BTreeMap, get_by_text}
 use Rattle.std.specs.Global.{Global}
-use Rattle.std.specs.List.{sum_by}
 use Rattle.std.specs.Option.{option_or}
 use Rattle.std.specs.declared.string.String.{String}
-use Rattle.cp_strset.specs.StringSet.{StringSet}
+use Rattle.cp_strset.specs.StringSet.{StringSet, has_many_strings}
 use Rattle.cp_strset_terms.specs.Numbers.{AreNumbersOf}
 use Rattle.uset_grammar.specs.Tree.{Member}
 use Rattle.uset_gather.specs.Gathered.{in_set, is_string}
@@ -29,17 +28,9 @@ abbrev pub some_value_in : Option VariableValue → Member → Bool
 some_value_in None m = false
 some_value_in (Some value) m = value_in value m
 
--- how many bytes the strings have together
-abbrev pub bytes_of : List (List ℕ) → ℕ
-bytes_of strings = sum_by (λ s. length s) strings
-
--- so many strings get numbers, and strings of so many bytes
-abbrev pub get_numbers : List (List ℕ) → Bool
-get_numbers strings = nat_le 64 (length strings) || nat_le 4096 (bytes_of strings)
-
 -- a set gets numbers by its strings, and a string by its bytes
 abbrev pub gets_numbers : VariableValue → Bool
-gets_numbers (UnicodeSet set) = get_numbers set.strings
+gets_numbers (UnicodeSet set) = has_many_strings set.strings
 gets_numbers (Spelled s) = nat_le 4096 (length s)
 gets_numbers (Char c) = false
 

@@ -1,19 +1,10 @@
 //! The numbers of the strings of what a name is bound to.
-ghost use Rattle.std.specs.Prelude.{◌≡◌, map, nat_le};
-ghost use Rattle.std.specs.String.{string_bytes};
-ghost use Rattle.uset_variables.specs.Numbered.{bytes_of, get_numbers};
 
 use crate::value::{KeptValue, VariableValue};
 use cp_invlist::NoMemory;
-use cp_strset::CodePointInversionListAndStringList;
+use cp_strset::{CodePointInversionListAndStringList, MANY_STRING_BYTES};
 use cp_strset_terms::{NumberSet, StringNumbers};
 use std::alloc::Global;
-
-/// Fewer strings, of fewer bytes, get no numbers: they are gathered or looked up as fast without.
-const MANY_STRINGS: usize = 64;
-
-/// Strings of so many bytes are long: to copy them, or to compare those that begin alike, goes along them.
-const MANY_BYTES: usize = 4096;
 
 /// What is kept for a name so that its strings needn't be gone along.
 pub(crate) struct Index {
@@ -33,24 +24,6 @@ impl Drop for Index {
     }
 }
 
-/// Whether the strings have at least so many bytes together.
-fn have_bytes(strings: &[String], count: usize) -> bool
-    ensures { result ≡ nat_le count (bytes_of (map string_bytes strings.now)) }
-{
-    let mut missing = count;
-    for string in strings {
-        missing = missing.saturating_sub(string.len());
-    }
-    missing == 0
-}
-
-/// Whether the strings get numbers.
-fn get_numbers(strings: &[String]) -> bool
-    ensures { result ≡ get_numbers (map string_bytes strings.now) }
-{
-    strings.len() >= MANY_STRINGS || have_bytes(strings, MANY_BYTES)
-}
-
 impl Index {
     ghost use Rattle.std.specs.Prelude.{◌≡◌, Some, IfOk, IfSome, is_some};
     ghost use Rattle.std.specs.Option.{option_copied};
@@ -68,11 +41,11 @@ impl Index {
         ensures some { IfOk result (λ index. is_some index ≡ gets_numbers kept.now.value) }
     {
         match kept.as_value() {
-            VariableValue::UnicodeSet(set) if get_numbers(set.strings()) => Ok(Some(Index {
+            VariableValue::UnicodeSet(set) if set.has_many_strings() => Ok(Some(Index {
                 numbers: strings.number(alloc, set)?,
                 alone: None,
             })),
-            VariableValue::String(s) if s.as_str().len() >= MANY_BYTES => {
+            VariableValue::String(s) if s.as_str().len() >= MANY_STRING_BYTES => {
                 let set = s.alone(alloc)?;
                 Ok(Some(Index {
                     numbers: strings.number(alloc, &set)?,
