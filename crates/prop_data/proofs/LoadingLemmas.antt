@@ -27,9 +27,8 @@ use Rattle.prop_data.specs.Numbers.{range}
 use Rattle.prop_data.specs.Rows.{holds, value_of, text_of, value_outside, is_subtags, first_scripts}
 use Rattle.prop_data.specs.Tables.{EmojiMembers, Tables}
 use Rattle.prop_data.specs.LineFault.{row_fault, no_text, no_emoji}
-use Rattle.prop_data.specs.TableText.{at_line}
-use Rattle.prop_data.specs.declared.error.LoadError.{LoadError}
-use Rattle.prop_data.specs.declared.error.LoadError.TheVariants.{Table, NoMemory}
+use Rattle.prop_data.specs.declared.error.LineError.{LineError}
+use Rattle.prop_data.specs.declared.error.LineError.TheVariants.{Fault, NoMemory}
 use Rattle.prop_data.specs.declared.error.TableErrorKind.{TableErrorKind}
 use Rattle.prop_data.specs.Strings.{is_text, string_in, range_in}
 use Rattle.std.specs.BTreeSet.{contains_text}
@@ -49,7 +48,7 @@ pub same_emoji : (old new : EmojiMembers) (t : ℕ) (tables : Tables) → ((c : 
 same_emoji old new t tables points strings = ap (λ m. with_emoji t m tables) (same_members new old points strings)
 
 -- an open table without rows
-pub tables_with-new : (o : OpenTable) (base tables : Tables) → IsNew o → base ≡ tables → tables_with (Some o) base ≡ tables_begun (Some (table_seen o)) tables
+pub tables_with-new : (o : OpenTable) (base tables : Tables) → IsNew o → base ≡ tables → tables_with o base ≡ tables_begun (Some (table_seen o)) tables
 tables_with-new (Set o) base tables new same = ap (λ b. with_set o.table (contains b) base) new.0 ∙ ap (with_set o.table (λ c. false)) same
 tables_with-new (Map o) base tables new same =
     ap (λ rs. with_map o.table (λ c. cond (nat_lt 0x10_FFFF c) (default_number o.table) (value_in rs o.builder.default c)) base) new.0
@@ -81,21 +80,21 @@ number_grown f false x new y is = refl
 
 -- a set with a row more
 pub set_grown : (old new : OpenSet) (r : Row) → new.table ≡ old.table → ((c : ℕ) → contains new.builder c ≡ (contains old.builder c || holds (range r.0) c)) →
-    (tables : Tables) → tables_with (Some (Set new)) tables ≡ tables_grown (Some (set_table old.table)) r (tables_with (Some (Set old)) tables)
+    (tables : Tables) → tables_with (Set new) tables ≡ tables_grown (Some (set_table old.table)) r (tables_with (Set old) tables)
 set_grown old new r same adds tables = sets_told _ _ (λ t.
     ap (λ n. cond (nat_eq n t) (Some (contains new.builder)) (tables.sets t)) same
     ∙ number_grown (λ (m : ℕ → Bool) (c : ℕ). m c || holds (range r.0) c) (nat_eq old.table t) (contains old.builder) (contains new.builder) (tables.sets t) (fun_ext adds))
 
 -- a map with a row more
 pub map_grown : (old new : OpenMap) (r : Row) → new.table ≡ old.table → ((c : ℕ) → values_of new c ≡ cond (holds (range r.0) c) (value_of r.1) (values_of old c)) →
-    (tables : Tables) → tables_with (Some (Map new)) tables ≡ tables_grown (Some (map_table old.table old.builder.default)) r (tables_with (Some (Map old)) tables)
+    (tables : Tables) → tables_with (Map new) tables ≡ tables_grown (Some (map_table old.table old.builder.default)) r (tables_with (Map old) tables)
 map_grown old new r same adds tables = maps_told _ _ (λ t.
     ap (λ n. cond (nat_eq n t) (Some (values_of new)) (tables.maps t)) same
     ∙ number_grown (λ (v : ℕ → ℕ) (c : ℕ). cond (holds (range r.0) c) (value_of r.1) (v c)) (nat_eq old.table t) (values_of old) (values_of new) (tables.maps t) (fun_ext adds))
 
 -- a table of names with a row more
 pub names_grown : (old new : OpenNames) (r : Row) → new.table ≡ old.table → new.builder ≡ with_name old.builder (text_of r.1) (value_of (Some r.0)) →
-    (tables : Tables) → tables_with (Some (Names new)) tables ≡ tables_grown (Some (names_table old.table)) r (tables_with (Some (Names old)) tables)
+    (tables : Tables) → tables_with (Names new) tables ≡ tables_grown (Some (names_table old.table)) r (tables_with (Names old) tables)
 names_grown old new r same adds tables = names_told _ _ (λ t.
     ap (λ n. cond (nat_eq n t) (Some new.builder) (tables.names t)) same
     ∙ number_grown (λ (names : NamesTable). with_name names (text_of r.1) (value_of (Some r.0))) (nat_eq old.table t) old.builder new.builder (tables.names t) adds)
@@ -109,34 +108,34 @@ texts_grown Short t old new r adds tables = short_told _ _ (λ k. number_grown (
 -- an emoji table with a row more
 pub emoji_grown : (old new : OpenEmoji) (r : Row) → new.table ≡ old.table → ((c : ℕ) → contains new.builder c ≡ (contains old.builder c || holds (range_in r.0) c)) →
     ((bytes : List ℕ) → contains_text new.strings bytes ≡ (contains_text old.strings bytes || is_text (string_in r.0) bytes)) →
-    (tables : Tables) → tables_with (Some (Emoji new)) tables ≡ tables_grown (Some (emoji_table old.table)) r (tables_with (Some (Emoji old)) tables)
+    (tables : Tables) → tables_with (Emoji new) tables ≡ tables_grown (Some (emoji_table old.table)) r (tables_with (Emoji old) tables)
 emoji_grown old new r same points strings tables = emoji_told _ _ (λ t.
     ap (λ n. cond (nat_eq n t) (Some (emoji_read new)) (tables.emoji t)) same
     ∙ number_grown (emoji_with r) (nat_eq old.table t) (emoji_read old) (emoji_read new) (tables.emoji t) (same_members (emoji_read new) (emoji_with r (emoji_read old)) points strings))
 
 -- an open emoji table took a row that is a range or a string
-pub takes_emoji : (old new : OpenEmoji) (row : Row) (found : Option TableErrorKind) (r : Option (ℕ × ℕ)) (text : Option (List ℕ)) (n : ℕ) (result : Result (Unit {0}) LoadError) →
-    ((tables : Tables) → row_fault (tables_with (Some (Emoji old)) tables) (Some (emoji_table old.table)) old.last row ≡ found) → range_in row.0 ≡ r → string_in row.0 ≡ text →
-    TakesEmoji old found r text n result new → TakesRow (Emoji old) row n result (Emoji new)
-takes_emoji old new row found r text n (Ok u) fault_is range_is text_is h = (
+pub takes_emoji : (old new : OpenEmoji) (row : Row) (found : Option TableErrorKind) (r : Option (ℕ × ℕ)) (text : Option (List ℕ)) (result : Result (Unit {0}) LineError) →
+    ((tables : Tables) → row_fault (tables_with (Emoji old) tables) (Some (emoji_table old.table)) old.last row ≡ found) → range_in row.0 ≡ r → string_in row.0 ≡ text →
+    TakesEmoji old found r text result new → TakesRow (Emoji old) row result (Emoji new)
+takes_emoji old new row found r text (Ok u) fault_is range_is text_is h = (
   λ tables. fault_is tables ∙ h.0,
   ap emoji_table h.1,
   h.2 ∙ ap (λ (o : Option (ℕ × ℕ)). option_or (option_map (λ (x : ℕ × ℕ). x.1) o) old.last) (sym range_is),
   emoji_grown old new row h.1 (λ c. h.3 c ∙ ap (λ (o : Option (ℕ × ℕ)). contains old.builder c || holds o c) (sym range_is))
       (λ bytes. h.4 bytes ∙ ap (λ (o : Option (List ℕ)). contains_text old.strings bytes || is_text o bytes) (sym text_is)),
 )
-takes_emoji old new row found r text n (Err (Table fault)) fault_is range_is text_is h = λ tables. ap (option_map (at_line n)) (fault_is tables) ∙ h
-takes_emoji old new row found r text n (Err NoMemory) fault_is range_is text_is h = tt
+takes_emoji old new row found r text (Err (Fault kind)) fault_is range_is text_is h = λ tables. fault_is tables ∙ h
+takes_emoji old new row found r text (Err NoMemory) fault_is range_is text_is h = tt
 
 -- scripts with extensions with a row more
 pub scripts_grown : (old new : OpenScripts) (r : Row) → ((c : ℕ) → (scripts_read new).values c ≡ cond (holds (range r.0) c) (value_of r.1) ((scripts_read old).values c)) →
     new.named.items ≡ old.named.items ++ value_of r.1 ∷ [] →
-    (tables : Tables) → tables_with (Some (Scripts new)) tables ≡ tables_grown (Some (scx_table old.builder.default)) r (tables_with (Some (Scripts old)) tables)
+    (tables : Tables) → tables_with (Scripts new) tables ≡ tables_grown (Some (scx_table old.builder.default)) r (tables_with (Scripts old) tables)
 scripts_grown old new r adds named tables = let values = fun_ext adds in λ i. with_scripts (record { values = values i; named = named i }) tables
 
 -- an extension list with a row more
 pub list_grown : (old new : OpenList) (r : Row) → new.index ≡ old.index → new.script ≡ old.script → new.scripts.items ≡ old.scripts.items ++ value_of (Some r.0) ∷ [] →
-    (tables : Tables) → tables_with (Some (Listed new)) tables ≡ tables_grown (Some (ext_table old.index old.script)) r (tables_with (Some (Listed old)) tables)
+    (tables : Tables) → tables_with (Listed new) tables ≡ tables_grown (Some (ext_table old.index old.script)) r (tables_with (Listed old) tables)
 list_grown old new r index script adds tables = extensions_told _ _ (λ t.
     ap (λ n. cond (nat_eq n t) (Some (list_read new)) (tables.extensions t)) index
     ∙ number_grown (list_with r) (nat_eq old.index t) (list_read old) (list_read new) (tables.extensions t) (λ i. record { has_script = is_some (script i); scripts = adds i }))

@@ -1,14 +1,14 @@
 -- Where the reading of a table text stands: some lines are read, and the rest is to come.
 use Rattle.std.specs.Option.{option_or}
-use Rattle.std.proofs.Common.{◌≡◌, ℕ, ◌+◌, ◌≤◌, ◌<◌, List, [], ◌∷◌, length, Some, None, option_map, refl, sym, ap, ◌∙◌, arith, Err}
+use Rattle.std.proofs.Common.{◌≡◌, ℕ, ◌+◌, ◌≤◌, ◌<◌, List, [], ◌∷◌, length, Some, None, option_map, Err, refl, sym, ap, ◌∙◌, arith}
 use Rattle.text_lines.specs.Lines.{lines}
 use Rattle.text_lines.specs.Fields.{fields}
-use Rattle.prop_data.specs.declared.error.TableError.{TableError}
 use Rattle.prop_data.specs.Line.{Line, line_of}
-use Rattle.prop_data.specs.declared.error.LoadError.{LoadError}
-use Rattle.prop_data.specs.declared.error.LoadError.TheVariants.{Table, NoMemory}
+use Rattle.prop_data.specs.declared.error.LineError.{LineError}
+use Rattle.prop_data.specs.declared.error.LineError.TheVariants.{Fault, NoMemory}
+use Rattle.prop_data.specs.declared.error.TableErrorKind.{TableErrorKind}
 use Rattle.prop_data.specs.Database.{IsFault}
-use Rattle.prop_data.specs.Loading.{after, Takes}
+use Rattle.prop_data.specs.Loading.{after, error_at, Takes}
 use Rattle.prop_data.specs.LineFault.{Above, above, line_fault}
 use Rattle.prop_data.specs.TableText.{at_line, first_fault, laid_on, lines_by_field, table_fault}
 use Rattle.prop_data.proofs.AboveLemmas.{above-line}
@@ -25,13 +25,13 @@ pub begins : (text : List ℕ) (seen : Above) → seen ≡ above [] → StandsAt
 begins text seen e = record { read = []; seen_is = e; fault_is = refl; lines_are = refl; counted = omega arith }
 
 -- the fault of the first line to come, if it has one, is the first fault
-faulty_line : (text rest line behind : List ℕ) (seen : Above) (number : ℕ) (fault : TableError) → StandsAt text rest seen number → lines rest ≡ line ∷ lines behind →
-    option_map (at_line number) (line_fault seen (line_of (fields line))) ≡ Some fault → table_fault (lines text) ≡ Some fault
-faulty_line text rest line behind seen number fault at parts faulty =
+faulty_line : (text rest line behind : List ℕ) (seen : Above) (number : ℕ) (kind : TableErrorKind) → StandsAt text rest seen number → lines rest ≡ line ∷ lines behind →
+    line_fault seen (line_of (fields line)) ≡ Some kind → table_fault (lines text) ≡ Some (at_line number kind)
+faulty_line text rest line behind seen number kind at parts faulty =
     sym at.fault_is ∙ (ap (λ ls. first_fault at.read number (lines_by_field ls)) parts
     ∙ ap (λ o. option_or o (first_fault (line_of (fields line) ∷ at.read) (number + 1) (lines_by_field (lines behind))))
     (ap (option_map (at_line number)) (fault_of_line-line_fault (above at.read) (line_of (fields line))
-    ∙ ap (λ a. line_fault a (line_of (fields line))) (sym at.seen_is)) ∙ faulty))
+    ∙ (ap (λ a. line_fault a (line_of (fields line))) (sym at.seen_is) ∙ faulty))))
 
 -- a line without a fault was read
 pub next_line : (text rest line behind : List ℕ) (seen new : Above) (number : ℕ) → StandsAt text rest seen number → lines rest ≡ line ∷ lines behind → length behind < length rest →
@@ -50,7 +50,7 @@ next_line text rest line behind seen new number at parts shorter whole is =
     }
 
 -- a line was not taken
-pub faulty_exit : (text rest line behind : List ℕ) (seen new : Above) (number : ℕ) (error : LoadError) → StandsAt text rest seen number → lines rest ≡ line ∷ lines behind →
-    Takes seen (line_of (fields line)) number (Err error) new → IsFault (lines text) error
-faulty_exit text rest line behind seen new number (Table fault) at parts h = faulty_line text rest line behind seen number fault at parts h
+pub faulty_exit : (text rest line behind : List ℕ) (seen new : Above) (number : ℕ) (error : LineError) → StandsAt text rest seen number → lines rest ≡ line ∷ lines behind →
+    Takes seen (line_of (fields line)) (Err error) new → IsFault (lines text) (error_at number error)
+faulty_exit text rest line behind seen new number (Fault kind) at parts h = faulty_line text rest line behind seen number kind at parts h
 faulty_exit text rest line behind seen new number NoMemory at parts h = tt

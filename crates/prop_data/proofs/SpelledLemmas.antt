@@ -1,15 +1,14 @@
 -- Strings as they are spelled in braces.
-use Rattle.std.proofs.Common.{◌≡◌, ℕ, ◌+◌, ◌<◌, Bool, true, false, cond, not, ◌&&◌, ◌==◌, nat_lt, List, [], ◌∷◌, ◌++◌, take, length, Option, Some, None, option_map, option_and_then, refl, sym, ap, ap₂, ◌∙◌, arith, append_assoc, append-nil, get_or, zero, suc}
+use Rattle.std.proofs.Common.{◌≡◌, ℕ, ◌+◌, ◌<◌, Bool, true, false, cond, not, ◌&&◌, ◌==◌, nat_lt, List, [], ◌∷◌, ◌++◌, take, length, Option, Some, None, option_map, option_and_then, Bor, refl, sym, ap, ap₂, ◌∙◌, arith, append_assoc, append-nil, get_or, zero, suc}
 use Rattle.std.proofs.lemmas.Bool.Decides.{nat_tests}
 use Rattle.std.proofs.lemmas.Bool.{and_parts, and_right, and_left, false_from_ne_true}
 use Rattle.std.proofs.lemmas.List.{take_more}
 use Rattle.std.proofs.lemmas.Str.{encodes-append}
 use lib.Utf8.{scalar}
 use Rattle.std.specs.Prelude.{encode_utf8, encode_utf8_all}
-use Rattle.std.specs.List.{position_or_len, slice_split, onto_first}
-use Rattle.std.proofs.lemmas.List.Splits.{slice_split_first}
+use Rattle.std.proofs.lemmas.Iterator.{YieldsList}
 use Rattle.std.specs.Str.{all_scalars}
-use Rattle.prop_data.specs.Strings.{before_brace, braced, is_underscore, numbers_of, first_part, parts_at, text_of_numbers, text_spelled}
+use Rattle.prop_data.specs.Strings.{before_brace, braced, numbers_of, text_of_numbers, text_spelled}
 use Rattle.prop_data.specs.Numbers.{hex}
 
 onto_front : (b : Bool) (x : ℕ) (front : List ℕ) → option_map (λ (f : List ℕ). x ∷ f) (cond b (Some front) None) ≡ cond b (Some (x ∷ front)) None
@@ -21,36 +20,6 @@ pub before_brace-last : (front : List ℕ) (c : ℕ) → before_brace (front ++ 
 before_brace-last [] c = refl
 before_brace-last (x ∷ []) c = onto_front (c == 0x7D) x []
 before_brace-last (x ∷ y ∷ front) c = ap (option_map (λ (f : List ℕ). x ∷ f)) (before_brace-last (y ∷ front) c) ∙ onto_front (c == 0x7D) x (y ∷ front)
-
--- the parts of what is still to be read
-abbrev pub parts_behind : Option (List ℕ) → List (List ℕ)
-parts_behind None = []
-parts_behind (Some text) = slice_split is_underscore text
-
--- how much is still to be read
-abbrev pub left_behind : Option (List ℕ) → ℕ
-left_behind None = 0
-left_behind (Some text) = length text + 1
-
-one_part : (text : List ℕ) → nat_lt (position_or_len is_underscore text) (length text) ≡ false → slice_split is_underscore text ≡ text ∷ []
-one_part [] h = refl
-one_part (c ∷ text) h = by_test (is_underscore c) refl (λ far. one_part text far)
-  where
-    by_test : (b : Bool) → is_underscore c ≡ b → (nat_lt (position_or_len is_underscore text) (length text) ≡ false → slice_split is_underscore text ≡ text ∷ []) →
-        cond b ([] ∷ slice_split is_underscore text) (onto_first c (slice_split is_underscore text)) ≡ (c ∷ text) ∷ []
-    by_test true is more = absurd (let far : nat_lt (cond (not true) (1 + position_or_len is_underscore text) 0) (length (c ∷ text)) ≡ false = rw is at h in grind (arith, nat_tests, far))
-    by_test false isnt more =
-        let far : nat_lt (cond (not false) (1 + position_or_len is_underscore text) 0) (length (c ∷ text)) ≡ false = rw isnt at h in
-        ap (onto_first c) (more (grind (arith, nat_tests, far)))
-
--- the first part, and those behind it
-pub parts-first : (text : List ℕ) → slice_split is_underscore text ≡ (first_part text).0 ∷ parts_behind (first_part text).1
-parts-first text = by_test (nat_lt (position_or_len is_underscore text) (length text)) refl
-  where
-    by_test : (b : Bool) → nat_lt (position_or_len is_underscore text) (length text) ≡ b →
-        slice_split is_underscore text ≡ (parts_at text (cond b (Some (position_or_len is_underscore text)) None)).0 ∷ parts_behind (parts_at text (cond b (Some (position_or_len is_underscore text)) None)).1
-    by_test true is = slice_split_first is_underscore text 0 (grind (arith, nat_tests, is))
-    by_test false is = one_part text is
 
 -- one more number was read
 pub numbers_of-next : (read : List ℕ) (n : ℕ) (part : List ℕ) (parts : List (List ℕ)) → Some n ≡ hex part →
@@ -65,23 +34,24 @@ pub numbers_of-misspelled : (read part : List ℕ) (parts : List (List ℕ)) →
 numbers_of-misspelled read part parts is =
     ap (λ (o : Option ℕ). option_map (λ (ns : List ℕ). read ++ ns) (option_and_then (λ (m : ℕ). option_map (λ (ns : List ℕ). m ∷ ns) (numbers_of parts)) o)) (sym is)
 
--- what is read on is what was to be read
-pub misspelled_part : (read : List ℕ) (rest : Option (List ℕ)) (text part : List ℕ) (behind all : Option (List ℕ)) → rest ≡ Some text → (part, behind) ≡ first_part text → None ≡ hex part →
-    option_map (λ ns. read ++ ns) (numbers_of (parts_behind rest)) ≡ all → None ≡ all
-misspelled_part read rest text part behind all is parts bad same =
-    sym (numbers_of-misspelled read part (parts_behind behind) bad) ∙ (to_read read rest text part behind is parts ∙ same)
-  where
-    to_read : (read : List ℕ) (rest : Option (List ℕ)) (text part : List ℕ) (behind : Option (List ℕ)) → rest ≡ Some text → (part, behind) ≡ first_part text →
-        option_map (λ ns. read ++ ns) (numbers_of (part ∷ parts_behind behind)) ≡ option_map (λ ns. read ++ ns) (numbers_of (parts_behind rest))
-    to_read read rest text part behind is parts =
-        ap (λ (ps : List (List ℕ)). option_map (λ (ns : List ℕ). read ++ ns) (numbers_of ps)) (ap (λ (p : List ℕ × Option (List ℕ)). p.0 ∷ parts_behind p.1) parts ∙ (sym (parts-first text) ∙ ap parts_behind (sym is)))
+-- no number was read yet
+pub numbers_of-front : (read : List ℕ) (all : Option (List ℕ)) → read ≡ [] → option_map (λ ns. read ++ ns) all ≡ all
+numbers_of-front read None none = refl
+numbers_of-front read (Some ns) none = ap (λ (r : List ℕ). Some (r ++ ns)) none
 
-pub next_part : (read new : List ℕ) (rest : Option (List ℕ)) (text part : List ℕ) (behind all : Option (List ℕ)) (n : ℕ) → rest ≡ Some text → (part, behind) ≡ first_part text → Some n ≡ hex part →
-    new ≡ read ++ n ∷ [] → option_map (λ ns. read ++ ns) (numbers_of (parts_behind rest)) ≡ all → option_map (λ ns. new ++ ns) (numbers_of (parts_behind behind)) ≡ all
-next_part read new rest text part behind all n is parts good more same =
-    ap (λ (xs : List ℕ). option_map (λ (ns : List ℕ). xs ++ ns) (numbers_of (parts_behind behind))) more
-    ∙ (numbers_of-next read n part (parts_behind behind) good
-    ∙ (ap (λ (ps : List (List ℕ)). option_map (λ (ns : List ℕ). read ++ ns) (numbers_of ps)) (ap (λ (p : List ℕ × Option (List ℕ)). p.0 ∷ parts_behind p.1) parts ∙ (sym (parts-first text) ∙ ap parts_behind (sym is))) ∙ same))
+-- all numbers were read
+pub numbers_of-end : (read : List ℕ) (parts : List (List ℕ)) → parts ≡ [] → Some read ≡ option_map (λ ns. read ++ ns) (numbers_of parts)
+numbers_of-end read parts none = ap Some (sym (append-nil read)) ∙ ap (λ ps. option_map (λ (ns : List ℕ). read ++ ns) (numbers_of ps)) (sym none)
+
+-- an iterator of parts that gave one, or none
+pub next_part : {S : Type 0} {steps : S → Option (Bor (List ℕ)) → S → Type 0} (s t : S) (part : Bor (List ℕ)) (parts : List (List ℕ)) →
+    YieldsList steps (λ x. x.now) s parts → steps s (Some part) t → (rest : List (List ℕ)) × YieldsList steps (λ x. x.now) t rest × (parts ≡ part.now ∷ rest)
+next_part s t part [] left step = absurd (left.runs part t step)
+next_part s t part (p ∷ rest) left step = let next = left.runs.1 part t step in (rest, record { runs = next.1 }, ap (λ q. q ∷ rest) (sym next.0))
+
+pub no_part : {S : Type 0} {steps : S → Option (Bor (List ℕ)) → S → Type 0} (s t : S) (parts : List (List ℕ)) → YieldsList steps (λ x. x.now) s parts → steps s None t → parts ≡ []
+no_part s t [] left step = refl
+no_part s t (p ∷ rest) left step = absurd (left.runs.0 t step)
 
 -- a number that is no character's
 pub not_all : (ns : List ℕ) (i : ℕ) → i < length ns → (scalar (get_or ns i 0) ≡ true → ⊥) → all_scalars ns ≡ false

@@ -1,5 +1,5 @@
 -- What the loader keeps of the lines that it has read, and what a line makes of it.
-use Rattle.std.specs.Prelude.{◌≡◌, ℕ, Bool, true, false, ◌||◌, nat_eq, nat_lt, List, [], ◌∷◌, ◌++◌, Option, Some, None, is_some, option_map, option_and_then, Result, Ok, Err, if◌then◌else◌}
+use Rattle.std.specs.Prelude.{◌≡◌, ℕ, Bool, true, false, ◌||◌, nat_eq, nat_lt, List, [], ◌∷◌, ◌++◌, Option, Some, None, is_some, option_map, Result, Ok, Err, if◌then◌else◌}
 use Rattle.std.specs.Option.{option_copied, option_or}
 use Rattle.cp_invlist.specs.InversionList.{contains}
 use Rattle.cp_trie.specs.Runs.{value_in}
@@ -13,10 +13,13 @@ use Rattle.prop_data.specs.declared.line.Row.{Row as CodeRow}
 use Rattle.prop_data.specs.declared.line.Line.{Line as CodeLine}
 use Rattle.prop_data.specs.declared.line.Line.TheVariants.{Blank, Header as HeaderLine, Row as RowLine, Closing, Other}
 use Rattle.prop_data.specs.declared.error.LoadError.{LoadError}
-use Rattle.prop_data.specs.declared.error.LoadError.TheVariants.{Table as TableFault, NoMemory}
+use Rattle.prop_data.specs.declared.error.LoadError.TheVariants.{Table as TableFault, NoMemory as OutOfMemory}
+use Rattle.prop_data.specs.declared.error.LineError.{LineError}
+use Rattle.prop_data.specs.declared.error.LineError.TheVariants.{Fault, NoMemory}
 use Rattle.prop_data.specs.declared.error.TableErrorKind.{TableErrorKind}
-use Rattle.prop_data.specs.declared.error.TableErrorKind.TheVariants.{NoEnd}
 use Rattle.prop_data.specs.declared.load.Loader.{Loader}
+use Rattle.prop_data.specs.declared.load.Section.{Section}
+use Rattle.prop_data.specs.declared.load.Section.TheVariants.{Front, Table as InTable, Behind}
 use Rattle.prop_data.specs.declared.load.OpenTable.{OpenTable}
 use Rattle.prop_data.specs.declared.load.OpenTable.TheVariants.{Set, Map, Names, Texts, Emoji, Scripts, List as Listed}
 use Rattle.prop_data.specs.declared.load.texts.Length.{Length}
@@ -106,25 +109,31 @@ scripts_read o = record {
 abbrev pub list_read : OpenList → ExtensionList
 list_read o = record { has_script = is_some o.script; scripts = o.scripts.items }
 
--- the tables, and the open one beside them
-abbrev pub tables_with : Option OpenTable → Tables → Tables
-tables_with None tables = tables
-tables_with (Some (Set o)) tables = with_set o.table (contains o.builder) tables
-tables_with (Some (Map o)) tables = with_map o.table (values_of o) tables
-tables_with (Some (Names o)) tables = with_names o.table o.builder tables
-tables_with (Some (Texts o)) tables = with_texts o.length o.table (name_at o.texts) tables
-tables_with (Some (Emoji o)) tables = with_emoji o.table (emoji_read o) tables
-tables_with (Some (Scripts o)) tables = with_scripts (scripts_read o) tables
-tables_with (Some (Listed o)) tables = with_list o.index (list_read o) tables
+-- the tables with the open one
+abbrev pub tables_with : OpenTable → Tables → Tables
+tables_with (Set o) tables = with_set o.table (contains o.builder) tables
+tables_with (Map o) tables = with_map o.table (values_of o) tables
+tables_with (Names o) tables = with_names o.table o.builder tables
+tables_with (Texts o) tables = with_texts o.length o.table (name_at o.texts) tables
+tables_with (Emoji o) tables = with_emoji o.table (emoji_read o) tables
+tables_with (Scripts o) tables = with_scripts (scripts_read o) tables
+tables_with (Listed o) tables = with_list o.index (list_read o) tables
+
+-- what the loader keeps of the lines above, where it stands in this section below these tables
+abbrev pub kept_in : Section → Tables → Above
+kept_in Front tables = record { closed = false; table = None; last = None; tables = tables }
+kept_in (InTable o) tables =
+    record { closed = false; table = Some (table_seen o); last = last_seen o; tables = tables_with o tables }
+kept_in Behind tables = record { closed = true; table = None; last = None; tables = tables }
 
 -- what the loader keeps of the lines above
 abbrev pub kept : Loader → Above
-kept l = record {
-  closed = l.is_closed;
-  table = option_map table_seen l.open_table;
-  last = option_and_then last_seen l.open_table;
-  tables = tables_with l.open_table (tables_of l.database);
-}
+kept l = kept_in l.section (tables_of l.database)
+
+-- the error of the line with this number
+abbrev pub error_at : ℕ → LineError → LoadError
+error_at n (Fault kind) = TableFault (at_line n kind)
+error_at n NoMemory = OutOfMemory
 
 -- the same tables, and one without rows
 abbrev pub tables_begun : Option Table → Tables → Tables
@@ -210,10 +219,10 @@ after a (header h) =
 after a (row r) = record a { last = last_after a.table r a.last; tables = tables_grown a.table r a.tables }
 
 -- A line was taken, or its fault was told, or memory was refused.
-abbrev pub Takes : Above → Line → ℕ → Result (Unit {0}) LoadError → Above → Type 0
-Takes old line n (Ok _) new = (line_fault old line ≡ None) × (new ≡ after old line)
-Takes old line n (Err (TableFault fault)) new = option_map (at_line n) (line_fault old line) ≡ Some fault
-Takes old line n (Err NoMemory) new = Unit {0}
+abbrev pub Takes : Above → Line → Result (Unit {0}) LineError → Above → Type 0
+Takes old line (Ok _) new = (line_fault old line ≡ None) × (new ≡ after old line)
+Takes old line (Err (Fault kind)) new = line_fault old line ≡ Some kind
+Takes old line (Err NoMemory) new = Unit {0}
 
 -- an open table has no row yet
 abbrev pub IsNew : OpenTable → Type 0
@@ -226,36 +235,35 @@ IsNew (Listed o) = (o.scripts.items ≡ first_scripts o.script) × (o.last ≡ N
 IsNew (Emoji o) = (o.builder ≡ []) × (o.last ≡ None) × ((bytes : List ℕ) → contains_text o.strings bytes ≡ false)
 
 -- A table was begun, or the fault of its header was told, or memory was refused.
-abbrev pub Begins : Tables → Header → ℕ → Result OpenTable LoadError → Type 0
-Begins tables h n (Ok o) = (header_fault tables h ≡ None) × (table_of h ≡ Some (table_seen o)) × IsNew o
-Begins tables h n (Err (TableFault fault)) = option_map (at_line n) (header_fault tables h) ≡ Some fault
-Begins tables h n (Err NoMemory) = Unit {0}
+abbrev pub Begins : Tables → Header → Result OpenTable LineError → Type 0
+Begins tables h (Ok o) = (header_fault tables h ≡ None) × (table_of h ≡ Some (table_seen o)) × IsNew o
+Begins tables h (Err (Fault kind)) = header_fault tables h ≡ Some kind
+Begins tables h (Err NoMemory) = Unit {0}
 
 -- An open table beside others took a row, or the row's fault was told, or memory was refused.
-abbrev pub TakesRow : OpenTable → Row → ℕ → Result (Unit {0}) LoadError → OpenTable → Type 0
-TakesRow old r n (Ok _) new =
-    ((tables : Tables) → row_fault (tables_with (Some old) tables) (Some (table_seen old)) (last_seen old) r ≡ None)
+abbrev pub TakesRow : OpenTable → Row → Result (Unit {0}) LineError → OpenTable → Type 0
+TakesRow old r (Ok _) new =
+    ((tables : Tables) → row_fault (tables_with old tables) (Some (table_seen old)) (last_seen old) r ≡ None)
     × (table_seen new ≡ table_seen old)
     × (last_seen new ≡ last_after (Some (table_seen old)) r (last_seen old))
     × ((tables : Tables) →
-    tables_with (Some new) tables ≡ tables_grown (Some (table_seen old)) r (tables_with (Some old) tables))
-TakesRow old r n (Err (TableFault fault)) new =
+    tables_with new tables ≡ tables_grown (Some (table_seen old)) r (tables_with old tables))
+TakesRow old r (Err (Fault kind)) new =
     (tables : Tables) →
-    option_map (at_line n) (row_fault (tables_with (Some old) tables) (Some (table_seen old)) (last_seen old) r)
-    ≡ Some fault
-TakesRow old r n (Err NoMemory) new = Unit {0}
+    row_fault (tables_with old tables) (Some (table_seen old)) (last_seen old) r ≡ Some kind
+TakesRow old r (Err NoMemory) new = Unit {0}
 
 -- An open emoji table took a row that has this fault, or spells this range or this text, or the fault was told, or memory was refused.
-abbrev pub TakesEmoji : OpenEmoji → Option TableErrorKind → Option (ℕ × ℕ) → Option (List ℕ) → ℕ →
-    Result (Unit {0}) LoadError → OpenEmoji → Type 0
-TakesEmoji old found r text n (Ok _) new =
+abbrev pub TakesEmoji : OpenEmoji → Option TableErrorKind → Option (ℕ × ℕ) → Option (List ℕ) →
+    Result (Unit {0}) LineError → OpenEmoji → Type 0
+TakesEmoji old found r text (Ok _) new =
     (found ≡ None)
     × (new.table ≡ old.table)
     × (new.last ≡ option_or (option_map (λ range. range.1) r) old.last)
     × ((c : ℕ) → contains new.builder c ≡ (contains old.builder c || holds r c))
     × ((bytes : List ℕ) → contains_text new.strings bytes ≡ (contains_text old.strings bytes || is_text text bytes))
-TakesEmoji old found r text n (Err (TableFault fault)) new = option_map (at_line n) found ≡ Some fault
-TakesEmoji old found r text n (Err NoMemory) new = Unit {0}
+TakesEmoji old found r text (Err (Fault kind)) new = found ≡ Some kind
+TakesEmoji old found r text (Err NoMemory) new = Unit {0}
 
 -- the script of a header with this index, or the first test that both fail
 abbrev pub IsListed : ℕ → Option (List ℕ) → Result (Option ℕ) TableErrorKind → Type 0
@@ -265,9 +273,4 @@ IsListed i script (Err kind) = index_fault i (option_map decimal_number script) 
 
 -- the open table was moved into the database
 abbrev pub TakesFinished : OpenTable → PropertyDatabase → PropertyDatabase → Type 0
-TakesFinished o old new = tables_of new ≡ tables_with (Some o) (tables_of old)
-
--- the lines had no `end`, or memory was refused
-abbrev pub NoEndFault : Bool → ℕ → LoadError → Type 0
-NoEndFault closed n (TableFault fault) = (closed ≡ false) × (fault ≡ at_line n NoEnd)
-NoEndFault closed n NoMemory = Unit {0}
+TakesFinished o old new = tables_of new ≡ tables_with o (tables_of old)

@@ -1,6 +1,6 @@
 -- Strings as they are spelled: numbers with `_` between them, in braces.
-use Rattle.std.specs.Prelude.{ℕ, Bool, false, ◌&&◌, ◌==◌, nat_le, take, drop, ◌+◌, List, [], ◌∷◌, Option, Some, None, option_map, option_and_then, encode_utf8_all, if◌then◌else◌}
-use Rattle.std.specs.List.{list_any, position, slice_split}
+use Rattle.std.specs.Prelude.{ℕ, Bool, false, ◌&&◌, ◌==◌, nat_le, List, [], ◌∷◌, Option, Some, None, option_map, option_and_then, encode_utf8_all, if◌then◌else◌}
+use Rattle.std.specs.List.{list_any, slice_split}
 use Rattle.std.specs.Str.{bytes_eq, all_scalars}
 use Rattle.prop_data.specs.Numbers.{hex, range}
 
@@ -61,11 +61,3 @@ range_in field = range_unless (braced field) field
 -- the text of numbers that are all characters'
 abbrev pub text_spelled : List ℕ → Option (List ℕ)
 text_spelled ns = if all_scalars ns then Some (text_of_numbers ns) else None
-
-abbrev pub parts_at : List ℕ → Option ℕ → List ℕ × Option (List ℕ)
-parts_at text None = (text, None)
-parts_at text (Some i) = (take i text, Some (drop (i + 1) text))
-
--- what stands before the first `_`, and behind it
-abbrev pub first_part : List ℕ → List ℕ × Option (List ℕ)
-first_part text = parts_at text (position is_underscore text)

@@ -97,11 +97,13 @@ impl PropertyDatabase {
         let mut rest = text;
         let mut number = 1;
         while let Some((line, behind)) = split_line(rest) {
-            loader.take(line.as_bytes(), number)?;
+            if let Err(error) = loader.take(line.as_bytes()) {
+                return Err(error.at(number));
+            }
             number += 1;
             rest = behind;
         }
-        loader.finish(number)
+        loader.finish().map_err(|error| error.at(number))
     }
 
     pub(crate) fn new(alloc: Global) -> PropertyDatabase

@@ -1,6 +1,6 @@
 //! The faults of a table text.
 ghost use Rattle.std.specs.Prelude.{◌≡◌};
-ghost use Rattle.prop_data.specs.declared.error.LoadError.TheVariants.{NoMemory as OutOfMemory};
+ghost use Rattle.prop_data.specs.Loading.{error_at};
 
 use cp_invlist::NoMemory;
 use std::error::Error;
@@ -108,6 +108,8 @@ pub enum LoadError {
 }
 
 impl From<NoMemory> for LoadError {
+    ghost use Rattle.prop_data.specs.declared.error.LoadError.TheVariants.{NoMemory as OutOfMemory};
+
     ghost from_gives = { λ _ e. e ≡ OutOfMemory };
 
     fn from(_error: NoMemory) -> LoadError {
@@ -115,9 +117,32 @@ impl From<NoMemory> for LoadError {
     }
 }
 
-/// The fault of a line.
-pub(crate) fn fault(line: usize, kind: TableErrorKind) -> LoadError
-    ensures { result ≡ LoadError.Table (record { line = line; kind = kind }) }
-{
-    LoadError::Table(TableError { line, kind })
+/// Why a line is not taken.
+pub(crate) enum LineError {
+    /// The line has a fault.
+    Fault(TableErrorKind),
+    /// A request for memory was refused.
+    NoMemory,
+}
+
+impl LineError {
+    /// The error of the line with this number.
+    pub(crate) fn at(self, line: usize) -> LoadError
+        ensures { result ≡ error_at line self }
+    {
+        match self {
+            LineError::Fault(kind) => LoadError::Table(TableError { line, kind }),
+            LineError::NoMemory => LoadError::NoMemory,
+        }
+    }
+}
+
+impl From<NoMemory> for LineError {
+    ghost use Rattle.prop_data.specs.declared.error.LineError.TheVariants.{NoMemory as OutOfMemory};
+
+    ghost from_gives = { λ _ e. e ≡ OutOfMemory };
+
+    fn from(_error: NoMemory) -> LineError {
+        LineError::NoMemory
+    }
 }

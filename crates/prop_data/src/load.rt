@@ -1,8 +1,8 @@
 //! Reads the lines of a table text one by one.
-ghost use Rattle.std.specs.Prelude.{◌≡◌, [], None, true, OnOk, IfOk, IfErr};
+ghost use Rattle.std.specs.Prelude.{◌≡◌, [], true, false, OnOk, OnErr, IfOk, IfErr};
 ghost use Rattle.text_lines.specs.Fields.{fields};
 ghost use Rattle.prop_data.specs.Line.{line_of, set_header, map_header, names_header, emoji_header, scx_header, ext_header, header as header_line, row as row_line, closing};
-ghost use Rattle.prop_data.specs.Loading.{kept, texts_header, header_seen, row_seen, Takes, TakesRow, TakesFinished, Begins, NoEndFault};
+ghost use Rattle.prop_data.specs.Loading.{kept, kept_in, texts_header, header_seen, row_seen, Takes, TakesRow, TakesFinished, Begins};
 ghost use Rattle.prop_data.specs.Database.{tables_of};
 ghost use Rattle.prop_data.specs.LineFault.{above};
 ghost use Rattle.std.specs.Option.{option_copied};
@@ -17,7 +17,7 @@ mod set;
 mod texts;
 
 use crate::database::PropertyDatabase;
-use crate::error::{LoadError, TableErrorKind, fault};
+use crate::error::{LineError, TableErrorKind};
 use crate::line::{Header, Line, Row, read_line};
 use crate::value::{accepted, accepted_script};
 use cp_invlist::NoMemory;
@@ -30,6 +30,7 @@ use prop_values::{MapTable, NamesTable};
 use scripts::OpenScripts;
 use set::OpenSet;
 use std::alloc::Global;
+use std::mem;
 use text_lines::decimal_number;
 pub(crate) use texts::Length;
 use texts::{OpenTexts, text_table};
@@ -62,17 +63,17 @@ impl Drop for OpenTable {
 
 impl OpenTable {
     /// Takes a row of this table.
-    fn add_row(&mut self, row: Row<'_>, number: usize) -> Result<(), LoadError>
-        ensures { TakesRow self.old (row_seen row.entry) number result self.new }
+    fn add_row(&mut self, row: Row<'_>) -> Result<(), LineError>
+        ensures { TakesRow self.old (row_seen row.entry) result self.new }
     {
         match self {
-            OpenTable::Set(open) => open.add_row(row, number),
-            OpenTable::Map(open) => open.add_row(row, number),
-            OpenTable::Names(open) => open.add_row(row, number),
-            OpenTable::Texts(open) => open.add_row(row, number),
-            OpenTable::Emoji(open) => open.add_row(row, number),
-            OpenTable::Scripts(open) => open.add_row(row, number),
-            OpenTable::List(open) => open.add_row(row, number),
+            OpenTable::Set(open) => open.add_row(row),
+            OpenTable::Map(open) => open.add_row(row),
+            OpenTable::Names(open) => open.add_row(row),
+            OpenTable::Texts(open) => open.add_row(row),
+            OpenTable::Emoji(open) => open.add_row(row),
+            OpenTable::Scripts(open) => open.add_row(row),
+            OpenTable::List(open) => open.add_row(row),
         }
     }
 
@@ -92,12 +93,50 @@ impl OpenTable {
     }
 }
 
+/// Where the lines stand that were read.
+pub(crate) enum Section {
+    /// In front of the first header.
+    Front,
+    /// Below the header of this table.
+    Table(OpenTable),
+    /// Behind `end`.
+    Behind,
+}
+
+// By hand, so that letting a value go is one call in each proof.
+impl Drop for Section {
+    fn drop(self) {
+        match self {
+            Section::Front => {}
+            Section::Table(_) => {}
+            Section::Behind => {}
+        }
+    }
+}
+
+impl Section {
+    /// Moves the table of the section into the database. The answer is whether the section is behind `end`.
+    fn leave(self, alloc: Global, database: &mut PropertyDatabase) -> Result<bool, NoMemory>
+        ensures closed { IfOk result (λ is_behind_end. is_behind_end ≡ (kept_in self (tables_of database.old)).closed) }
+        ensures tables { OnOk result (tables_of database.new ≡ (kept_in self (tables_of database.old)).tables) }
+    {
+        match self {
+            Section::Front => Ok(false),
+            Section::Table(open_table) => {
+                open_table.finish(alloc, database)?;
+                Ok(false)
+            }
+            Section::Behind => Ok(true),
+        }
+    }
+}
+
 /// What was read so far.
 pub(crate) struct Loader {
     alloc: Global,
+    /// The tables above the section.
     database: PropertyDatabase,
-    open_table: Option<OpenTable>,
-    is_closed: bool,
+    section: Section,
 }
 
 // By hand, so that letting a value go is one call in each proof.
@@ -106,8 +145,7 @@ impl Drop for Loader {
         let Self {
             alloc: _,
             database: _,
-            open_table: _,
-            is_closed: _,
+            section: _,
         } = self;
     }
 }
@@ -119,241 +157,206 @@ impl Loader {
         Loader {
             alloc,
             database: PropertyDatabase::new(alloc),
-            open_table: None,
-            is_closed: false,
+            section: Section::Front,
         }
     }
 
-    /// Takes the line of this number.
-    pub(crate) fn take(&mut self, line: &[u8], number: usize) -> Result<(), LoadError>
-        ensures { Takes (kept self.old) (line_of (fields line.now)) number result (kept self.new) }
+    /// Takes the next line.
+    pub(crate) fn take(&mut self, line: &[u8]) -> Result<(), LineError>
+        ensures { Takes (kept self.old) (line_of (fields line.now)) result (kept self.new) }
     {
         match read_line(line) {
             Line::Blank => Ok(()),
-            Line::Header(header) => self.begin_table(header, number),
-            Line::Row(row) => self.add_row(row, number),
-            Line::Closing => self.close(number),
-            Line::Other => Err(fault(number, TableErrorKind::UnknownLine)),
+            Line::Header(header) => self.begin_table(header),
+            Line::Row(row) => self.add_row(row),
+            Line::Closing => self.close(),
+            Line::Other => Err(LineError::Fault(TableErrorKind::UnknownLine)),
         }
     }
 
-    /// Moves the open table into the database.
-    fn finish_table(&mut self) -> Result<(), NoMemory>
-        ensures ok { OnOk result (self.new.open_table ≡ None) }
+    /// Moves the table of the section into the database. The answer is whether the section was behind `end`.
+    fn leave_section(&mut self) -> Result<bool, NoMemory>
+        ensures closed { IfOk result (λ is_behind_end. is_behind_end ≡ (kept self.old).closed) }
         ensures tables { OnOk result (tables_of self.new.database ≡ (kept self.old).tables) }
-        ensures closed { OnOk result (self.new.is_closed ≡ self.old.is_closed) }
     {
-        let Some(open_table) = self.open_table.take() else {
-            return Ok(());
-        };
-        open_table.finish(self.alloc, &mut self.database)
+        let section = mem::replace(&mut self.section, Section::Front);
+        section.leave(self.alloc, &mut self.database)
     }
 
     /// The set of a header, without rows.
-    fn begin_set(&self, name: &[u8], number: usize) -> Result<OpenTable, LoadError>
-        ensures { Begins (tables_of self.now.database) (set_header name.now) number result }
+    fn begin_set(&self, name: &[u8]) -> Result<OpenTable, LineError>
+        ensures { Begins (tables_of self.now.database) (set_header name.now) result }
     {
         let Some(table) = SetTable::from_name(name) else {
-            return Err(fault(number, TableErrorKind::UnknownTable));
+            return Err(LineError::Fault(TableErrorKind::UnknownTable));
         };
         if self.database.set(table).is_some() {
-            return Err(fault(number, TableErrorKind::TableTwice));
+            return Err(LineError::Fault(TableErrorKind::TableTwice));
         }
         Ok(OpenTable::Set(OpenSet::new(self.alloc, table)))
     }
 
     /// The map of a header, without rows.
     #[tactic(auto, unfolding(crate::specs::LineFault::value_fault))]
-    fn begin_map(&self, name: &[u8], default: &[u8], number: usize) -> Result<OpenTable, LoadError>
-        ensures { Begins (tables_of self.now.database) (map_header name.now default.now) number result }
+    fn begin_map(&self, name: &[u8], default: &[u8]) -> Result<OpenTable, LineError>
+        ensures { Begins (tables_of self.now.database) (map_header name.now default.now) result }
     {
         let Some(table) = MapTable::from_name(name) else {
-            return Err(fault(number, TableErrorKind::UnknownTable));
+            return Err(LineError::Fault(TableErrorKind::UnknownTable));
         };
         if self.database.map(table).is_some() {
-            return Err(fault(number, TableErrorKind::TableTwice));
+            return Err(LineError::Fault(TableErrorKind::TableTwice));
         }
         let Some(spelled) = decimal_number(default) else {
-            return Err(fault(number, TableErrorKind::BadNumber));
+            return Err(LineError::Fault(TableErrorKind::BadNumber));
         };
         let Some(default) = accepted(table, spelled) else {
-            return Err(fault(number, TableErrorKind::ValueOutOfType));
+            return Err(LineError::Fault(TableErrorKind::ValueOutOfType));
         };
         Ok(OpenTable::Map(OpenMap::new(self.alloc, table, default)))
     }
 
     /// The table of names of a header, without rows.
-    fn begin_names(&self, name: &[u8], number: usize) -> Result<OpenTable, LoadError>
-        ensures { Begins (tables_of self.now.database) (names_header name.now) number result }
+    fn begin_names(&self, name: &[u8]) -> Result<OpenTable, LineError>
+        ensures { Begins (tables_of self.now.database) (names_header name.now) result }
     {
         let Some(table) = NamesTable::from_name(name) else {
-            return Err(fault(number, TableErrorKind::UnknownTable));
+            return Err(LineError::Fault(TableErrorKind::UnknownTable));
         };
         if self.database.names(table).is_some() {
-            return Err(fault(number, TableErrorKind::TableTwice));
+            return Err(LineError::Fault(TableErrorKind::TableTwice));
         }
         Ok(OpenTable::Names(OpenNames::new(self.alloc, table)))
     }
 
     /// The table of one name for each value of a header, without rows.
-    fn begin_texts(
-        &self,
-        length: Length,
-        name: &[u8],
-        number: usize,
-    ) -> Result<OpenTable, LoadError>
-        ensures { Begins (tables_of self.now.database) (texts_header length name.now) number result }
+    fn begin_texts(&self, length: Length, name: &[u8]) -> Result<OpenTable, LineError>
+        ensures { Begins (tables_of self.now.database) (texts_header length name.now) result }
     {
         let Some(table) = text_table(name) else {
-            return Err(fault(number, TableErrorKind::UnknownTable));
+            return Err(LineError::Fault(TableErrorKind::UnknownTable));
         };
         if self.database.has_texts(length, table) {
-            return Err(fault(number, TableErrorKind::TableTwice));
+            return Err(LineError::Fault(TableErrorKind::TableTwice));
         }
         Ok(OpenTable::Texts(OpenTexts::new(self.alloc, table, length)))
     }
 
     /// The emoji table of a header, without rows.
-    fn begin_emoji(&self, name: &[u8], number: usize) -> Result<OpenTable, LoadError>
-        ensures { Begins (tables_of self.now.database) (emoji_header name.now) number result }
+    fn begin_emoji(&self, name: &[u8]) -> Result<OpenTable, LineError>
+        ensures { Begins (tables_of self.now.database) (emoji_header name.now) result }
     {
         let Some(table) = emoji_table(name) else {
-            return Err(fault(number, TableErrorKind::UnknownTable));
+            return Err(LineError::Fault(TableErrorKind::UnknownTable));
         };
         if self.database.emoji(table).is_some() {
-            return Err(fault(number, TableErrorKind::TableTwice));
+            return Err(LineError::Fault(TableErrorKind::TableTwice));
         }
         Ok(OpenTable::Emoji(OpenEmoji::new(self.alloc, table)))
     }
 
     /// The scripts with extensions of a header, without rows.
     #[tactic(auto, unfolding(crate::specs::LineFault::value_fault))]
-    fn begin_scripts(&self, default: &[u8], number: usize) -> Result<OpenTable, LoadError>
-        ensures { Begins (tables_of self.now.database) (scx_header default.now) number result }
+    fn begin_scripts(&self, default: &[u8]) -> Result<OpenTable, LineError>
+        ensures { Begins (tables_of self.now.database) (scx_header default.now) result }
     {
         if self.database.scripts().is_some() {
-            return Err(fault(number, TableErrorKind::TableTwice));
+            return Err(LineError::Fault(TableErrorKind::TableTwice));
         }
         let Some(spelled) = decimal_number(default) else {
-            return Err(fault(number, TableErrorKind::BadNumber));
+            return Err(LineError::Fault(TableErrorKind::BadNumber));
         };
         let Some(default) = accepted_script(spelled) else {
-            return Err(fault(number, TableErrorKind::ValueOutOfType));
+            return Err(LineError::Fault(TableErrorKind::ValueOutOfType));
         };
         Ok(OpenTable::Scripts(OpenScripts::new(self.alloc, default)?))
     }
 
     /// The extension list of a header, without rows.
-    fn begin_list(
-        &self,
-        index: &[u8],
-        script: Option<&[u8]>,
-        number: usize,
-    ) -> Result<OpenTable, LoadError>
+    fn begin_list(&self, index: &[u8], script: Option<&[u8]>) -> Result<OpenTable, LineError>
         ensures { Begins (tables_of self.now.database)
-            (ext_header index.now (option_copied script.entry)) number result }
+            (ext_header index.now (option_copied script.entry)) result }
     {
         let Some(index) = decimal_number(index) else {
-            return Err(fault(number, TableErrorKind::BadNumber));
+            return Err(LineError::Fault(TableErrorKind::BadNumber));
         };
         if self.database.has_list(index) {
-            return Err(fault(number, TableErrorKind::TableTwice));
+            return Err(LineError::Fault(TableErrorKind::TableTwice));
         }
         match listed_script(index, script) {
             Ok(script) => Ok(OpenTable::List(OpenList::new(self.alloc, index, script)?)),
-            Err(kind) => Err(fault(number, kind)),
+            Err(kind) => Err(LineError::Fault(kind)),
         }
     }
 
     /// The table of a header, without rows.
-    fn begin(&self, header: Header<'_>, number: usize) -> Result<OpenTable, LoadError>
-        ensures { Begins (tables_of self.now.database) (header_seen header.entry) number result }
+    fn begin(&self, header: Header<'_>) -> Result<OpenTable, LineError>
+        ensures { Begins (tables_of self.now.database) (header_seen header.entry) result }
     {
         match header {
-            Header::Set { name } => self.begin_set(name, number),
-            Header::Map { name, default } => self.begin_map(name, default, number),
-            Header::Names { name } => self.begin_names(name, number),
-            Header::Texts { length, name } => self.begin_texts(length, name, number),
-            Header::Emoji { name } => self.begin_emoji(name, number),
-            Header::Scripts { default } => self.begin_scripts(default, number),
-            Header::Extensions { index, script } => self.begin_list(index, script, number),
+            Header::Set { name } => self.begin_set(name),
+            Header::Map { name, default } => self.begin_map(name, default),
+            Header::Names { name } => self.begin_names(name),
+            Header::Texts { length, name } => self.begin_texts(length, name),
+            Header::Emoji { name } => self.begin_emoji(name),
+            Header::Scripts { default } => self.begin_scripts(default),
+            Header::Extensions { index, script } => self.begin_list(index, script),
         }
     }
 
     /// Takes the header of a table.
-    fn begin_table(&mut self, header: Header<'_>, number: usize) -> Result<(), LoadError>
-        ensures { Takes (kept self.old) (header_line (header_seen header.entry)) number result (kept self.new) }
+    fn begin_table(&mut self, header: Header<'_>) -> Result<(), LineError>
+        ensures { Takes (kept self.old) (header_line (header_seen header.entry)) result (kept self.new) }
     {
-        self.finish_table()?;
-        let open_table = self.begin(header, number)?;
-        if self.is_closed {
-            return Err(fault(number, TableErrorKind::AfterEnd));
+        let is_behind_end = self.leave_section()?;
+        let open_table = self.begin(header)?;
+        if is_behind_end {
+            return Err(LineError::Fault(TableErrorKind::AfterEnd));
         }
-        self.open_table = Some(open_table);
+        self.section = Section::Table(open_table);
         Ok(())
     }
 
     /// Takes a row.
-    fn add_row(&mut self, row: Row<'_>, number: usize) -> Result<(), LoadError>
-        ensures { Takes (kept self.old) (row_line (row_seen row.entry)) number result (kept self.new) }
+    fn add_row(&mut self, row: Row<'_>) -> Result<(), LineError>
+        ensures { Takes (kept self.old) (row_line (row_seen row.entry)) result (kept self.new) }
     {
-        if self.is_closed {
-            return Err(fault(number, TableErrorKind::UnknownLine));
+        match &mut self.section {
+            Section::Table(open_table) => open_table.add_row(row),
+            Section::Front | Section::Behind => Err(LineError::Fault(TableErrorKind::UnknownLine)),
         }
-        let Some(open_table) = &mut self.open_table else {
-            return Err(fault(number, TableErrorKind::UnknownLine));
-        };
-        open_table.add_row(row, number)
     }
 
     /// Takes the line `end`. All tables are read then, so that each list of scripts that is asked for must be there.
-    fn close(&mut self, number: usize) -> Result<(), LoadError>
-        ensures { Takes (kept self.old) closing number result (kept self.new) }
+    fn close(&mut self) -> Result<(), LineError>
+        ensures { Takes (kept self.old) closing result (kept self.new) }
     {
-        self.finish_table()?;
+        let is_behind_end = self.leave_section()?;
         if self.database.lacks_list() {
-            return Err(fault(number, TableErrorKind::ExtensionMissing));
+            return Err(LineError::Fault(TableErrorKind::ExtensionMissing));
         }
-        if self.is_closed {
-            return Err(fault(number, TableErrorKind::AfterEnd));
+        if is_behind_end {
+            return Err(LineError::Fault(TableErrorKind::AfterEnd));
         }
-        self.is_closed = true;
+        self.section = Section::Behind;
         Ok(())
     }
 
-    /// Sees to it that the lines end with `end`, and that no table is open then. `number` is that of the line behind them.
-    fn end(&mut self, number: usize) -> Result<(), LoadError>
-        ensures closed { OnOk result (self.old.is_closed ≡ true) }
-        ensures tables { OnOk result (tables_of self.new.database ≡ (kept self.old).tables) }
-        ensures err { IfErr result (NoEndFault self.old.is_closed number) }
-    {
-        if !self.is_closed {
-            return Err(fault(number, TableErrorKind::NoEnd));
-        }
-        self.finish_table()?;
-        Ok(())
-    }
-
-    /// The database.
-    fn into_database(self) -> PropertyDatabase
-        ensures { result ≡ self.database }
+    /// The database of the lines that were read, which end with `end`.
+    pub(crate) fn finish(self) -> Result<PropertyDatabase, LineError>
+        ensures closed { OnOk result ((kept self).closed ≡ true) }
+        ensures tables { IfOk result (λ database. tables_of database ≡ (kept self).tables) }
+        ensures open { OnErr result ((kept self).closed ≡ false) }
+        ensures no_end { IfErr result (λ error. error ≡ LineError.Fault TableErrorKind.NoEnd) }
     {
         let Self {
             alloc: _,
             database,
-            open_table: _,
-            is_closed: _,
+            section,
         } = self;
-        database
-    }
-
-    /// The database of the lines that were read, where they end with `end`. `number` is that of the
-    /// line behind them.
-    pub(crate) fn finish(mut self, number: usize) -> Result<PropertyDatabase, LoadError>
-        ensures ok { IfOk result (λ database. (self.is_closed ≡ true) × (tables_of database ≡ (kept self).tables)) }
-        ensures err { IfErr result (NoEndFault self.is_closed number) }
-    {
-        self.end(number)?;
-        Ok(self.into_database())
+        match &section {
+            Section::Behind => Ok(database),
+            Section::Front | Section::Table(_) => Err(LineError::Fault(TableErrorKind::NoEnd)),
+        }
     }
 }

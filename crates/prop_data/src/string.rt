@@ -1,9 +1,9 @@
 //! Strings as they are spelled in braces.
-ghost use Rattle.std.specs.Prelude.{◌≡◌, ◌<◌, IfOk, IfSome, length, option_map};
-ghost use Rattle.std.specs.List.{list_any, position, slice_split};
+ghost use Rattle.std.specs.Prelude.{◌≡◌, IfOk, option_map};
+ghost use Rattle.std.specs.List.{list_any, slice_split};
 ghost use Rattle.std.specs.Option.{option_copied};
 ghost use Rattle.std.specs.String.{string_bytes};
-ghost use Rattle.prop_data.specs.Strings.{braced, is_underscore, first_part, numbers_of, spelled_numbers, is_surrogate, text_spelled};
+ghost use Rattle.prop_data.specs.Strings.{braced, is_underscore, numbers_of, spelled_numbers, is_surrogate, text_spelled};
 
 use cp_invlist::NoMemory;
 use std::alloc::Global;
@@ -23,37 +23,17 @@ pub(crate) fn braced(field: &[u8]) -> Option<&[u8]>
     }
 }
 
-fn underscore_place(text: &[u8]) -> Option<usize>
-    ensures { result ≡ position is_underscore text.now }
-{
-    text.iter().position(|byte| *byte == b'_')
-}
-
-/// What stands before the first `_`, and behind it, where there is one.
-fn first_part(text: &[u8]) -> (&[u8], Option<&[u8]>)
-    ensures parts { (result.0.now, option_copied result.1) ≡ first_part text.now }
-    ensures shorter { IfSome result.1 (λ behind. length behind.now < length text.now) }
-{
-    match underscore_place(text) {
-        Some(place) => (&text[..place], Some(&text[place + 1..])),
-        None => (text, None),
-    }
-}
-
 /// The numbers of the parts between `_`.
 fn numbers_of(alloc: Global, text: &[u8]) -> Result<Option<Vec<u32>>, NoMemory>
     ensures { IfOk result
         (λ numbers. option_map (λ v. v.items) numbers ≡ numbers_of (slice_split is_underscore text.now)) }
 {
     let mut numbers = Vec::new(alloc);
-    let mut rest = Some(text);
-    while let Some(text) = rest {
-        let (part, behind) = first_part(text);
+    for part in text.split(|byte| *byte == b'_') {
         let Some(number) = hex(part) else {
             return Ok(None);
         };
         numbers.push(number)?;
-        rest = behind;
     }
     Ok(Some(numbers))
 }

@@ -8,7 +8,7 @@ ghost use Rattle.prop_data.specs.Numbers.{range};
 ghost use Rattle.prop_data.specs.Strings.{string_numbers, text_of_numbers};
 
 use crate::database::PropertyDatabase;
-use crate::error::{LoadError, TableErrorKind, fault};
+use crate::error::{LineError, TableErrorKind};
 use crate::line::Row;
 use crate::load::OpenTable;
 use crate::numbers::range;
@@ -57,28 +57,28 @@ impl OpenEmoji {
     }
 
     /// Takes a row.
-    pub(crate) fn add_row(&mut self, row: Row<'_>, number: usize) -> Result<(), LoadError>
-        ensures { TakesRow (OpenTable.Emoji self.old) (row_seen row.entry) number result (OpenTable.Emoji self.new) }
+    pub(crate) fn add_row(&mut self, row: Row<'_>) -> Result<(), LineError>
+        ensures { TakesRow (OpenTable.Emoji self.old) (row_seen row.entry) result (OpenTable.Emoji self.new) }
     {
         let None = row.second else {
-            return Err(fault(number, TableErrorKind::UnknownLine));
+            return Err(LineError::Fault(TableErrorKind::UnknownLine));
         };
         match braced(row.first) {
-            Some(inner) => self.add_string(inner, number),
-            None => self.add_range(row.first, number),
+            Some(inner) => self.add_string(inner),
+            None => self.add_range(row.first),
         }
     }
 
     /// Takes a range.
-    fn add_range(&mut self, field: &[u8], number: usize) -> Result<(), LoadError>
+    fn add_range(&mut self, field: &[u8]) -> Result<(), LineError>
         ensures { TakesEmoji self.old (emoji_range_fault self.old.last (range field.now))
-            (range field.now) None number result self.new }
+            (range field.now) None result self.new }
     {
         let Some(range) = range(field) else {
-            return Err(fault(number, TableErrorKind::BadNumber));
+            return Err(LineError::Fault(TableErrorKind::BadNumber));
         };
         if let Some(kind) = range_fault(self.last, range) {
-            return Err(fault(number, kind));
+            return Err(LineError::Fault(kind));
         }
         self.builder.add_range32(range)?;
         self.last = Some(range.end);
@@ -86,25 +86,25 @@ impl OpenEmoji {
     }
 
     /// Takes a string, of which the inside of its braces is given.
-    fn add_string(&mut self, inner: &[u8], number: usize) -> Result<(), LoadError>
+    fn add_string(&mut self, inner: &[u8]) -> Result<(), LineError>
         ensures { TakesEmoji self.old (emoji_string_fault (emoji_read self.old) (string_numbers inner.now)) None
-            (option_map text_of_numbers (string_numbers inner.now)) number result self.new }
+            (option_map text_of_numbers (string_numbers inner.now)) result self.new }
     {
         let Some(numbers) = spelled_numbers(self.alloc, inner)? else {
-            return Err(fault(number, TableErrorKind::BadNumber));
+            return Err(LineError::Fault(TableErrorKind::BadNumber));
         };
         if has_surrogate(&numbers) {
-            return Err(fault(number, TableErrorKind::BadNumber));
+            return Err(LineError::Fault(TableErrorKind::BadNumber));
         }
         // What is no surrogate and no character is above the last code point.
         let Some(text) = text_of(self.alloc, &numbers)? else {
-            return Err(fault(number, TableErrorKind::TooLarge));
+            return Err(LineError::Fault(TableErrorKind::TooLarge));
         };
         if numbers.len() == 1 {
-            return Err(fault(number, TableErrorKind::StringOfOne));
+            return Err(LineError::Fault(TableErrorKind::StringOfOne));
         }
         if self.strings.contains(text.as_str()) {
-            return Err(fault(number, TableErrorKind::StringTwice));
+            return Err(LineError::Fault(TableErrorKind::StringTwice));
         }
         self.strings.insert(text)?;
         Ok(())

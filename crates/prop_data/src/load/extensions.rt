@@ -6,7 +6,7 @@ ghost use Rattle.prop_data.specs.Loading.{TakesRow, TakesFinished, IsListed, row
 ghost use Rattle.prop_data.specs.Rows.{first_scripts};
 
 use crate::database::PropertyDatabase;
-use crate::error::{LoadError, TableErrorKind, fault};
+use crate::error::{LineError, TableErrorKind};
 use crate::line::Row;
 use crate::load::OpenTable;
 use crate::row::is_not_above;
@@ -85,20 +85,20 @@ impl OpenList {
 
     /// Takes a row.
     #[tactic(auto, unfolding(crate::specs::LineFault::value_fault, crate::specs::LineFault::order_fault))]
-    pub(crate) fn add_row(&mut self, row: Row<'_>, number: usize) -> Result<(), LoadError>
-        ensures { TakesRow (OpenTable.List self.old) (row_seen row.entry) number result (OpenTable.List self.new) }
+    pub(crate) fn add_row(&mut self, row: Row<'_>) -> Result<(), LineError>
+        ensures { TakesRow (OpenTable.List self.old) (row_seen row.entry) result (OpenTable.List self.new) }
     {
         let None = row.second else {
-            return Err(fault(number, TableErrorKind::UnknownLine));
+            return Err(LineError::Fault(TableErrorKind::UnknownLine));
         };
         let Some(spelled) = decimal_number(row.first) else {
-            return Err(fault(number, TableErrorKind::BadNumber));
+            return Err(LineError::Fault(TableErrorKind::BadNumber));
         };
         let Some(script) = accepted_script(spelled) else {
-            return Err(fault(number, TableErrorKind::ValueOutOfType));
+            return Err(LineError::Fault(TableErrorKind::ValueOutOfType));
         };
         if is_not_above(self.last, u32::from(script)) {
-            return Err(fault(number, TableErrorKind::ExtensionOrder));
+            return Err(LineError::Fault(TableErrorKind::ExtensionOrder));
         }
         push_script(&mut self.scripts, script)?;
         self.last = Some(u32::from(script));

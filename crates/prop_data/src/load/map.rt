@@ -4,7 +4,7 @@ ghost use Rattle.cp_trie.specs.Runs.{value_in};
 ghost use Rattle.prop_data.specs.Accepted.{AreAccepted};
 
 use crate::database::PropertyDatabase;
-use crate::error::{LoadError, TableErrorKind, fault};
+use crate::error::{LineError, TableErrorKind};
 use crate::line::Row;
 use crate::load::OpenTable;
 use crate::load::map_builder::MapBuilder;
@@ -43,23 +43,23 @@ impl OpenMap {
 
     /// Takes a row.
     #[tactic(auto, unfolding(crate::specs::LineFault::range_fault, crate::specs::LineFault::value_fault))]
-    pub(crate) fn add_row(&mut self, row: Row<'_>, number: usize) -> Result<(), LoadError>
-        ensures { TakesRow (OpenTable.Map self.old) (row_seen row.entry) number result (OpenTable.Map self.new) }
+    pub(crate) fn add_row(&mut self, row: Row<'_>) -> Result<(), LineError>
+        ensures { TakesRow (OpenTable.Map self.old) (row_seen row.entry) result (OpenTable.Map self.new) }
     {
         let Some(second) = row.second else {
-            return Err(fault(number, TableErrorKind::UnknownLine));
+            return Err(LineError::Fault(TableErrorKind::UnknownLine));
         };
         let Some(range) = range(row.first) else {
-            return Err(fault(number, TableErrorKind::BadNumber));
+            return Err(LineError::Fault(TableErrorKind::BadNumber));
         };
         let Some(spelled) = decimal_number(second) else {
-            return Err(fault(number, TableErrorKind::BadNumber));
+            return Err(LineError::Fault(TableErrorKind::BadNumber));
         };
         if let Some(kind) = range_fault(self.builder.last(), range) {
-            return Err(fault(number, kind));
+            return Err(LineError::Fault(kind));
         }
         let Some(value) = accepted(self.table, spelled) else {
-            return Err(fault(number, TableErrorKind::ValueOutOfType));
+            return Err(LineError::Fault(TableErrorKind::ValueOutOfType));
         };
         self.builder.add(range, value)?;
         Ok(())

@@ -4,7 +4,7 @@ ghost use Rattle.prop_data.specs.LineFault.{is_other};
 ghost use Rattle.prop_data.specs.Loading.{TakesRow, TakesFinished, row_seen};
 
 use crate::database::PropertyDatabase;
-use crate::error::{LoadError, TableErrorKind, fault};
+use crate::error::{LineError, TableErrorKind};
 use crate::line::Row;
 use crate::load::OpenTable;
 use crate::name::is_name;
@@ -45,24 +45,24 @@ impl OpenNames {
     }
 
     /// Takes a row.
-    pub(crate) fn add_row(&mut self, row: Row<'_>, number: usize) -> Result<(), LoadError>
-        ensures { TakesRow (OpenTable.Names self.old) (row_seen row.entry) number result (OpenTable.Names self.new) }
+    pub(crate) fn add_row(&mut self, row: Row<'_>) -> Result<(), LineError>
+        ensures { TakesRow (OpenTable.Names self.old) (row_seen row.entry) result (OpenTable.Names self.new) }
     {
         let Some(text) = row.second else {
-            return Err(fault(number, TableErrorKind::UnknownLine));
+            return Err(LineError::Fault(TableErrorKind::UnknownLine));
         };
         let Some(spelled) = decimal_number(row.first) else {
-            return Err(fault(number, TableErrorKind::BadNumber));
+            return Err(LineError::Fault(TableErrorKind::BadNumber));
         };
         let Some(value) = accepted_name(self.table, spelled) else {
-            return Err(fault(number, TableErrorKind::ValueOutOfType));
+            return Err(LineError::Fault(TableErrorKind::ValueOutOfType));
         };
         if !is_name(text) {
-            return Err(fault(number, TableErrorKind::BadName));
+            return Err(LineError::Fault(TableErrorKind::BadName));
         }
         let folding = stored_folding(self.alloc, text)?;
         if is_other(self.builder.value_of_folding(folding.as_str()), value) {
-            return Err(fault(number, TableErrorKind::NamesClash));
+            return Err(LineError::Fault(TableErrorKind::NamesClash));
         }
         let name = ascii_text(self.alloc, text)?;
         self.builder.insert(name, folding, value)?;

@@ -4,7 +4,7 @@ ghost use Rattle.cp_invlist.specs.InversionList.{contains};
 ghost use Rattle.prop_data.specs.Forbidden.{IsAllowed};
 
 use crate::database::PropertyDatabase;
-use crate::error::{LoadError, TableErrorKind, fault};
+use crate::error::{LineError, TableErrorKind};
 use crate::line::Row;
 use crate::load::OpenTable;
 use crate::numbers::range;
@@ -39,20 +39,20 @@ impl OpenSet {
     }
 
     /// Takes a row.
-    pub(crate) fn add_row(&mut self, row: Row<'_>, number: usize) -> Result<(), LoadError>
-        ensures { TakesRow (OpenTable.Set self.old) (row_seen row.entry) number result (OpenTable.Set self.new) }
+    pub(crate) fn add_row(&mut self, row: Row<'_>) -> Result<(), LineError>
+        ensures { TakesRow (OpenTable.Set self.old) (row_seen row.entry) result (OpenTable.Set self.new) }
     {
         let None = row.second else {
-            return Err(fault(number, TableErrorKind::UnknownLine));
+            return Err(LineError::Fault(TableErrorKind::UnknownLine));
         };
         let Some(range) = range(row.first) else {
-            return Err(fault(number, TableErrorKind::BadNumber));
+            return Err(LineError::Fault(TableErrorKind::BadNumber));
         };
         if let Some(kind) = range_fault(self.last, range) {
-            return Err(fault(number, kind));
+            return Err(LineError::Fault(kind));
         }
         if let Some(kind) = syntax_fault(self.table, range) {
-            return Err(fault(number, kind));
+            return Err(LineError::Fault(kind));
         }
         self.builder.add_range32(range)?;
         self.last = Some(range.end);

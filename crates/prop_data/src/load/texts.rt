@@ -5,7 +5,7 @@ ghost use Rattle.prop_data.specs.Headers.{text_number};
 ghost use Rattle.prop_data.specs.Lengths.{has_subtags};
 
 use crate::database::PropertyDatabase;
-use crate::error::{LoadError, TableErrorKind, fault};
+use crate::error::{LineError, TableErrorKind};
 use crate::line::Row;
 use crate::load::OpenTable;
 use crate::name::kept_name;
@@ -74,24 +74,24 @@ impl OpenTexts {
     }
 
     /// Takes a row.
-    pub(crate) fn add_row(&mut self, row: Row<'_>, number: usize) -> Result<(), LoadError>
-        ensures { TakesRow (OpenTable.Texts self.old) (row_seen row.entry) number result (OpenTable.Texts self.new) }
+    pub(crate) fn add_row(&mut self, row: Row<'_>) -> Result<(), LineError>
+        ensures { TakesRow (OpenTable.Texts self.old) (row_seen row.entry) result (OpenTable.Texts self.new) }
     {
         let Some(text) = row.second else {
-            return Err(fault(number, TableErrorKind::UnknownLine));
+            return Err(LineError::Fault(TableErrorKind::UnknownLine));
         };
         let Some(spelled) = decimal_number(row.first) else {
-            return Err(fault(number, TableErrorKind::BadNumber));
+            return Err(LineError::Fault(TableErrorKind::BadNumber));
         };
         let Some(value) = accepted(self.table, spelled) else {
-            return Err(fault(number, TableErrorKind::ValueOutOfType));
+            return Err(LineError::Fault(TableErrorKind::ValueOutOfType));
         };
         let is_subtag = has_subtags(self.length, self.table);
         let Some(name) = kept_name(self.alloc, is_subtag, text)? else {
-            return Err(fault(number, TableErrorKind::BadName));
+            return Err(LineError::Fault(TableErrorKind::BadName));
         };
         if self.has(value) {
-            return Err(fault(number, TableErrorKind::NamesClash));
+            return Err(LineError::Fault(TableErrorKind::NamesClash));
         }
         self.keep(value, name)?;
         Ok(())

@@ -1,13 +1,11 @@
-use Rattle.std.proofs.Common.{◌≡◌, ◌++◌, option_map}
+use Rattle.std.proofs.Common.{◌≡◌, ℕ, List, ◌++◌, option_map}
+use Rattle.std.proofs.lemmas.Iterator.{YieldsList}
 use Rattle.std.specs.List.{slice_split}
-use Rattle.std.specs.Option.{option_copied}
 use Rattle.prop_data.specs.Strings.{is_underscore, numbers_of}
-use Rattle.prop_data.proofs.SpelledLemmas.{parts_behind, left_behind}
 use Rattle.prop_data.proofs.string.numbers_of.Given as goal
 
-abbrev pub invariant-loop-rest : goal.invariant-loop-rest
-invariant-loop-rest l =
-    option_map (λ ns. l.numbers.items ++ ns) (numbers_of (parts_behind (option_copied l.rest))) ≡ numbers_of (slice_split is_underscore l.fn.text)
-
-abbrev pub decreases-loop-rest : goal.decreases-loop-rest
-decreases-loop-rest l = left_behind (option_copied l.rest)
+-- the parts that are left, and the numbers of all
+abbrev pub invariant-loop-part : goal.invariant-loop-part
+invariant-loop-part l =
+    (parts : List (List ℕ)) × YieldsList goal.iterator-loop-part.next_gives (λ x. x.now) l.part-iterator parts
+    × (option_map (λ ns. l.numbers.items ++ ns) (numbers_of parts) ≡ numbers_of (slice_split is_underscore l.fn.text))

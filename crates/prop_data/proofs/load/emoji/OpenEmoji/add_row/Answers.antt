@@ -9,7 +9,7 @@ pub returns-in-Some : goal.returns-in-Some
 returns-in-Some c =
     let old = c.args.self.now in
     let first = c.args.row.first.now in
-    takes_emoji old c.add_string.new.self (row_seen c.args.row) _ _ _ c.args.number _
+    takes_emoji old c.add_string.new.self (row_seen c.args.row) _ _ _ _
     (λ tables. emoji_row old.table old.last first (row_seen c.args.row).1 _ (emoji_read old) tables (ap option_copied c.in-None.is) c.in-Some.ensures)
     (range_in-string first _ c.in-Some.ensures) (string_in-string first _ c.in-Some.ensures) c.add_string.ensures
 
@@ -17,6 +17,6 @@ pub returns-in-None-braced : goal.returns-in-None-braced
 returns-in-None-braced c =
     let old = c.args.self.now in
     let first = c.args.row.first.now in
-    takes_emoji old c.add_range.new.self (row_seen c.args.row) _ _ _ c.args.number _
+    takes_emoji old c.add_range.new.self (row_seen c.args.row) _ _ _ _
     (λ tables. emoji_row old.table old.last first (row_seen c.args.row).1 _ (emoji_read old) tables (ap option_copied c.in-None.is) c.in-None-braced.ensures)
     (range_in-range first c.in-None-braced.ensures) (string_in-range first c.in-None-braced.ensures) c.add_range.ensures

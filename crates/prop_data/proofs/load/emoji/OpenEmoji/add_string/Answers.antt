@@ -7,7 +7,6 @@ use Rattle.std.proofs.Math.Bool.{or-false}
 use Rattle.prop_data.specs.Loading.{emoji_read}
 use Rattle.prop_data.specs.LineFault.{emoji_string_fault}
 use Rattle.prop_data.specs.Strings.{is_surrogate, is_text, spelled_numbers, string_numbers, text_of_numbers, text_spelled}
-use Rattle.prop_data.specs.TableText.{at_line}
 use Rattle.prop_data.proofs.EmojiLemmas.{string_numbers-spelled, string_fault-large, is_string, string_fault-string, sole_of-string}
 use Rattle.prop_data.proofs.load.emoji.OpenEmoji.add_string.Goals as goal
 
@@ -19,9 +18,7 @@ returns-in_default-2 c =
     let numbers_are = string_numbers-spelled c.args.inner.now ns spelled apart in
     let text_is : None ≡ text_spelled c.deref-2.result.now = rw c.in_default-2.is at c.in_ok-text.ensures in
     let none : None ≡ text_spelled ns = text_is ∙ ap text_spelled c.deref-2.ensures.value in
-    rw c.fault-in_default-2.ensures (ap (option_map (at_line c.args.number)) (
     ap (emoji_string_fault (emoji_read c.args.self.now)) numbers_are ∙ string_fault-large (emoji_read c.args.self.now) ns apart none
-    ))
 
 pub returns-then-contains : goal.returns-then-contains
 returns-then-contains c =
@@ -33,9 +30,7 @@ returns-then-contains c =
     let text_is : Some text ≡ text_spelled c.deref-2.result.now = rw c.in-Some-2.is at c.in_ok-text.ensures in
     let string = is_string ns text apart (text_is ∙ ap text_spelled c.deref-2.ensures.value) (λ one. c.if-len-eq1.false (c.len.ensures ∙ (sym c.deref.ensures.len ∙ (ap length c.deref.ensures.value ∙ one)))) in
     let there : contains_text c.args.self.now.strings text ≡ c.contains.result = ap (contains_text c.args.self.now.strings) (sym c.as_str.ensures.value) ∙ sym c.contains.ensures in
-    rw c.fault-then-contains.ensures (ap (option_map (at_line c.args.number)) (
     ap (emoji_string_fault (emoji_read c.args.self.now)) numbers_are ∙ string_fault-string (emoji_read c.args.self.now) ns text _ string (there ∙ c.if-contains.true)
-    ))
 
 pub insert-requires : goal.insert-requires
 insert-requires c =

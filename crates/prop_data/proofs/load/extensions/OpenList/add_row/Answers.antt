@@ -15,7 +15,7 @@ returns c =
     let takes = accepted-some 4 _ _ c.in-Some-accepted_script.ensures in
     let script_is = takes.0 in (
       λ tables.
-          ap (λ s. row_fault (tables_with (Some (Listed old)) tables) (Some (ext_table old.index old.script)) old.last (c.args.row.first.now, s)) (ap option_copied c.in-None.is)
+          ap (λ s. row_fault (tables_with (Listed old) tables) (Some (ext_table old.index old.script)) old.last (c.args.row.first.now, s)) (ap option_copied c.in-None.is)
           ∙ (ap (ext_row_fault old.last) (sym number_is)
           ∙ (ap (λ o. option_or o (order_fault old.last c.in-Some.spelled)) takes.1 ∙ order_fault-none old.last c.from.result _ (c.from.ensures ∙ script_is) (sym c.is_not_above.ensures ∙ c.if-is_not_above.false))),
       refl,

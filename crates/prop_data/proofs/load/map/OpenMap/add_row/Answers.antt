@@ -24,7 +24,7 @@ returns c =
     let value = c.in-Some-accepted.value in
     let accepted = AreAccepted-grown old.table value (in_range c.in-Some-range.range) (value_in old.builder.runs.items old.builder.default) (value_in c.add.new.self.runs.items c.add.new.self.default) (accepted-takes old.table c.in-Some-decimal_number.spelled value c.in-Some-accepted.ensures) old.accepted c.in_ok-add.ensures.values in (
       λ tables.
-          ap (λ s. row_fault (tables_with (Some (Map old)) tables) (Some (map_table old.table old.builder.default)) old.builder.last (first, s)) second_is
+          ap (λ s. row_fault (tables_with (Map old) tables) (Some (map_table old.table old.builder.default)) old.builder.last (first, s)) second_is
           ∙ map_row_fault-none _ _ _ _ _ _ is number_is range_fine takes.1,
       ap (map_table old.table) c.in_ok-add.ensures.default,
       c.in_ok-add.ensures.last ∙ ap (option_map (λ (x : ℕ × ℕ). x.1)) is,

@@ -1,10 +1,9 @@
-use Rattle.std.proofs.Common.{◌≡◌, ℕ, Option, option_map, unwrap_or, refl, ap, ap₂, sym, ◌∙◌}
+use Rattle.std.proofs.Common.{◌≡◌, ℕ, Option, unwrap_or, refl, ap, ap₂, sym, ◌∙◌}
 use Rattle.std.specs.Option.{option_copied}
 use Rattle.prop_names.specs.Names.{value_of_folding, with_name}
 use Rattle.prop_data.specs.Loading.{row_seen}
 use Rattle.prop_data.specs.Rows.{text_of}
 use Rattle.prop_data.specs.LineFault.{is_other, clashes}
-use Rattle.prop_data.specs.TableText.{at_line}
 use Rattle.prop_data.proofs.LoadingLemmas.{names_grown}
 use Rattle.prop_data.proofs.NameLemmas.{names_row, name_fault-none, name_fault-clash, accepted_name-some}
 use Rattle.prop_data.proofs.load.names.OpenNames.add_row.Goals as goal
@@ -18,10 +17,9 @@ returns-then-is_other c =
     let folding_is = c.as_str.ensures.value ∙ c.in_ok-folding.ensures in
     let clash : clashes old.builder c.in-Some.text.now c.in-Some-decimal_number.spelled ≡ c.is_other.result =
     sym (c.is_other.ensures ∙ ap₂ is_other (c.value_of_folding.ensures ∙ ap (value_of_folding old.builder) folding_is) takes.0) in
-    rw c.fault-then-is_other.ensures (λ tables. ap (option_map (at_line c.args.number)) (
+    λ tables.
     names_row old.table c.in-Some-decimal_number.spelled c.args.row.first.now c.in-Some.text.now (option_copied c.args.row.second) old.builder tables second_is number_is
     ∙ name_fault-clash old.table c.in-Some-decimal_number.spelled old.builder c.in-Some.text.now takes.1 (sym c.is_name.ensures ∙ c.if-not-is_name.false) (clash ∙ c.if-is_other.true)
-    ))
 
 pub returns : goal.returns
 returns c =

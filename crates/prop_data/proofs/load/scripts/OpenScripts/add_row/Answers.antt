@@ -20,7 +20,7 @@ returns c =
     let number_is = c.in-Some-decimal_number.ensures in
     let takes = accepted-some 4 _ _ c.in-Some-accepted_script.ensures in (
       λ tables.
-          ap (λ s. row_fault (tables_with (Some (Scripts old)) tables) (Some (scx_table old.builder.default)) old.builder.last (first, s)) second_is
+          ap (λ s. row_fault (tables_with (Scripts old) tables) (Some (scx_table old.builder.default)) old.builder.last (first, s)) second_is
           ∙ map_row_fault-none _ _ _ _ _ _ is number_is range_fine takes.1,
       ap scx_table c.in_ok-add.ensures.default,
       c.in_ok-add.ensures.last ∙ ap (option_map (λ (x : ℕ × ℕ). x.1)) is,

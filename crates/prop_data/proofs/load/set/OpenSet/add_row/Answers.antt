@@ -24,7 +24,7 @@ returns c =
     let allowed = allowed-grown c.args.self.now.table c.in-Some.range.start c.in-Some.range.end (contains c.args.self.now.builder) (contains c.add_range32.new.self) c.args.self.now.allowed syntax_fine c.in_ok-add_range32.ensures.ok in
     let is = c.in-Some.ensures in (
       λ tables.
-          ap (λ s. row_fault (tables_with (Some (Set c.args.self.now)) tables) (Some (set_table c.args.self.now.table)) c.args.self.now.last (c.args.row.first.now, s)) (ap option_copied c.in-None.is)
+          ap (λ s. row_fault (tables_with (Set c.args.self.now) tables) (Some (set_table c.args.self.now.table)) c.args.self.now.last (c.args.row.first.now, s)) (ap option_copied c.in-None.is)
           ∙ set_row_fault-none _ _ _ _ is range_fine syntax_fine,
       refl,
       ap (option_map (λ (x : ℕ × ℕ). x.1)) is,

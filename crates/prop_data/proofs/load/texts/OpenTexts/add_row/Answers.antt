@@ -7,7 +7,6 @@ use Rattle.prop_data.specs.Loading.{row_seen, table_of_length, with_text}
 use Rattle.prop_data.specs.Changes.{with_texts}
 use Rattle.prop_data.specs.Rows.{as_kept, text_of, value_of}
 use Rattle.prop_data.specs.LineFault.{kept_of}
-use Rattle.prop_data.specs.TableText.{at_line}
 use Rattle.prop_data.proofs.LoadingLemmas.{texts_grown}
 use Rattle.prop_data.proofs.NameLemmas.{text_row, text_fault-none, text_fault-bad_name, text_fault-clash, accepted-taken, kept_of-as_kept, kept_of-filled, last_after-texts}
 use Rattle.prop_data.proofs.load.texts.OpenTexts.add_row.Goals as goal
@@ -21,10 +20,9 @@ returns-in_default-2 c =
     let takes = accepted-taken old.table number c.in-Some-accepted.value c.in-Some-accepted.ensures in
     let bad : kept_of s text ≡ None =
     ap (λ (b : Bool). kept_of b text) (sym c.has_subtags-is_subtag.ensures) ∙ (sym c.in_ok-name.ensures.kept ∙ ap (option_map string_bytes) c.in_default-2.is) in
-    rw c.fault-in_default-2.ensures (λ tables. ap (option_map (at_line c.args.number)) (
+    λ tables.
     text_row old.length old.table number c.args.row.first.now text (option_copied c.args.row.second) (name_at old.texts) tables (ap option_copied c.in-Some.is) c.in-Some-decimal_number.ensures
     ∙ text_fault-bad_name s old.table number (name_at old.texts) text takes.1 bad
-    ))
 
 pub returns-then-has : goal.returns-then-has
 returns-then-has c =
@@ -36,10 +34,9 @@ returns-then-has c =
     let kept_is : Some (string_bytes c.in-Some-2.name) ≡ kept_of s text =
     ap (option_map string_bytes) (sym c.in-Some-2.is) ∙ (c.in_ok-name.ensures.kept ∙ ap (λ (b : Bool). kept_of b text) c.has_subtags-is_subtag.ensures) in
     let there : is_some (name_at old.texts number) ≡ c.has.result = ap (λ n. is_some (name_at old.texts n)) (sym takes.0) ∙ sym c.has.ensures in
-    rw c.fault-then-has.ensures (λ tables. ap (option_map (at_line c.args.number)) (
+    λ tables.
     text_row old.length old.table number c.args.row.first.now text (option_copied c.args.row.second) (name_at old.texts) tables (ap option_copied c.in-Some.is) c.in-Some-decimal_number.ensures
     ∙ text_fault-clash s old.table number (name_at old.texts) text (string_bytes c.in-Some-2.name) takes.1 kept_is (there ∙ c.if-has.true)
-    ))
 
 pub keep-requires-clause-filled : goal.keep-requires-clause-filled
 keep-requires-clause-filled c =
