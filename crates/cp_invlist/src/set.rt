@@ -1,5 +1,5 @@
 //! The set: its list, and what it answers.
-ghost use Rattle.std.specs.Prelude.{◌≡◌, ℕ, ◌≤◌, ◌↔◌, IsTrue, IsErrOf, IfOk, OnOk, IfNone, Some, ◌/◌, nat_eq, nat_le, length, [], ◌∷◌, List};
+ghost use Rattle.std.specs.Prelude.{◌≡◌, ℕ, ◌≤◌, ◌↔◌, ◌&&◌, IsTrue, IsErrOf, IfOk, OnOk, IfNone, Some, ◌/◌, nat_eq, nat_le, length, [], ◌∷◌, List};
 ghost use Rattle.std.specs.Cmp.Lexicographic.{pointwise};
 ghost use Rattle.cp_invlist.specs.Fault.{fault_of, IsFaultAt};
 ghost use Rattle.cp_invlist.specs.Size.{count_members, SumsTo};
@@ -141,10 +141,11 @@ impl CodePointInversionList {
         &self.words
     }
 
-    /// The maximal ranges of members, in order.
+    /// The maximal ranges of members, in order. All members are code points.
     pub fn iter_ranges(&self) -> InversionListRanges<'_>
         ensures maximal { AreMaximalRanges (contains self.now) result }
         ensures only { (rs : List CodePointRange) → AreMaximalRanges (contains self.now) rs → rs ≡ result }
+        ensures code_points { (c : ℕ) → (contains self.now c && is_code_point c) ≡ contains self.now c }
     {
         InversionListRanges::new(&self.elements)
     }

@@ -160,9 +160,8 @@ impl Painting {
     fn paint_set(&mut self, set: &CodePointInversionList) -> Result<(), NoMemory>
         ensures { OnOk result ((c : ℕ) → in_painting self.new c ≡ (in_painting self.old c || contains set.now c)) }
     {
-        members_are_code_points();
         ranges_hold_members();
-        self.ranges.reserve(set.get_inversion_list().len() / 2)?;
+        self.ranges.reserve(set.get_range_count())?;
         for range in set.iter_ranges() {
             self.add_range(range)?;
         }

@@ -3,7 +3,7 @@ ghost use Rattle.std.specs.Prelude.{◌≡◌, ◌||◌, ℕ, IfOk, OnOk};
 ghost use Rattle.cp_invlist.specs.InversionList.{contains};
 ghost use Rattle.uset_gather.specs.Painting.{in_some};
 
-use cp_invlist::laws::{members_are_code_points, ranges_hold_members};
+use cp_invlist::laws::ranges_hold_members;
 use cp_invlist::{CodePointInversionList, CodePointInversionListBuilder, CodePointRange, NoMemory};
 use std::alloc::Global;
 
@@ -53,9 +53,8 @@ fn sorted_union(
 fn put_aside(aside: &mut Vec<CodePointRange>, set: &CodePointInversionList) -> Result<(), NoMemory>
     ensures { OnOk result ((c : ℕ) → in_some aside.new.items c ≡ (in_some aside.old.items c || contains set.now c)) }
 {
-    members_are_code_points();
     ranges_hold_members();
-    aside.reserve(set.get_inversion_list().len() / 2)?;
+    aside.reserve(set.get_range_count())?;
     for range in set.iter_ranges() {
         aside.push(range)?;
     }
@@ -111,7 +110,7 @@ impl Run {
             return Ok(self.builder);
         }
         let front = self.builder.build();
-        if front.get_inversion_list().len() <= self.aside.len() / 8 {
+        if front.get_range_count() <= self.aside.len() / 16 {
             self.aside.reverse();
             put_aside(&mut self.aside, &front)?;
             return sorted_union(self.alloc, self.aside);

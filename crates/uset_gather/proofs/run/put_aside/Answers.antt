@@ -28,4 +28,4 @@ returns c =
     let all = subst (AreMaximalRanges (contains c.args.set.now)) (ap (λ rs. given ++ rs) c.in-None.ensures.steps.0 ∙ append-nil given) c.loop-range.invariant.0 in
     λ d. c.loop-range.invariant.1 d
     ∙ ap (λ b. in_some c.args.aside.now.items d || b)
-    (set_spelled c.args.set.now given d (c.ranges_hold_members.ensures _ given all d) (c.members_are_code_points.ensures c.args.set.now d c.get_inversion_list.ensures.canonical))
+    (set_spelled c.args.set.now given d (c.ranges_hold_members.ensures _ given all d) (c.iter_ranges-range-items.ensures.code_points d))
