@@ -305,4 +305,15 @@ impl EmojiTable {
     {
         b"Basic_Emoji"
     }
+
+    /// The table of this name, compared byte for byte. `None` where no table has it.
+    pub fn from_name(name: &[u8]) -> Option<EmojiTable>
+        ensures { result ≡ position (λ known. bytes_eq known name.now) emoji_table_names }
+    {
+        if name == EmojiTable::BASIC_EMOJI.name() {
+            Some(EmojiTable::BASIC_EMOJI)
+        } else {
+            None
+        }
+    }
 }
