@@ -119,6 +119,19 @@ fn tables_are_found_by_their_exact_long_names(rt: HostRuntime) {
     assert_names(&rt, &[(SetTable::GRAPHEME_LINK.name(), "Grapheme_Link")]);
 }
 
+#[test]
+fn the_emoji_table_is_found_by_its_exact_name(rt: HostRuntime) {
+    let found = &[
+        (
+            EmojiTable::from_name(b"Basic_Emoji"),
+            Some(EmojiTable::BASIC_EMOJI),
+        ),
+        (EmojiTable::from_name(b"basic_emoji"), None),
+        (EmojiTable::from_name(b"Emoji"), None),
+    ];
+    assert_pairs(&rt, found);
+}
+
 /// Names that ECMA-262 does not have.
 const UNKNOWN: &[&str] = &[
     "ahex", "space", "Any", "ASCII", "Assigned", "Hyphen", "Gr_Link", "",

@@ -12,8 +12,8 @@ returns-then-is_empty c =
     let none : length c.args.self.aside.items ≡ 0 = search rules in
     none_aside c.args.self (nil_from_length c.args.self.aside.items none)
 
-pub returns-then-get_range_count : goal.returns-then-get_range_count
-returns-then-get_range_count c =
+pub returns-then-get_range_count-len : goal.returns-then-get_range_count-len
+returns-then-get_range_count-len c =
     IfOk-weaker c.sorted_union.result _ _ (λ set h d.
     gathered_in_run c.args.self c.build-front.result set d c.build-front.ensures.list
     (h d ∙ c.in_ok-put_aside.ensures d
