@@ -1,7 +1,38 @@
-//! How many tables of each kind a text has.
-use crate::fixtures::{Row, assert_rows};
+//! The kinds of tables: their words, and how many tables of each a text has.
+use crate::fixtures::{Row, assert_equal, assert_rows};
 use prop_data::{PropertyDatabase, TableKind};
 use row_fixtures::EVERY_KIND;
+
+/// The kinds in their order, and their words.
+const WORDS: [(TableKind, &str); 8] = [
+    (TableKind::Set, "set"),
+    (TableKind::Map, "map"),
+    (TableKind::Names, "names"),
+    (TableKind::Long, "long"),
+    (TableKind::Short, "short"),
+    (TableKind::Scripts, "scx"),
+    (TableKind::Extensions, "ext"),
+    (TableKind::Emoji, "emoji"),
+];
+
+#[test]
+fn kinds_are_found_by_their_words(rt: HostRuntime) {
+    for (kind, (expected, word)) in TableKind::ALL.iter().zip(&WORDS) {
+        let found = TableKind::from_word(word.as_bytes());
+        assert_equal(&rt, (*kind, found), (*expected, Some(*expected)));
+    }
+}
+
+/// Words that begin no header.
+const OTHERS: &[&str] = &["Set", "sets", "se", "end", ""];
+
+#[test]
+fn other_words_are_those_of_no_kind(rt: HostRuntime) {
+    for word in OTHERS {
+        let found = TableKind::from_word(word.as_bytes());
+        assert_equal(&rt, found, None);
+    }
+}
 
 /// A kind, and how many tables of it the text has.
 type Count = (TableKind, usize);

@@ -13,3 +13,4 @@ pub mod Reading
 mod Examples
 pub mod SyntaxSets
 pub mod BoundedSets
+pub mod FindLemmas

@@ -1,5 +1,5 @@
 -- Strings as they are spelled in braces.
-use Rattle.std.proofs.Common.{◌≡◌, ℕ, ◌+◌, ◌<◌, Bool, true, false, cond, not, ◌&&◌, ◌==◌, nat_lt, List, [], ◌∷◌, ◌++◌, take, length, Option, Some, None, option_map, option_and_then, Bor, refl, sym, ap, ap₂, ◌∙◌, arith, append_assoc, append-nil, get_or, zero, suc}
+use Rattle.std.proofs.Common.{◌≡◌, ℕ, ◌+◌, ◌<◌, Bool, true, false, cond, ◌&&◌, ◌==◌, List, [], ◌∷◌, ◌++◌, take, length, Option, Some, None, option_map, option_and_then, Bor, refl, sym, ap, ap₂, ◌∙◌, arith, append_assoc, append-nil, get_or, zero, suc}
 use Rattle.std.proofs.lemmas.Bool.Decides.{nat_tests}
 use Rattle.std.proofs.lemmas.Bool.{and_parts, and_right, and_left, false_from_ne_true}
 use Rattle.std.proofs.lemmas.List.{take_more}

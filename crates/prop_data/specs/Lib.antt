@@ -8,6 +8,7 @@ pub mod Tables
 pub mod Extensions
 pub mod LinesAbove
 pub mod TableErrorKind
+pub mod TableKind
 pub mod LineFault
 pub mod Forbidden
 pub mod Accepted

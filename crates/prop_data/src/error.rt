@@ -146,3 +146,13 @@ impl From<NoMemory> for LineError {
         LineError::NoMemory
     }
 }
+
+impl From<TableErrorKind> for LineError {
+    ghost use Rattle.prop_data.specs.declared.error.LineError.TheVariants.{Fault};
+
+    ghost from_gives = { λ kind e. e ≡ Fault kind };
+
+    fn from(kind: TableErrorKind) -> LineError {
+        LineError::Fault(kind)
+    }
+}

@@ -1,10 +1,12 @@
 //! A line of a table text, by its fields.
 ghost use Rattle.std.specs.Prelude.{◌≡◌};
 ghost use Rattle.text_lines.specs.Fields.{fields};
-ghost use Rattle.prop_data.specs.Line.{line_of, line_of_one, line_of_two, line_of_three, is_header_word, is_end};
+ghost use Rattle.std.specs.Option.{option_copied};
+ghost use Rattle.prop_data.specs.Line.{line_of, header_of_two, header_of_three, line_without_word};
 ghost use Rattle.prop_data.specs.Loading.{line_seen};
 
 use crate::load::Length;
+use crate::table::TableKind;
 use text_lines::{before_comment, split_field};
 
 /// The header of a table, by the fields behind its word.
@@ -64,107 +66,60 @@ pub(crate) enum Line<'a> {
     Other,
 }
 
-// The words that begin a header, and the one that closes a text.
-const SET: &[u8] = b"set";
-
-const MAP: &[u8] = b"map";
-
-const NAMES: &[u8] = b"names";
-
-const LONG: &[u8] = b"long";
-
-const SHORT: &[u8] = b"short";
-
-const SCX: &[u8] = b"scx";
-
-const EXT: &[u8] = b"ext";
-
-const EMOJI: &[u8] = b"emoji";
-
+/// The word that closes a text.
 const END: &[u8] = b"end";
 
-const HEADER_WORDS: &[&[u8]] = &[SET, MAP, NAMES, LONG, SHORT, SCX, EXT, EMOJI];
-
-#[tactic(auto, unfolding(crate::specs::Line::is_header_word))]
-fn is_header_word(field: &[u8]) -> bool
-    ensures { result ≡ is_header_word field.now }
+/// The header of a kind with one field behind its word.
+fn header_of_two(kind: TableKind, field: &[u8]) -> Line<'_>
+    ensures { line_seen result ≡ header_of_two kind field.now }
 {
-    HEADER_WORDS.contains(&field)
-}
-
-fn is_end(field: &[u8]) -> bool
-    ensures { result ≡ is_end field.now }
-{
-    field == END
-}
-
-#[tactic(auto, unfolding(crate::specs::Line::line_of_one))]
-fn line_of_one(field: &[u8]) -> Line<'_>
-    ensures { line_seen result ≡ line_of_one field.now }
-{
-    if is_end(field) {
-        Line::Closing
-    } else if is_header_word(field) {
-        Line::Other
-    } else {
-        Line::Row(Row {
-            first: field,
-            second: None,
-        })
-    }
-}
-
-#[tactic(auto, unfolding(crate::specs::Line::line_of_two))]
-fn line_of_two<'a>(first: &'a [u8], second: &'a [u8]) -> Line<'a>
-    ensures { line_seen result ≡ line_of_two first.now second.now }
-{
-    if first == SET {
-        Line::Header(Header::Set { name: second })
-    } else if first == NAMES {
-        Line::Header(Header::Names { name: second })
-    } else if first == LONG {
-        Line::Header(Header::Texts {
+    let header = match kind {
+        TableKind::Set => Header::Set { name: field },
+        TableKind::Map => return Line::Other,
+        TableKind::Names => Header::Names { name: field },
+        TableKind::Long => Header::Texts {
             length: Length::Long,
-            name: second,
-        })
-    } else if first == SHORT {
-        Line::Header(Header::Texts {
+            name: field,
+        },
+        TableKind::Short => Header::Texts {
             length: Length::Short,
-            name: second,
-        })
-    } else if first == EMOJI {
-        Line::Header(Header::Emoji { name: second })
-    } else if first == SCX {
-        Line::Header(Header::Scripts { default: second })
-    } else if first == EXT {
-        Line::Header(Header::Extensions {
-            index: second,
+            name: field,
+        },
+        TableKind::Scripts => Header::Scripts { default: field },
+        TableKind::Extensions => Header::Extensions {
+            index: field,
             script: None,
-        })
-    } else if is_end(first) || is_header_word(first) {
-        Line::Other
-    } else {
-        Line::Row(Row {
-            first,
-            second: Some(second),
-        })
-    }
+        },
+        TableKind::Emoji => Header::Emoji { name: field },
+    };
+    Line::Header(header)
 }
 
-#[tactic(auto, unfolding(crate::specs::Line::line_of_three))]
-fn line_of_three<'a>(first: &[u8], second: &'a [u8], third: &'a [u8]) -> Line<'a>
-    ensures { line_seen result ≡ line_of_three first.now second.now third.now }
+/// The header of a kind with two fields behind its word.
+fn header_of_three<'a>(kind: TableKind, second: &'a [u8], third: &'a [u8]) -> Line<'a>
+    ensures { line_seen result ≡ header_of_three kind second.now third.now }
 {
-    if first == MAP {
-        Line::Header(Header::Map {
+    match kind {
+        TableKind::Map => Line::Header(Header::Map {
             name: second,
             default: third,
-        })
-    } else if first == EXT {
-        Line::Header(Header::Extensions {
+        }),
+        TableKind::Extensions => Line::Header(Header::Extensions {
             index: second,
             script: Some(third),
-        })
+        }),
+        _ => Line::Other,
+    }
+}
+
+/// A line of one field, or of two, the first no word of a header: a row, or `end` alone.
+fn line_without_word<'a>(first: &'a [u8], second: Option<&'a [u8]>) -> Line<'a>
+    ensures { line_seen result ≡ line_without_word first.now (option_copied second.entry) }
+{
+    if first != END {
+        Line::Row(Row { first, second })
+    } else if second.is_none() {
+        Line::Closing
     } else {
         Line::Other
     }
@@ -177,14 +132,24 @@ pub(crate) fn read_line(line: &[u8]) -> Line<'_>
     let Some((first, rest)) = split_field(before_comment(line)) else {
         return Line::Blank;
     };
+    let kind = TableKind::from_word(first);
     let Some((second, rest)) = split_field(rest) else {
-        return line_of_one(first);
+        return match kind {
+            Some(_) => Line::Other,
+            None => line_without_word(first, None),
+        };
     };
     let Some((third, rest)) = split_field(rest) else {
-        return line_of_two(first, second);
+        return match kind {
+            Some(kind) => header_of_two(kind, second),
+            None => line_without_word(first, Some(second)),
+        };
     };
     if split_field(rest).is_some() {
         return Line::Other;
     }
-    line_of_three(first, second, third)
+    match kind {
+        Some(kind) => header_of_three(kind, second, third),
+        None => Line::Other,
+    }
 }

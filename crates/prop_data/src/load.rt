@@ -21,11 +21,11 @@ use crate::error::{LineError, TableErrorKind};
 use crate::line::{Header, Line, Row, read_line};
 use crate::value::{accepted, accepted_script};
 use cp_invlist::NoMemory;
-use emoji::{OpenEmoji, emoji_table};
+use emoji::OpenEmoji;
 use extensions::{OpenList, listed_script};
 use map::OpenMap;
 use names::OpenNames;
-use prop_binary::SetTable;
+use prop_binary::{EmojiTable, SetTable};
 use prop_values::{MapTable, NamesTable};
 use scripts::OpenScripts;
 use set::OpenSet;
@@ -187,9 +187,7 @@ impl Loader {
     fn begin_set(&self, name: &[u8]) -> Result<OpenTable, LineError>
         ensures { Begins (tables_of self.now.database) (set_header name.now) result }
     {
-        let Some(table) = SetTable::from_name(name) else {
-            return Err(LineError::Fault(TableErrorKind::UnknownTable));
-        };
+        let table = SetTable::from_name(name).ok_or(TableErrorKind::UnknownTable)?;
         if self.database.set(table).is_some() {
             return Err(LineError::Fault(TableErrorKind::TableTwice));
         }
@@ -201,18 +199,12 @@ impl Loader {
     fn begin_map(&self, name: &[u8], default: &[u8]) -> Result<OpenTable, LineError>
         ensures { Begins (tables_of self.now.database) (map_header name.now default.now) result }
     {
-        let Some(table) = MapTable::from_name(name) else {
-            return Err(LineError::Fault(TableErrorKind::UnknownTable));
-        };
+        let table = MapTable::from_name(name).ok_or(TableErrorKind::UnknownTable)?;
         if self.database.map(table).is_some() {
             return Err(LineError::Fault(TableErrorKind::TableTwice));
         }
-        let Some(spelled) = decimal_number(default) else {
-            return Err(LineError::Fault(TableErrorKind::BadNumber));
-        };
-        let Some(default) = accepted(table, spelled) else {
-            return Err(LineError::Fault(TableErrorKind::ValueOutOfType));
-        };
+        let spelled = decimal_number(default).ok_or(TableErrorKind::BadNumber)?;
+        let default = accepted(table, spelled).ok_or(TableErrorKind::ValueOutOfType)?;
         Ok(OpenTable::Map(OpenMap::new(self.alloc, table, default)))
     }
 
@@ -220,9 +212,7 @@ impl Loader {
     fn begin_names(&self, name: &[u8]) -> Result<OpenTable, LineError>
         ensures { Begins (tables_of self.now.database) (names_header name.now) result }
     {
-        let Some(table) = NamesTable::from_name(name) else {
-            return Err(LineError::Fault(TableErrorKind::UnknownTable));
-        };
+        let table = NamesTable::from_name(name).ok_or(TableErrorKind::UnknownTable)?;
         if self.database.names(table).is_some() {
             return Err(LineError::Fault(TableErrorKind::TableTwice));
         }
@@ -233,9 +223,7 @@ impl Loader {
     fn begin_texts(&self, length: Length, name: &[u8]) -> Result<OpenTable, LineError>
         ensures { Begins (tables_of self.now.database) (texts_header length name.now) result }
     {
-        let Some(table) = text_table(name) else {
-            return Err(LineError::Fault(TableErrorKind::UnknownTable));
-        };
+        let table = text_table(name).ok_or(TableErrorKind::UnknownTable)?;
         if self.database.has_texts(length, table) {
             return Err(LineError::Fault(TableErrorKind::TableTwice));
         }
@@ -246,9 +234,7 @@ impl Loader {
     fn begin_emoji(&self, name: &[u8]) -> Result<OpenTable, LineError>
         ensures { Begins (tables_of self.now.database) (emoji_header name.now) result }
     {
-        let Some(table) = emoji_table(name) else {
-            return Err(LineError::Fault(TableErrorKind::UnknownTable));
-        };
+        let table = EmojiTable::from_name(name).ok_or(TableErrorKind::UnknownTable)?;
         if self.database.emoji(table).is_some() {
             return Err(LineError::Fault(TableErrorKind::TableTwice));
         }
@@ -263,12 +249,8 @@ impl Loader {
         if self.database.scripts().is_some() {
             return Err(LineError::Fault(TableErrorKind::TableTwice));
         }
-        let Some(spelled) = decimal_number(default) else {
-            return Err(LineError::Fault(TableErrorKind::BadNumber));
-        };
-        let Some(default) = accepted_script(spelled) else {
-            return Err(LineError::Fault(TableErrorKind::ValueOutOfType));
-        };
+        let spelled = decimal_number(default).ok_or(TableErrorKind::BadNumber)?;
+        let default = accepted_script(spelled).ok_or(TableErrorKind::ValueOutOfType)?;
         Ok(OpenTable::Scripts(OpenScripts::new(self.alloc, default)?))
     }
 
@@ -277,16 +259,12 @@ impl Loader {
         ensures { Begins (tables_of self.now.database)
             (ext_header index.now (option_copied script.entry)) result }
     {
-        let Some(index) = decimal_number(index) else {
-            return Err(LineError::Fault(TableErrorKind::BadNumber));
-        };
+        let index = decimal_number(index).ok_or(TableErrorKind::BadNumber)?;
         if self.database.has_list(index) {
             return Err(LineError::Fault(TableErrorKind::TableTwice));
         }
-        match listed_script(index, script) {
-            Ok(script) => Ok(OpenTable::List(OpenList::new(self.alloc, index, script)?)),
-            Err(kind) => Err(LineError::Fault(kind)),
-        }
+        let script = listed_script(index, script)?;
+        Ok(OpenTable::List(OpenList::new(self.alloc, index, script)?))
     }
 
     /// The table of a header, without rows.

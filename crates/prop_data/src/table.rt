@@ -1,5 +1,8 @@
 //! The kinds of tables, and their names.
-ghost use Rattle.std.specs.Prelude.{◌≡◌};
+ghost use Rattle.std.specs.Prelude.{◌≡◌, ◌<◌, length, IfSome};
+ghost use Rattle.std.specs.List.{position};
+ghost use Rattle.std.specs.Str.{bytes_eq};
+ghost use Rattle.prop_data.specs.TableKind.{kind_word};
 ghost use Rattle.prop_data.specs.declared.table.DataError.TheVariants.{NoMemory as OutOfMemory};
 
 use cp_invlist::NoMemory;
@@ -10,22 +13,70 @@ use thiserror::Error;
 /// A kind of table.
 #[derive(Clone, Copy, Debug, PartialEq, Eq)]
 pub enum TableKind {
-    /// Sets, behind `set`.
+    /// Sets.
     Set,
-    /// Maps, behind `map`.
+    /// Maps.
     Map,
-    /// Names of values, behind `names`.
+    /// Names of values.
     Names,
-    /// Long names, behind `long`.
+    /// Long names.
     Long,
-    /// Short names, behind `short`.
+    /// Short names.
     Short,
-    /// Scripts with extensions, behind `scx`.
+    /// Scripts with extensions.
     Scripts,
-    /// Extension lists, behind `ext`.
+    /// Extension lists.
     Extensions,
-    /// Emoji sets, behind `emoji`.
+    /// Emoji sets.
     Emoji,
+}
+
+impl TableKind {
+    ghost use Rattle.prop_data.specs.TableKind.{kind_word, kind_of_word};
+
+    /// The kinds, each once.
+    pub const ALL: [TableKind; 8] = [
+        TableKind::Set,
+        TableKind::Map,
+        TableKind::Names,
+        TableKind::Long,
+        TableKind::Short,
+        TableKind::Scripts,
+        TableKind::Extensions,
+        TableKind::Emoji,
+    ];
+
+    /// The word that each header of the kind begins with.
+    pub fn word(self) -> &'static str
+        ensures { result.now ≡ kind_word self }
+    {
+        match self {
+            TableKind::Set => "set",
+            TableKind::Map => "map",
+            TableKind::Names => "names",
+            TableKind::Long => "long",
+            TableKind::Short => "short",
+            TableKind::Scripts => "scx",
+            TableKind::Extensions => "ext",
+            TableKind::Emoji => "emoji",
+        }
+    }
+
+    /// The kind whose headers begin with this word, compared byte for byte. `None` where no kind's do.
+    pub fn from_word(word: &[u8]) -> Option<TableKind>
+        ensures { result ≡ kind_of_word word.now }
+    {
+        let place = place_of(&TableKind::ALL, word)?;
+        Some(TableKind::ALL[place])
+    }
+}
+
+/// The index of the first of the kinds whose headers begin with this word.
+fn place_of(kinds: &[TableKind], word: &[u8]) -> Option<usize>
+    ensures place { result ≡ position (λ kind. bytes_eq (kind_word kind) word.now) kinds.now }
+    ensures within { IfSome result (λ place. place < length kinds.now) }
+{
+    kinds.iter().position(|kind| kind.word().as_bytes() == word)
 }
 
 /// A table that a call needs.

@@ -8,7 +8,7 @@ use Rattle.cp_invlist.specs.Ranges.{ranges_of}
 use Rattle.cp_invlist.specs.declared.ranges.CodePointRange.{CodePointRange}
 use Rattle.prop_data.specs.declared.error.TableErrorKind.TheVariants.{RangeOrder, NoEnd, SyntaxAscii}
 use Rattle.text_lines.specs.Fields.{is_sole}
-use Rattle.prop_data.specs.Line.{line_of_one, line_of_two, is_header_word}
+use Rattle.prop_data.specs.TableKind.{kind_of_word}
 use Rattle.prop_data.specs.Numbers.{range, hyphen_parts, spelled}
 use Rattle.prop_binary.specs.Tables.{properties}
 use Rattle.prop_data.specs.LineFault.{range_fault, syntax_fault, lacks_some_list}
@@ -144,11 +144,11 @@ unfolding digits
 tables_told = refl
 
 fault_of_descending_rows : table_fault (table_lines (codes "set XID_Start\n61-7A\n41\nend\n")) ≡ Some (at_line 3 RangeOrder)
-unfolding lacks_some_list is_sole line_of_one line_of_two is_header_word properties range hyphen_parts spelled range_fault syntax_fault
+unfolding lacks_some_list is_sole kind_of_word properties range hyphen_parts spelled range_fault syntax_fault
 fault_of_descending_rows = refl
 
 no_fault_of_one_row : table_fault (table_lines (codes "set XID_Start\n61-7A # letters\nend\n")) ≡ None
-unfolding lacks_some_list is_sole line_of_one line_of_two is_header_word properties range hyphen_parts spelled range_fault syntax_fault
+unfolding lacks_some_list is_sole kind_of_word properties range hyphen_parts spelled range_fault syntax_fault
 no_fault_of_one_row = refl
 
 -- no word is answered with the usage
@@ -160,15 +160,15 @@ unfolding digits
 no_end = faulty_tables (at_line 1 NoEnd) refl
 
 letter_as_white_space : Evaluates (codes "# own\nset Pattern_White_Space\n41\nend\n") (codes "tables line 3: SyntaxAscii\n") Tables
-unfolding lacks_some_list is_sole line_of_one line_of_two is_header_word properties range hyphen_parts spelled range_fault syntax_fault digits
+unfolding lacks_some_list is_sole kind_of_word properties range hyphen_parts spelled range_fault syntax_fault digits
 letter_as_white_space = faulty_tables (at_line 3 SyntaxAscii) refl
 
 line_that_is_none : Evaluates (codes "end\nhello\n") (codes "err bad line\n") SomeErr
-unfolding lacks_some_list is_sole line_of_one line_of_two is_header_word script_line
+unfolding lacks_some_list is_sole kind_of_word script_line
 line_that_is_none = script refl (codes "err bad line\n") true (answers (codes "err bad line\n") [] true false (refl, refl, refl) ends)
 
 absent_tables : Evaluates (codes "end\npat [a]\n") (codes "err error: internal error\n") SomeErr
-unfolding lacks_some_list is_sole line_of_one line_of_two is_header_word script_line encode
+unfolding lacks_some_list is_sole kind_of_word script_line encode
 absent_tables =
     script refl (codes "err error: internal error\n") true (answers (codes "err error: internal error\n") [] true false
     (fault {kind = internal} {offset = None} (record { place = None; fault = absent; is = refl }), refl) ends)
@@ -221,7 +221,7 @@ unfolding digits
 text_behind = refl
 
 names_are_bound : Evaluates (codes "end\nlet a char 61\nlet a str\n") (codes "bound a\nerr a is bound\n") SomeErr
-unfolding lacks_some_list is_sole line_of_one line_of_two is_header_word script_line spelled chars encode
+unfolding lacks_some_list is_sole kind_of_word script_line spelled chars encode
 names_are_bound =
     script refl (codes "bound a\nerr a is bound\n") true (answers (codes "bound a\n") (codes "err a is bound\n") false true (free refl a_character)
     (answers (codes "err a is bound\n") [] true false (bound_earlier refl) ends))
@@ -240,5 +240,5 @@ unfolding digits
 sizes_of_two = refl
 
 no_syntax : Generates 1 (codes "end\n") (codes "err error: internal error\n") SomeErr
-unfolding lacks_some_list is_sole line_of_one line_of_two is_header_word encode
+unfolding lacks_some_list is_sole kind_of_word encode
 no_syntax = generated refl (codes "err error: internal error\n") true (unread {kind = internal} {offset = None} (record { place = None; fault = absent; is = refl }))

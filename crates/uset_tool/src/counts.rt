@@ -3,40 +3,12 @@ ghost use Rattle.std.specs.Prelude.{◌≡◌, ◌++◌, IfOk, OnOk};
 ghost use Rattle.std.specs.List.{flat_map};
 ghost use Rattle.std.specs.String.{string_bytes};
 ghost use Rattle.prop_data.specs.Database.{tables_of};
-ghost use Rattle.uset_tool.specs.Counts.{kind_word, count_line, counts_text};
+ghost use Rattle.uset_tool.specs.Counts.{count_line, counts_text};
 
 use cp_invlist::NoMemory;
 use prop_data::{PropertyDatabase, TableKind};
 use std::alloc::Global;
 use std::fmt::Write;
-
-/// The kinds of tables, in the order of their lines.
-const KINDS: [TableKind; 8] = [
-    TableKind::Set,
-    TableKind::Map,
-    TableKind::Names,
-    TableKind::Long,
-    TableKind::Short,
-    TableKind::Scripts,
-    TableKind::Extensions,
-    TableKind::Emoji,
-];
-
-/// The word of a kind's headers.
-fn kind_word(kind: TableKind) -> &'static str
-    ensures { result.now ≡ kind_word kind }
-{
-    match kind {
-        TableKind::Set => "set",
-        TableKind::Map => "map",
-        TableKind::Names => "names",
-        TableKind::Long => "long",
-        TableKind::Short => "short",
-        TableKind::Scripts => "scx",
-        TableKind::Extensions => "ext",
-        TableKind::Emoji => "emoji",
-    }
-}
 
 /// Appends the line of a kind.
 fn push_count(
@@ -46,7 +18,7 @@ fn push_count(
 ) -> Result<(), NoMemory>
     ensures { OnOk result (string_bytes text.new ≡ string_bytes text.old ++ count_line (tables_of database.now) kind) }
 {
-    let word = kind_word(kind);
+    let word = kind.word();
     let count = database.table_count(kind);
     write!(text, "{word} {count}\n")?;
     Ok(())
@@ -72,6 +44,6 @@ pub(crate) fn counts_text(alloc: Global, database: &PropertyDatabase) -> Result<
     ensures { IfOk result (λ text. string_bytes text ≡ counts_text (tables_of database.now)) }
 {
     let mut text = String::new(alloc);
-    push_counts(&mut text, database, &KINDS)?;
+    push_counts(&mut text, database, &TableKind::ALL)?;
     Ok(text)
 }

@@ -1,7 +1,6 @@
 //! The emoji table whose rows are being read.
 ghost use Rattle.std.specs.Prelude.{◌≡◌, ℕ, List, [], None, false, option_map, OnOk};
 ghost use Rattle.std.specs.BTreeSet.{contains_text};
-ghost use Rattle.prop_data.specs.Headers.{emoji_number};
 ghost use Rattle.prop_data.specs.Loading.{TakesRow, TakesFinished, TakesEmoji, emoji_read, row_seen};
 ghost use Rattle.prop_data.specs.LineFault.{emoji_range_fault, emoji_string_fault};
 ghost use Rattle.prop_data.specs.Numbers.{range};
@@ -18,17 +17,6 @@ use cp_invlist::{CodePointInversionListBuilder, NoMemory};
 use cp_strset::Strings;
 use prop_binary::EmojiTable;
 use std::alloc::Global;
-
-/// The emoji table with this name.
-pub(crate) fn emoji_table(name: &[u8]) -> Option<EmojiTable>
-    ensures { result ≡ emoji_number name.now }
-{
-    if name == b"Basic_Emoji".as_slice() {
-        Some(EmojiTable::BASIC_EMOJI)
-    } else {
-        None
-    }
-}
 
 #[derive(Drop)]
 pub(crate) struct OpenEmoji {
@@ -74,9 +62,7 @@ impl OpenEmoji {
         ensures { TakesEmoji self.old (emoji_range_fault self.old.last (range field.now))
             (range field.now) None result self.new }
     {
-        let Some(range) = range(field) else {
-            return Err(LineError::Fault(TableErrorKind::BadNumber));
-        };
+        let range = range(field).ok_or(TableErrorKind::BadNumber)?;
         if let Some(kind) = range_fault(self.last, range) {
             return Err(LineError::Fault(kind));
         }
@@ -90,16 +76,12 @@ impl OpenEmoji {
         ensures { TakesEmoji self.old (emoji_string_fault (emoji_read self.old) (string_numbers inner.now)) None
             (option_map text_of_numbers (string_numbers inner.now)) result self.new }
     {
-        let Some(numbers) = spelled_numbers(self.alloc, inner)? else {
-            return Err(LineError::Fault(TableErrorKind::BadNumber));
-        };
+        let numbers = spelled_numbers(self.alloc, inner)?.ok_or(TableErrorKind::BadNumber)?;
         if has_surrogate(&numbers) {
             return Err(LineError::Fault(TableErrorKind::BadNumber));
         }
         // What is no surrogate and no character is above the last code point.
-        let Some(text) = text_of(self.alloc, &numbers)? else {
-            return Err(LineError::Fault(TableErrorKind::TooLarge));
-        };
+        let text = text_of(self.alloc, &numbers)?.ok_or(TableErrorKind::TooLarge)?;
         if numbers.len() == 1 {
             return Err(LineError::Fault(TableErrorKind::StringOfOne));
         }

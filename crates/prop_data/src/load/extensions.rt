@@ -34,16 +34,12 @@ pub(crate) fn listed_script(
         }
         return Ok(None);
     };
-    let Some(spelled) = decimal_number(script) else {
-        return Err(TableErrorKind::BadNumber);
-    };
+    let spelled = decimal_number(script).ok_or(TableErrorKind::BadNumber)?;
     if index > LAST_LIST {
         return Err(TableErrorKind::TooLarge);
     }
-    match accepted_script(spelled) {
-        Some(script) => Ok(Some(script)),
-        None => Err(TableErrorKind::ValueOutOfType),
-    }
+    let script = accepted_script(spelled).ok_or(TableErrorKind::ValueOutOfType)?;
+    Ok(Some(script))
 }
 
 /// Adds the script with this number to the list.
@@ -91,12 +87,8 @@ impl OpenList {
         let None = row.second else {
             return Err(LineError::Fault(TableErrorKind::UnknownLine));
         };
-        let Some(spelled) = decimal_number(row.first) else {
-            return Err(LineError::Fault(TableErrorKind::BadNumber));
-        };
-        let Some(script) = accepted_script(spelled) else {
-            return Err(LineError::Fault(TableErrorKind::ValueOutOfType));
-        };
+        let spelled = decimal_number(row.first).ok_or(TableErrorKind::BadNumber)?;
+        let script = accepted_script(spelled).ok_or(TableErrorKind::ValueOutOfType)?;
         if is_not_above(self.last, u32::from(script)) {
             return Err(LineError::Fault(TableErrorKind::ExtensionOrder));
         }

@@ -46,21 +46,13 @@ impl OpenMap {
     pub(crate) fn add_row(&mut self, row: Row<'_>) -> Result<(), LineError>
         ensures { TakesRow (OpenTable.Map self.old) (row_seen row.entry) result (OpenTable.Map self.new) }
     {
-        let Some(second) = row.second else {
-            return Err(LineError::Fault(TableErrorKind::UnknownLine));
-        };
-        let Some(range) = range(row.first) else {
-            return Err(LineError::Fault(TableErrorKind::BadNumber));
-        };
-        let Some(spelled) = decimal_number(second) else {
-            return Err(LineError::Fault(TableErrorKind::BadNumber));
-        };
+        let second = row.second.ok_or(TableErrorKind::UnknownLine)?;
+        let range = range(row.first).ok_or(TableErrorKind::BadNumber)?;
+        let spelled = decimal_number(second).ok_or(TableErrorKind::BadNumber)?;
         if let Some(kind) = range_fault(self.builder.last(), range) {
             return Err(LineError::Fault(kind));
         }
-        let Some(value) = accepted(self.table, spelled) else {
-            return Err(LineError::Fault(TableErrorKind::ValueOutOfType));
-        };
+        let value = accepted(self.table, spelled).ok_or(TableErrorKind::ValueOutOfType)?;
         self.builder.add(range, value)?;
         Ok(())
     }

@@ -48,15 +48,9 @@ impl OpenNames {
     pub(crate) fn add_row(&mut self, row: Row<'_>) -> Result<(), LineError>
         ensures { TakesRow (OpenTable.Names self.old) (row_seen row.entry) result (OpenTable.Names self.new) }
     {
-        let Some(text) = row.second else {
-            return Err(LineError::Fault(TableErrorKind::UnknownLine));
-        };
-        let Some(spelled) = decimal_number(row.first) else {
-            return Err(LineError::Fault(TableErrorKind::BadNumber));
-        };
-        let Some(value) = accepted_name(self.table, spelled) else {
-            return Err(LineError::Fault(TableErrorKind::ValueOutOfType));
-        };
+        let text = row.second.ok_or(TableErrorKind::UnknownLine)?;
+        let spelled = decimal_number(row.first).ok_or(TableErrorKind::BadNumber)?;
+        let value = accepted_name(self.table, spelled).ok_or(TableErrorKind::ValueOutOfType)?;
         if !is_name(text) {
             return Err(LineError::Fault(TableErrorKind::BadName));
         }

@@ -51,21 +51,13 @@ impl OpenScripts {
         ensures { TakesRow (OpenTable.Scripts self.old) (row_seen row.entry) result
             (OpenTable.Scripts self.new) }
     {
-        let Some(second) = row.second else {
-            return Err(LineError::Fault(TableErrorKind::UnknownLine));
-        };
-        let Some(range) = range(row.first) else {
-            return Err(LineError::Fault(TableErrorKind::BadNumber));
-        };
-        let Some(spelled) = decimal_number(second) else {
-            return Err(LineError::Fault(TableErrorKind::BadNumber));
-        };
+        let second = row.second.ok_or(TableErrorKind::UnknownLine)?;
+        let range = range(row.first).ok_or(TableErrorKind::BadNumber)?;
+        let spelled = decimal_number(second).ok_or(TableErrorKind::BadNumber)?;
         if let Some(kind) = range_fault(self.builder.last(), range) {
             return Err(LineError::Fault(kind));
         }
-        let Some(value) = accepted_script(spelled) else {
-            return Err(LineError::Fault(TableErrorKind::ValueOutOfType));
-        };
+        let value = accepted_script(spelled).ok_or(TableErrorKind::ValueOutOfType)?;
         self.builder.add(range, ScriptWithExt(value))?;
         push_number(&mut self.named, value)?;
         Ok(())

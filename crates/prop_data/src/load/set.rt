@@ -45,9 +45,7 @@ impl OpenSet {
         let None = row.second else {
             return Err(LineError::Fault(TableErrorKind::UnknownLine));
         };
-        let Some(range) = range(row.first) else {
-            return Err(LineError::Fault(TableErrorKind::BadNumber));
-        };
+        let range = range(row.first).ok_or(TableErrorKind::BadNumber)?;
         if let Some(kind) = range_fault(self.last, range) {
             return Err(LineError::Fault(kind));
         }

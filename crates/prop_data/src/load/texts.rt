@@ -77,19 +77,11 @@ impl OpenTexts {
     pub(crate) fn add_row(&mut self, row: Row<'_>) -> Result<(), LineError>
         ensures { TakesRow (OpenTable.Texts self.old) (row_seen row.entry) result (OpenTable.Texts self.new) }
     {
-        let Some(text) = row.second else {
-            return Err(LineError::Fault(TableErrorKind::UnknownLine));
-        };
-        let Some(spelled) = decimal_number(row.first) else {
-            return Err(LineError::Fault(TableErrorKind::BadNumber));
-        };
-        let Some(value) = accepted(self.table, spelled) else {
-            return Err(LineError::Fault(TableErrorKind::ValueOutOfType));
-        };
+        let text = row.second.ok_or(TableErrorKind::UnknownLine)?;
+        let spelled = decimal_number(row.first).ok_or(TableErrorKind::BadNumber)?;
+        let value = accepted(self.table, spelled).ok_or(TableErrorKind::ValueOutOfType)?;
         let is_subtag = has_subtags(self.length, self.table);
-        let Some(name) = kept_name(self.alloc, is_subtag, text)? else {
-            return Err(LineError::Fault(TableErrorKind::BadName));
-        };
+        let name = kept_name(self.alloc, is_subtag, text)?.ok_or(TableErrorKind::BadName)?;
         if self.has(value) {
             return Err(LineError::Fault(TableErrorKind::NamesClash));
         }

@@ -16,13 +16,13 @@ pub returns : goal.returns
 returns c =
     let old = c.args.self.now in
     let first = c.args.row.first.now in
-    let second_is = ap option_copied c.in-Some.is in
-    let range_fine = ap (λ (l : Option ℕ). range_fault l (c.in-Some-range.range.start, c.in-Some-range.range.end)) (sym c.last.ensures) ∙ (sym c.range_fault.ensures ∙ c.in_default-range_fault.is) in
-    let is = c.in-Some-range.ensures in
-    let number_is = c.in-Some-decimal_number.ensures in
-    let takes = accepted-some _ _ _ c.in-Some-accepted.ensures in
-    let value = c.in-Some-accepted.value in
-    let accepted = AreAccepted-grown old.table value (in_range c.in-Some-range.range) (value_in old.builder.runs.items old.builder.default) (value_in c.add.new.self.runs.items c.add.new.self.default) (accepted-takes old.table c.in-Some-decimal_number.spelled value c.in-Some-accepted.ensures) old.accepted c.in_ok-add.ensures.values in (
+    let second_is = ap option_copied c.in_ok-second.ensures.ok_part in
+    let range_fine = ap (λ (l : Option ℕ). range_fault l (c.in_ok-range.range.start, c.in_ok-range.range.end)) (sym c.last.ensures) ∙ (sym c.range_fault.ensures ∙ c.in_default.is) in
+    let is = ap (option_map (λ r. (r.start, r.end))) (sym c.in_ok-range.ensures.ok_part) ∙ c.range.ensures in
+    let number_is = (sym c.in_ok-spelled.ensures.ok_part ∙ c.decimal_number.ensures) in
+    let takes = accepted-some _ _ _ (sym c.in_ok-value.ensures.ok_part ∙ c.accepted.ensures) in
+    let value = c.in_ok-value.value in
+    let accepted = AreAccepted-grown old.table value (in_range c.in_ok-range.range) (value_in old.builder.runs.items old.builder.default) (value_in c.add.new.self.runs.items c.add.new.self.default) (accepted-takes old.table c.in_ok-spelled.spelled value (sym c.in_ok-value.ensures.ok_part ∙ c.accepted.ensures)) old.accepted c.in_ok-add.ensures.values in (
       λ tables.
           ap (λ s. row_fault (tables_with (Map old) tables) (Some (map_table old.table old.builder.default)) old.builder.last (first, s)) second_is
           ∙ map_row_fault-none _ _ _ _ _ _ is number_is range_fine takes.1,
@@ -38,10 +38,10 @@ invariant_of-self c =
     let old = c.args.self.now in
     let values = value_in old.builder.runs.items old.builder.default in
     let grown = value_in c.add.new.self.runs.items c.add.new.self.default in
-    let value = c.in-Some-accepted.value in
-    let takes = accepted-takes old.table c.in-Some-decimal_number.spelled value c.in-Some-accepted.ensures in
+    let value = c.in_ok-value.value in
+    let takes = accepted-takes old.table c.in_ok-spelled.spelled value (sym c.in_ok-value.ensures.ok_part ∙ c.accepted.ensures) in
     record {
       accepted =
-          either_way c.add.result (AreAccepted-grown old.table value (in_range c.in-Some-range.range) values grown takes old.accepted)
+          either_way c.add.result (AreAccepted-grown old.table value (in_range c.in_ok-range.range) values grown takes old.accepted)
           (AreAccepted-same old.table values grown old.accepted) c.add.ensures.values c.add.ensures.kept;
     }

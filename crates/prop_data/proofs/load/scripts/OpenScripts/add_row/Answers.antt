@@ -14,11 +14,11 @@ pub returns : goal.returns
 returns c =
     let old = c.args.self.now in
     let first = c.args.row.first.now in
-    let second_is = ap option_copied c.in-Some.is in
-    let range_fine = ap (λ (l : Option ℕ). range_fault l (c.in-Some-range.range.start, c.in-Some-range.range.end)) (sym c.last.ensures) ∙ (sym c.range_fault.ensures ∙ c.in_default-range_fault.is) in
-    let is = c.in-Some-range.ensures in
-    let number_is = c.in-Some-decimal_number.ensures in
-    let takes = accepted-some 4 _ _ c.in-Some-accepted_script.ensures in (
+    let second_is = ap option_copied c.in_ok-second.ensures.ok_part in
+    let range_fine = ap (λ (l : Option ℕ). range_fault l (c.in_ok-range.range.start, c.in_ok-range.range.end)) (sym c.last.ensures) ∙ (sym c.range_fault.ensures ∙ c.in_default.is) in
+    let is = ap (option_map (λ r. (r.start, r.end))) (sym c.in_ok-range.ensures.ok_part) ∙ c.range.ensures in
+    let number_is = (sym c.in_ok-spelled.ensures.ok_part ∙ c.decimal_number.ensures) in
+    let takes = accepted-some 4 _ _ (sym c.in_ok-value.ensures.ok_part ∙ c.accepted_script.ensures) in (
       λ tables.
           ap (λ s. row_fault (tables_with (Scripts old) tables) (Some (scx_table old.builder.default)) old.builder.last (first, s)) second_is
           ∙ map_row_fault-none _ _ _ _ _ _ is number_is range_fine takes.1,
