@@ -4,9 +4,10 @@
 Usage: bench/random_patterns.py PROGRAM TABLES [COUNT [SEED]]. TABLES is a table text of the Unicode version that ICU4C has; its
 headers are to be had (libicu-dev), and a C++ compiler. The patterns of the first half are written so that both have to read
 them alike. In those of the second half some characters are left out, put in or doubled. There one may refuse what the other
-reads: ICU4C reads names loosely, a `$` that begins no variable as itself, a range from a hyphen behind a first one, and
-surrogates in strings; `uset` reads ranges of one member. How many are read by one alone is printed, and each pattern that is
-read otherwise, or in the first half by one alone; then the status is 1.
+reads: ICU4C reads names loosely, a `$` that begins no variable as itself, a range from a hyphen behind a first one, a property
+with an empty value, and surrogates in strings; `uset` reads ranges of one member, those with an end in braces, and `\\u` with
+braces. How many are read by one alone for each of these reasons is printed, and each pattern that is read otherwise, or by one
+alone in the first half or for no such reason; then the status is 1.
 """
 
 import random
@@ -14,6 +15,7 @@ import re
 import subprocess
 import sys
 import tempfile
+from collections import Counter
 from pathlib import Path
 
 REFERENCE = """
@@ -70,6 +72,27 @@ CHARACTERS = [character.replace("\u0001", " ") for character in CHARACTERS]
 
 # What is put in where a pattern is spoilt.
 SIGNS = "[]{}^-&$\\:=pPab0"
+
+# One character, or an escape of one.
+ONE = r"(\\u[0-9A-F]{4}|\\U[0-9A-F]{8}|\\.|[^\\])"
+
+# A range of two of them.
+RANGE = re.compile(f"(?={ONE}-{ONE})")
+
+# Why `uset` alone reads a pattern that has no range of one member.
+USET_ALONE = {
+    "a range with braces": re.compile(rf"\{{{ONE}\}}-|-\{{{ONE}\}}"),
+    "an escape with braces": re.compile(r"\\u\{"),
+}
+
+# Why ICU4C alone reads a pattern, by the answer of `uset`: the source through the character at the fault, and what is wrong.
+ICU4C_ALONE = {
+    "a `$`": re.compile(r"\$.?← error: unexpected character|← error: unknown variable"),
+    "a range from a hyphen": re.compile(r"\[\^?--.← error: unexpected character"),
+    "a loose name": re.compile(r"(\[:|\\[pP]\{)[^\]}]*(-← error: unexpected character|← error: unknown property)"),
+    "an empty value": re.compile(r"(\[:|\\[pP]\{)[^\]}]*=[:}]← error: unexpected character"),
+    "a surrogate in a string": re.compile(r"\{([^}\\]|\\.)*\\← error: invalid escape sequence"),
+}
 
 # Escapes that ICU4C reads and `uset` has for the character itself, or not at all: octal numbers, \\c, \\e and \\N.
 OTHER_ESCAPES = re.compile(r"\\[0-7ceN]")
@@ -142,6 +165,23 @@ def in_one_order(answer):
     return words[:2] + sorted(words[2:]) if words[0] == "ok" else ["err"]
 
 
+def character(spelled):
+    """The character that one character or one escape spells."""
+    if spelled[0] != "\\":
+        return spelled
+    digits = spelled[2:]
+    return chr(int(digits, 16)) if digits else {"t": "\t", "n": "\n"}.get(spelled[1], spelled[1])
+
+
+def reason_of(pattern, answer):
+    """Why one alone reads the pattern, by the answer of `uset`. Empty where for none of the reasons that are known."""
+    if answer.startswith("err "):
+        return next((reason for reason, told in ICU4C_ALONE.items() if told.search(answer)), "")
+    if any(character(ends[1]) == character(ends[2]) for ends in RANGE.finditer(pattern)):
+        return "a range of one member"
+    return next((reason for reason, spelled in USET_ALONE.items() if spelled.search(pattern)), "")
+
+
 def kind_of(one, other):
     """How the two answers to a pattern stand to one another."""
     if one[0] != other[0]:
@@ -151,16 +191,23 @@ def kind_of(one, other):
     return "read alike" if one[0] == "ok" else "refused by both"
 
 
-def wrong_answers(name, patterns, ours, theirs, wrong):
-    """How many answers stand to one another in one of the ways that are wrong. They are printed, and how many stand in each."""
+def wrong_answers(name, patterns, ours, theirs, is_spoilt):
+    """How many answers are wrong. They are printed, and how many stand to one another in each way, and why."""
     counts = dict.fromkeys(["read alike", "refused by both", "read by uset alone", "read by ICU4C alone", "read otherwise"], 0)
-    for pattern, one, other in zip(patterns, map(in_one_order, ours), map(in_one_order, theirs), strict=True):
+    reasons, wrong = Counter(), 0
+    for pattern, our, their in zip(patterns, ours, theirs, strict=True):
+        one, other = in_one_order(our), in_one_order(their)
         kind = kind_of(one, other)
         counts[kind] += 1
-        if kind in wrong:
-            print(f"{pattern}\n  uset  {' '.join(one)[:200]}\n  ICU4C {' '.join(other)[:200]}")
-    print(f"{name}: " + ", ".join(f"{count:,} {kind}" for kind, count in counts.items()), flush=True)
-    return sum(counts[kind] for kind in wrong)
+        reason = reason_of(pattern, our) if kind.endswith("alone") and is_spoilt else ""
+        if reason:
+            reasons[reason] += 1
+        elif kind == "read otherwise" or kind.endswith("alone"):
+            wrong += 1
+            print(f"{pattern}\n  uset  {our[:200]}\n  ICU4C {their[:200]}")
+    told = [f"{count:,} {kind}" for kind, count in counts.items()] + [f"{count:,} for {reason}" for reason, count in reasons.most_common()]
+    print(f"{name}: " + ", ".join(told), flush=True)
+    return wrong
 
 
 def main():
@@ -172,12 +219,11 @@ def main():
         source.write_text(REFERENCE, encoding="utf-8")
         subprocess.run(["g++", "-O2", "-std=c++17", str(source), "-o", str(reference), "-licuuc"], check=True)
         wrong = 0
-        by_one = ["read by uset alone", "read by ICU4C alone"]
-        for name, make, kinds in [("whole", patterns.whole, ["read otherwise", *by_one]), ("spoilt", patterns.spoilt, ["read otherwise"])]:
+        for name, make in [("whole", patterns.whole), ("spoilt", patterns.spoilt)]:
             made = [make() for _ in range(count // 2)]
             ours = answers([program, "eval"], tables + "".join(f"pat {pattern}\n" for pattern in made))
             theirs = answers([str(reference)], "".join(f"{pattern}\n" for pattern in made))
-            wrong += wrong_answers(name, made, ours, theirs, kinds)
+            wrong += wrong_answers(name, made, ours, theirs, name == "spoilt")
     sys.exit(1 if wrong else 0)
 
 
