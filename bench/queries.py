@@ -49,10 +49,9 @@ fn letters(map: CodePointMapDataBorrowed<'_, GeneralCategory>, points: &[u32]) -
 }
 
 fn with_index(alloc: Global, database: &PropertyDatabase) -> Result<CodePointSetData> {
-    let set = CodePointSetData::try_new_unstable::<Alphabetic>(alloc, database).ok().context("no set")?;
-    let mut list = set.to_code_point_inversion_list(alloc)?;
-    list.index(alloc)?;
-    Ok(CodePointSetData::from_code_point_inversion_list(list))
+    let mut set = CodePointSetData::try_new_unstable::<Alphabetic>(alloc, database).ok().context("no set")?;
+    set.index(alloc)?;
+    Ok(set)
 }
 
 fn time_of(rt: &impl Clock, set: CodePointSetDataBorrowed<'_>, points: &[u32]) -> Result<(u32, u128)> {

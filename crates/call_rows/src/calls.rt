@@ -202,8 +202,22 @@ enum Expected {
     Pattern(&'static [u32]),
     /// A pattern of so many bytes, and text behind it.
     TextBehind(usize),
-    /// It has a fault of this kind, without a place.
-    Fault(ParseErrorKind),
+    /// It has a fault of this kind, at the place if it has one.
+    Fault(ParseErrorKind, Option<usize>),
+}
+
+/// What the source is as a whole where `a` and `v` are bound.
+fn read_whole(
+    alloc: Global,
+    source: &str,
+    database: &PropertyDatabase,
+) -> Option<Result<WholeSource, ParseError>> {
+    let mut variables = VariableMap::new(alloc);
+    if !bind_names(alloc, &mut variables) {
+        return None;
+    }
+    let mut resolver = Resolver::new(alloc, database);
+    Some(parse_whole_with_resolver(alloc, source, &variables, &mut resolver))
 }
 
 /// A source that should be a pattern as a whole.
@@ -212,10 +226,10 @@ type ReadWhole = (&'static str, Expected);
 impl Row<PropertyDatabase> for ReadWhole {
     fn holds(&self, alloc: Global, database: &PropertyDatabase) -> bool {
         let (source, expected) = *self;
-        let none = VariableMap::new(alloc);
-        let mut resolver = Resolver::new(alloc, database);
-        let read = parse_whole_with_resolver(alloc, source, &none, &mut resolver);
-        is_expected(read, expected)
+        match read_whole(alloc, source, database) {
+            Some(read) => is_expected(read, expected),
+            None => false,
+        }
     }
 }
 
@@ -224,7 +238,7 @@ fn is_expected(read: Result<WholeSource, ParseError>, expected: Expected) -> boo
     match (read, expected) {
         (Ok(WholeSource::Pattern(set)), Expected::Pattern(list)) => is_set(&set, list, &[]),
         (Ok(WholeSource::TextBehind(bytes)), Expected::TextBehind(length)) => bytes == length,
-        (Err(error), Expected::Fault(kind)) => is_fault(Err(error), kind, None),
+        (Err(error), Expected::Fault(kind, offset)) => is_fault(Err(error), kind, offset),
         _ => false,
     }
 }
@@ -235,13 +249,47 @@ const READ_WHOLE: &[ReadWhole] = &[
     ("[a-c]x", Expected::TextBehind(5)),
     ("[:Nd:] ", Expected::TextBehind(6)),
     ("[ä][", Expected::TextBehind(4)),
-    ("[a-c", Expected::Fault(ParseErrorKind::Eof)),
-    ("", Expected::Fault(ParseErrorKind::Eof)),
+    ("[a-c", Expected::Fault(ParseErrorKind::Eof, None)),
+    ("", Expected::Fault(ParseErrorKind::Eof, None)),
+    (
+        "[z-y]",
+        Expected::Fault(ParseErrorKind::UnexpectedChar('y'), Some(3)),
+    ),
+    (
+        "[{\\uD800}]",
+        Expected::Fault(ParseErrorKind::InvalidEscape, Some(2)),
+    ),
+    (
+        "[\\N{DASH}]",
+        Expected::Fault(ParseErrorKind::Unimplemented, Some(2)),
+    ),
+    (
+        "[$zz]",
+        Expected::Fault(ParseErrorKind::UnknownVariable, Some(3)),
+    ),
+    (
+        "[a-$v]",
+        Expected::Fault(ParseErrorKind::UnexpectedVariable, Some(4)),
+    ),
+    (
+        "[:zz:]",
+        Expected::Fault(ParseErrorKind::UnknownProperty, Some(3)),
+    ),
+    (
+        "[:blk=x:]",
+        Expected::Fault(ParseErrorKind::Internal, Some(6)),
+    ),
 ];
 
 #[test]
 fn a_source_is_read_as_a_whole(rt: HostRuntime) {
     assert_rows_of_text(&rt, rt.alloc(), EVERY_KIND, READ_WHOLE);
+}
+
+#[test]
+fn nothing_is_read_as_a_whole_without_a_syntax(rt: HostRuntime) {
+    let row: ReadWhole = ("[a]", Expected::Fault(ParseErrorKind::Internal, None));
+    assert_rows_of_text(&rt, rt.alloc(), NO_TABLES, &[row]);
 }
 
 const READ_BELOW: &[Read] = &[(Call::Below, "[$a-c{}$v-]]", 11)];
@@ -294,6 +342,12 @@ const REFUSED: &[Refused] = &[
     ),
     (
         Call::WithVariables,
+        "[a-$v]",
+        ParseErrorKind::UnexpectedVariable,
+        Some(4),
+    ),
+    (
+        Call::UnstableWithVariables,
         "[a-$v]",
         ParseErrorKind::UnexpectedVariable,
         Some(4),
@@ -405,6 +459,11 @@ impl Row<PropertyDatabase> for HasSyntax {
         let none = VariableMap::new(alloc);
         Syntax::of(&none, database).is_some() == self.0
     }
+}
+
+#[test]
+fn tables_of_every_kind_have_a_syntax(rt: HostRuntime) {
+    assert_rows_of_text(&rt, rt.alloc(), EVERY_KIND, &[HasSyntax(true)]);
 }
 
 #[test]

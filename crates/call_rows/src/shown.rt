@@ -49,18 +49,6 @@ const BEHIND_FRONTS: &[Shown] = &[
         "𝄞← error: unexpected variable",
     ),
     (
-        ParseErrorKind::Internal,
-        Some(2),
-        "ab",
-        "error: internal error",
-    ),
-    (
-        ParseErrorKind::Unimplemented,
-        Some(0),
-        "",
-        "error: unimplemented",
-    ),
-    (
         ParseErrorKind::InvalidEscape,
         Some(1),
         "ab",
@@ -71,6 +59,12 @@ const BEHIND_FRONTS: &[Shown] = &[
         Some(0),
         "[a",
         "[a← error: unexpected end of input",
+    ),
+    (
+        ParseErrorKind::Eof,
+        None,
+        "",
+        "← error: unexpected end of input",
     ),
     (
         ParseErrorKind::NoMemory,
@@ -93,15 +87,21 @@ const ALONE: &[Shown] = &[
         "error: internal error",
     ),
     (
-        ParseErrorKind::Eof,
-        None,
+        ParseErrorKind::Internal,
+        Some(2),
+        "ab",
+        "error: internal error",
+    ),
+    (
+        ParseErrorKind::Unimplemented,
+        Some(0),
         "",
-        "← error: unexpected end of input",
+        "error: unimplemented",
     ),
 ];
 
 #[test]
-fn a_fault_without_a_place_is_shown_alone(rt: HostRuntime) {
+fn a_fault_without_a_place_in_its_source_is_shown_alone(rt: HostRuntime) {
     assert_rows(&rt, rt.alloc(), ALONE);
 }
 

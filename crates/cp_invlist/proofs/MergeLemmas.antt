@@ -1,6 +1,7 @@
 -- A walk over the elements of two sets in order gives the merged list.
 use Rattle.std.proofs.Common.{◌≡◌, ℕ, zero, suc, ◌+◌, ◌%◌, ◌<◌, ◌≤◌, Bool, true, false, not, ◌==◌, if◌then◌else◌, Some, None, List, [], ◌∷◌, ◌++◌, length, take, drop, All, refl, sym, ap, ap₂, ◌∙◌, subst, append_assoc, IfSome, arith, length-drop, ◌⊎◌, inl, inr}
 use mathlib.Core.Bool.{beq}
+use Rattle.std.proofs.Math.Bool.{not-not}
 use Rattle.std.proofs.lemmas.Bool.{le-leb, lt-leb, eq-eqb, ne_eqb, cases_lt, cases_eq, cond-true, cond-false, cases_Bool}
 use Rattle.std.proofs.lemmas.List.{take-append-drop, drop_all, length-take-le, append-nil}
 use Rattle.std.proofs.lemmas.List.Elements.{All-weaker, All-push, All-head, All-tail}
@@ -9,7 +10,7 @@ use Rattle.std.specs.List.{slice_get}
 use Rattle.cp_invlist.specs.Merge.{keeps, inside_behind, turns_first, turns_second, turns_both, extended}
 use Rattle.cp_invlist.specs.declared.merge.Operation.{Operation}
 use Rattle.cp_invlist.specs.declared.merge.Operation.TheVariants.{Union, Difference, Intersection}
-use Rattle.cp_invlist.specs.ListLaws.{ascends_from-parts, ascends_from-cons, ascends_from-lower, ascends_from-append, contains-append, contains-below, contains-all_at_most, has_even_length-append, IsInversionList-from}
+use Rattle.cp_invlist.specs.ListLaws.{ascends_from-parts, ascends_from-cons, ascends_from-lower, ascends_from-append, contains-append, contains-below, contains-all_at_most, has_even_length-append, IsInversionList-from, same_of_differ}
 use Rattle.cp_invlist.specs.CutLaws.{odd_length, differ-false}
 
 -- a list with the number put behind it where that turns whether its end is inside
@@ -41,11 +42,11 @@ abbrev pub IsFirst : ℕ → List ℕ → Type 0
 IsFirst x [] = ⊥
 IsFirst x (y ∷ ys) = x ≡ y
 
-not-not : (a b : Bool) → not a ≡ not b → a ≡ not (not b)
-not-not true true h = refl
-not-not true false h = sym h
-not-not false true h = sym h
-not-not false false h = refl
+twice_negated : (a b : Bool) → not a ≡ not b → a ≡ not (not b)
+twice_negated true true h = refl
+twice_negated true false h = sym h
+twice_negated false true h = sym h
+twice_negated false false h = refl
 
 differ-true : (b v : Bool) → differ b (not v) ≡ differ (not b) v
 differ-true true true = refl
@@ -62,7 +63,7 @@ Tracks-pass whole (y ∷ ys) b n x h le first =
       | inl same ↦
           rw (eq-eqb x y same) (record {
             ascends = ascends_from-lower (suc x) (suc y) ys (omega arith) parts.2;
-            even = not-not (has_even_length ys) b h.even;
+            even = twice_negated (has_even_length ys) b h.even;
             members = λ d low.
                 h.members d (omega arith) ∙ ap (λ v. differ b (differ v (contains ys d))) (le-leb y d (omega arith)) ∙ differ-true b (contains ys d);
           })
@@ -121,12 +122,6 @@ same_parity true true h = sym h
 same_parity true false h = refl
 same_parity false true h = refl
 same_parity false false h = h
-
-other_parity : (e k : Bool) → differ e k ≡ false → e ≡ k
-other_parity true true h = refl
-other_parity true false h = h
-other_parity false true h = sym h
-other_parity false false h = refl
 
 pushed_even : (e k : Bool) → e ≡ k → not (differ e false) ≡ not k
 pushed_even true k h = ap not h
@@ -198,7 +193,7 @@ pub Merges-turn : (op : Operation) (first second out : List ℕ) (a b a' b' : Bo
     Between first second a b a' b' n x → Merges op first second (turned_list out x (keeps op a' b')) a' b' (suc x)
 Merges-turn op first second out a b a' b' n x h at = elim (cases_Bool (differ (has_even_length out) (keeps op a' b'))) [
   | inl same ↦ rw same (Merges-kept op first second out a b a' b' n x h at (same_parity _ _ same))
-  | inr other ↦ rw other (Merges-pushed op first second out a b a' b' n x h at (other_parity _ _ other))
+  | inr other ↦ rw other (Merges-pushed op first second out a b a' b' n x h at (same_of_differ _ _ other))
 ]
 
 -- the walk over both lists, with what is left of them
@@ -324,14 +319,10 @@ differ-commutes true false = refl
 differ-commutes false true = refl
 differ-commutes false false = refl
 
-not_not : (a : Bool) → not (not a) ≡ a
-not_not true = refl
-not_not false = refl
-
 -- behind an element of both lists the merged list turns at the next one as it did there
 turns_both-next : (op : Operation) (a b : Bool) → turns_both op (not a) (not b) ≡ turns_both op a b
 turns_both-next op a b =
-    ap₂ (λ x y. differ (keeps op (not a) (not b)) (keeps op x y)) (not_not a) (not_not b) ∙ differ-commutes (keeps op (not a) (not b)) (keeps op a b)
+    ap₂ (λ x y. differ (keeps op (not a) (not b)) (keeps op x y)) (not-not a) (not-not b) ∙ differ-commutes (keeps op (not a) (not b)) (keeps op a b)
 
 extended-none : (out : List ℕ) (t : Bool) → extended out [] t ≡ out
 extended-none out true = append-nil out

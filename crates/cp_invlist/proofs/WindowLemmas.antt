@@ -9,7 +9,7 @@ use Rattle.std.proofs.lemmas.List.Elements.{All-append, All-cons, All-nil}
 use Rattle.cp_invlist.specs.InversionList.{contains, differ, ascends_from, IsInversionList}
 use Rattle.cp_invlist.specs.Cuts.{CutAfter}
 use Rattle.cp_invlist.specs.ListLaws.{ascends_from-parts, ascends_from-cons, ascends_from-drop, contains-append, contains-below, contains-all_at_most, IsInversionList-parts}
-use Rattle.cp_invlist.specs.CutLaws.{IsNonDecreasingBy-ascends, odd_length}
+use Rattle.cp_invlist.specs.CutLaws.{IsNonDecreasingBy-ascends, differ-false, odd_length}
 use Rattle.cp_invlist.specs.Words.{has_bit, IsWord}
 use Rattle.cp_invlist.specs.Windows.{IsWindow, is_inside}
 use Rattle.cp_invlist.specs.declared.window.Window.{Window}
@@ -70,11 +70,7 @@ pub contains-front : (n c : ℕ) (xs : List ℕ) (i : ℕ) → ascends_from n xs
 contains-front n c xs i h lt below =
     ap (λ l. contains l c) (sym (take-append-drop i xs))
     ∙ (contains-append (take i xs) (drop i xs) c
-    ∙ (ap (differ (contains (take i xs) c)) (contains-below (get_or xs i 0) c (drop i xs) (ascends_at n xs i h lt).rest below) ∙ differ-no (contains (take i xs) c)))
-  where
-    differ-no : (b : Bool) → differ b false ≡ b
-    differ-no true = refl
-    differ-no false = refl
+    ∙ (ap (differ (contains (take i xs) c)) (contains-below (get_or xs i 0) c (drop i xs) (ascends_at n xs i h lt).rest below) ∙ differ-false (contains (take i xs) c)))
 
 offset_reaches : (x place j : ℕ) → place ≤ x → nat_le (x - place) j ≡ nat_le x (place + j)
 offset_reaches x place j le = elim (cases_lt (place + j) x) [

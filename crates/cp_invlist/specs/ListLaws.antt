@@ -1,5 +1,5 @@
 -- What inversion lists hold: order, parity and membership of their parts.
-use Rattle.std.proofs.Common.{◌≡◌, ℕ, zero, suc, ◌<◌, ◌≤◌, Bool, true, false, not, nat_le, List, [], ◌∷◌, ◌++◌, take, drop, All, refl, ap, ◌∙◌, arith, leb-true}
+use Rattle.std.proofs.Common.{◌≡◌, ℕ, zero, suc, ◌<◌, ◌≤◌, Bool, true, false, not, nat_le, List, [], ◌∷◌, ◌++◌, take, drop, All, refl, sym, ap, ◌∙◌, arith, leb-true}
 use Rattle.std.proofs.lemmas.Bool.{and_parts, and_from, le-leb, lt-leb}
 use Rattle.std.proofs.lemmas.List.Elements.{All-head, All-tail}
 use Rattle.cp_invlist.specs.InversionList.{differ, contains, ascends_from, has_even_length, IsInversionList}
@@ -58,11 +58,17 @@ contains-below n c (x ∷ xs) h lt =
     let parts = ascends_from-parts n x xs h in
     ap (λ b. differ b (contains xs c)) (lt-leb x c (omega arith)) ∙ contains-below (suc x) c xs parts.2 (omega arith)
 
-differ_assoc : (x y z : Bool) → differ x (differ y z) ≡ differ (differ x y) z
+pub differ_assoc : (x y z : Bool) → differ x (differ y z) ≡ differ (differ x y) z
 differ_assoc true true true = refl
 differ_assoc true true false = refl
 differ_assoc true false z = refl
 differ_assoc false y z = refl
+
+pub same_of_differ : (x y : Bool) → differ x y ≡ false → x ≡ y
+same_of_differ true true h = refl
+same_of_differ true false h = h
+same_of_differ false true h = sym h
+same_of_differ false false h = refl
 
 pub contains-append : (xs ys : List ℕ) (c : ℕ) → contains (xs ++ ys) c ≡ differ (contains xs c) (contains ys c)
 contains-append [] ys c = refl

@@ -10,8 +10,8 @@ use crate::words::{filled, turned};
 pub struct Window {
     /// How many elements of its list are at most the place, where that is before `next`.
     pub taken: usize,
-    /// Up to this code point, which may be the next element or one before it, all code points from the place on are members or
-    /// none is.
+    /// The code points from the place up to this number, without it, are all members, or none is. It is at most the next element,
+    /// and at most 110000, one past the last code point, where none is left.
     pub next: u32,
 }
 

@@ -2,14 +2,15 @@
 use Rattle.std.proofs.Common.{◌≡◌, ◌≤◌, ◌<◌, ◌+◌, ◌||◌, ◌&&◌, not, ℕ, All, Bool, true, false, Some, List, [], ◌∷◌, ◌++◌, length, take, drop, get_or, reverse, refl, sym, subst, ap, ◌∙◌, arith, inl, inr}
 use Rattle.std.proofs.Math.Bool.{or-true}
 use Rattle.std.proofs.Math.ListN.{set, length-set}
+use Rattle.std.proofs.lemmas.Bool.{and_parts}
 use Rattle.std.proofs.lemmas.Bool.Decides.{eqb_tells}
 use Rattle.std.proofs.lemmas.List.{take-append-drop, take-take, take_more, drop-append-le, length-take-le, map-append, reverse-append, get_or-set_same, get_or-set_other}
 use Rattle.std.proofs.lemmas.List.Elements.{All-more, All-weaker}
 use Rattle.std.proofs.lemmas.List.Folds.{list_any-append, Any-from_list_any}
 use Rattle.std.proofs.lemmas.Option.{slice_get_within, slice_get-get_or, get_or_from_slice_get}
 use Rattle.std.specs.List.{list_any, slice_get}
-use Rattle.cp_terms.specs.declared.step.Way.{Way}
-use Rattle.cp_terms.specs.declared.step.Way.TheVariants.{Join, Remove, RemoveFrom}
+use Rattle.cp_terms.specs.declared.step.SetOperation.{SetOperation}
+use Rattle.cp_terms.specs.declared.step.SetOperation.TheVariants.{Union, Difference, ReverseDifference}
 use Rattle.cp_terms.specs.declared.step.Step.{Step}
 use Rattle.cp_terms.specs.declared.step.Step.TheVariants.{Push}
 use Rattle.cp_terms.specs.TermLaws.{steps_done-append}
@@ -59,19 +60,14 @@ covered_joined v indices upper lower joined sets a b c stack same h either =
     )
 
 -- what is made of two sets has no more than these
-pub combined_join : (way : Way) (a b : Bool) → way ≡ Join → combined way a b ≡ true → (a || b) ≡ true
-combined_join way a b is h = ap (λ w. combined w a b) (sym is) ∙ h
+pub combined_union : (operation : SetOperation) (a b : Bool) → operation ≡ Union → combined operation a b ≡ true → (a || b) ≡ true
+combined_union operation a b is h = ap (λ w. combined w a b) (sym is) ∙ h
 
-both_of : (a b : Bool) → (a && b) ≡ true → (a ≡ true) × (b ≡ true)
-both_of true true h = (refl, refl)
-both_of true false h = cc
-both_of false b h = cc
+pub combined_difference : (operation : SetOperation) (a b : Bool) → operation ≡ Difference → combined operation a b ≡ true → a ≡ true
+combined_difference operation a b is h = (and_parts a (not b) (ap (λ w. combined w a b) (sym is) ∙ h)).0
 
-pub combined_remove : (way : Way) (a b : Bool) → way ≡ Remove → combined way a b ≡ true → a ≡ true
-combined_remove way a b is h = (both_of a (not b) (ap (λ w. combined w a b) (sym is) ∙ h)).0
-
-pub combined_remove_from : (way : Way) (a b : Bool) → way ≡ RemoveFrom → combined way a b ≡ true → b ≡ true
-combined_remove_from way a b is h = (both_of b (not a) (ap (λ w. combined w a b) (sym is) ∙ h)).0
+pub combined_reverse_difference : (operation : SetOperation) (a b : Bool) → operation ≡ ReverseDifference → combined operation a b ≡ true → b ≡ true
+combined_reverse_difference operation a b is h = (and_parts b (not a) (ap (λ w. combined w a b) (sym is) ∙ h)).0
 
 -- one step more
 pub steps_done-more : (v : ℕ → Bool) (ss : List Step) (i : ℕ) → i < length ss →

@@ -6,7 +6,7 @@ use Rattle.cp_terms.specs.declared.step.Step.TheVariants.{Push, Both, Complement
 -- a complement has no strings
 abbrev pub without_complement : Step → Step
 without_complement (Push index) = Push index
-without_complement (Both way) = Both way
+without_complement (Both operation) = Both operation
 without_complement Complement = Clear
 without_complement Clear = Clear
 

@@ -8,7 +8,7 @@ ghost use Rattle.cp_strset_terms.specs.Steps.{without_complements};
 
 use crate::leaf::{Leaf, strings};
 use cp_invlist::NoMemory;
-use cp_terms::{Step, Way};
+use cp_terms::{SetOperation, Step};
 use std::alloc::Global;
 
 /// Where the strings of a set on the stack are found.
@@ -132,17 +132,22 @@ impl Sources {
     }
 
     /// Makes one set of two.
-    fn put_both(&mut self, way: Way, lower: Source, upper: Source) -> Result<(), NoMemory>
+    fn put_both(
+        &mut self,
+        operation: SetOperation,
+        lower: Source,
+        upper: Source,
+    ) -> Result<(), NoMemory>
         requires { IsStackedUnderBoth upper lower self.old }
         ensures { OnOk result ((v : ℕ → Bool) (a b : Bool) (stack : List Bool) →
-            CoversUnderBoth v upper lower self.old (b ∷ a ∷ stack) → Covers v self.new (combined way a b ∷ stack)) }
+            CoversUnderBoth v upper lower self.old (b ∷ a ∷ stack) → Covers v self.new (combined operation a b ∷ stack)) }
     {
-        match way {
-            Way::Join => self.put_joined(lower, upper),
-            Way::Remove => self.put_lower(lower, upper),
-            Way::RemoveFrom => self.put_upper(lower, upper),
+        match operation {
+            SetOperation::Union => self.put_joined(lower, upper),
+            SetOperation::Difference => self.put_lower(lower, upper),
+            SetOperation::ReverseDifference => self.put_upper(lower, upper),
             // What both have, either has: the one with fewer strings is the cheaper.
-            Way::Retain => {
+            SetOperation::Intersection => {
                 if upper.strings < lower.strings {
                     self.put_upper(lower, upper)
                 } else {
@@ -153,10 +158,10 @@ impl Sources {
     }
 
     /// Makes one set of the two on top.
-    fn merge_top(&mut self, way: Way) -> Result<(), NoMemory>
+    fn merge_top(&mut self, operation: SetOperation) -> Result<(), NoMemory>
         requires { IsStacked self.old }
         ensures { OnOk result ((v : ℕ → Bool) (stack : List Bool) →
-            Covers v self.old stack → Covers v self.new (both_done way stack)) }
+            Covers v self.old stack → Covers v self.new (both_done operation stack)) }
     {
         let Some(upper) = self.stack.pop() else {
             return Ok(());
@@ -165,7 +170,7 @@ impl Sources {
             self.stack.push(upper)?;
             return Ok(());
         };
-        self.put_both(way, lower, upper)
+        self.put_both(operation, lower, upper)
     }
 
     /// Does the step. A complement has no strings.
@@ -175,7 +180,7 @@ impl Sources {
     {
         match step {
             Step::Push(index) => self.put_down(leaves, index),
-            Step::Both(way) => self.merge_top(way),
+            Step::Both(operation) => self.merge_top(operation),
             Step::Complement | Step::Clear => self.clear_top(),
         }
     }

@@ -22,7 +22,7 @@ mod table;
 use cp_invlist::NoMemory;
 use cp_strset::CodePointInversionListAndStringList;
 use cp_strset::laws::faultless;
-pub use cp_terms::{Step, Way};
+pub use cp_terms::{SetOperation, Step};
 pub use leaf::Leaf;
 use leaf::code_point_lists;
 use members::strings_of_term;

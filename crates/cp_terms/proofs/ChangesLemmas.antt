@@ -5,7 +5,7 @@ use Rattle.std.proofs.lemmas.Bool.{cases_lt, le-leb, lt-leb}
 use Rattle.std.proofs.lemmas.List.Elements.{All-append, All-cons, All-nil}
 use Rattle.cp_invlist.specs.InversionList.{contains, differ, ascends_from, has_even_length}
 use Rattle.cp_invlist.specs.declared.set.CodePointInversionList.{CodePointInversionList}
-use Rattle.cp_invlist.specs.ListLaws.{ascends_from-cons, ascends_from-append, contains-append, contains-all_at_most, has_even_length-append}
+use Rattle.cp_invlist.specs.ListLaws.{ascends_from-cons, ascends_from-append, contains-append, contains-all_at_most, has_even_length-append, same_of_differ}
 use Rattle.cp_invlist.specs.CutLaws.{differ-false}
 use Rattle.cp_terms.specs.declared.step.Step.{Step}
 use Rattle.cp_terms.specs.Terms.{value_of, holds_at}
@@ -158,12 +158,6 @@ left_more old changes place word left new offset is short there none turned = re
   ];
   before = before_pushed place offset 64 changes short (is.behind offset short there);
 }
-
-same_of_differ : (a b : Bool) → differ a b ≡ false → a ≡ b
-same_of_differ true true h = refl
-same_of_differ false false h = refl
-same_of_differ true false h = absurd (let e = h in cc)
-same_of_differ false true h = absurd (let e = h in cc)
 
 -- no bit is left
 pub tell_written : (m : ℕ → Bool) (old changes : List ℕ) (place word left : ℕ) → IsLeft old changes place word left → left ≡ 0 → TellBelow m place old → ((j : ℕ) → j < 64 → m (place + j) ≡ has_bit word j) → TellBelow m (place + 64) changes

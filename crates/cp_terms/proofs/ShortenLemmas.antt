@@ -4,7 +4,7 @@ use Rattle.std.specs.List.{slice_get}
 use Rattle.std.proofs.Math.Bool.{beq}
 use Rattle.std.proofs.lemmas.List.{take-append-le, take-take, take_all, take_more, reverse-append, length-take-le}
 use Rattle.std.proofs.Math.Seq.{take-append_seam}
-use Rattle.cp_terms.specs.declared.step.Way.{Way}
+use Rattle.cp_terms.specs.declared.step.SetOperation.{SetOperation}
 use Rattle.cp_terms.specs.declared.step.Step.{Step}
 use Rattle.cp_terms.specs.declared.step.Step.TheVariants.{Push, Both, Complement}
 use Rattle.cp_terms.specs.declared.shorten.Part.{Part}
@@ -44,15 +44,15 @@ fits_pushed w ss index parts b stack is h =
       subst (λ l. Fits w l parts stack) (sym same) h,
     )
 
-pub fits_both : (w : ℕ → Bool) (way : Way) (ss : List Step) (low high : ℕ) (parts : List Part) (a b : Bool) (stack : List Bool) → Fits w ss (Mixed high ∷ Mixed low ∷ parts) (b ∷ a ∷ stack) →
-    Fits w (ss ++ Both way ∷ []) (Mixed low ∷ parts) (combined way a b ∷ stack)
-fits_both w way ss low high parts a b stack h =
+pub fits_both : (w : ℕ → Bool) (operation : SetOperation) (ss : List Step) (low high : ℕ) (parts : List Part) (a b : Bool) (stack : List Bool) → Fits w ss (Mixed high ∷ Mixed low ∷ parts) (b ∷ a ∷ stack) →
+    Fits w (ss ++ Both operation ∷ []) (Mixed low ∷ parts) (combined operation a b ∷ stack)
+fits_both w operation ss low high parts a b stack h =
     let within : low ≤ high = omega (arith, h.2.0, length-take-le high ss h.0) in
     let twice : take low (take high ss) ≡ take low ss = take-take low high ss within in
-    let same : take low (ss ++ Both way ∷ []) ≡ take low (take high ss) = take-append-le low ss (Both way ∷ []) (omega (arith, within, h.0)) ∙ sym twice in (
-      omega (arith, length-append ss (Both way ∷ []), within, h.0),
-      steps_done-append w ss (Both way ∷ []) []
-          ∙ (ap (both_done way) (h.1 ∙ ap (λ l. b ∷ l) h.2.1) ∙ ap (λ l. combined way a b ∷ steps_done w l []) (sym same)),
+    let same : take low (ss ++ Both operation ∷ []) ≡ take low (take high ss) = take-append-le low ss (Both operation ∷ []) (omega (arith, within, h.0)) ∙ sym twice in (
+      omega (arith, length-append ss (Both operation ∷ []), within, h.0),
+      steps_done-append w ss (Both operation ∷ []) []
+          ∙ (ap (both_done operation) (h.1 ∙ ap (λ l. b ∷ l) h.2.1) ∙ ap (λ l. combined operation a b ∷ steps_done w l []) (sym same)),
       subst (λ l. Fits w l parts stack) (sym same) h.2.2,
     )
 
@@ -63,10 +63,10 @@ fits_over_constant w ss high lower c parts a b stack is h =
     let under = fits_under_constant w (take high ss) lower c parts a stack is h.2 in
     (under.0, (h.0, h.1, under.1))
 
--- what a way makes where the lower is constant
-pub changed-lower : (way : Way) (c b : Bool) → changed (combined way c true) (combined way c false) b ≡ combined way c b
-changed-lower way c true = refl
-changed-lower way c false = refl
+-- what an operation makes where the lower is constant
+pub changed-lower : (operation : SetOperation) (c b : Bool) → changed (combined operation c true) (combined operation c false) b ≡ combined operation c b
+changed-lower operation c true = refl
+changed-lower operation c false = refl
 
 pub changed-same : (b : Bool) → changed true false b ≡ b
 changed-same true = refl
@@ -102,23 +102,23 @@ complemented true true b ne e = absurd (let e = ne in cc)
 complemented x false b ne e = absurd (let h = e in cc)
 
 -- a lower set that is constant below one that is not
-pub put_both_over : (w : ℕ → Bool) (way : Way) (ss : List Step) (upper lower : Part) (c at_member at_other : Bool) (parts : List Part) (a b : Bool) (stack : List Bool) (Goal : List Bool → Type 0) →
-    constant_of upper ≡ None → constant_of lower ≡ Some c → at_member ≡ combined way c true → at_other ≡ combined way c false →
-    (Fits w ss (upper ∷ parts) (b ∷ stack) → Goal (changed at_member at_other b ∷ stack)) → Fits w ss (upper ∷ lower ∷ parts) (b ∷ a ∷ stack) → Goal (combined way a b ∷ stack)
-put_both_over w way ss Empty lower c at_member at_other parts a b stack Goal none is hm ho made h = absurd (let e = none in cc)
-put_both_over w way ss Full lower c at_member at_other parts a b stack Goal none is hm ho made h = absurd (let e = none in cc)
-put_both_over w way ss (Mixed high) lower c at_member at_other parts a b stack Goal none is hm ho made h =
+pub put_both_over : (w : ℕ → Bool) (operation : SetOperation) (ss : List Step) (upper lower : Part) (c at_member at_other : Bool) (parts : List Part) (a b : Bool) (stack : List Bool) (Goal : List Bool → Type 0) →
+    constant_of upper ≡ None → constant_of lower ≡ Some c → at_member ≡ combined operation c true → at_other ≡ combined operation c false →
+    (Fits w ss (upper ∷ parts) (b ∷ stack) → Goal (changed at_member at_other b ∷ stack)) → Fits w ss (upper ∷ lower ∷ parts) (b ∷ a ∷ stack) → Goal (combined operation a b ∷ stack)
+put_both_over w operation ss Empty lower c at_member at_other parts a b stack Goal none is hm ho made h = absurd (let e = none in cc)
+put_both_over w operation ss Full lower c at_member at_other parts a b stack Goal none is hm ho made h = absurd (let e = none in cc)
+put_both_over w operation ss (Mixed high) lower c at_member at_other parts a b stack Goal none is hm ho made h =
     let under = fits_over_constant w ss high lower c parts a b stack is h in
-    subst (λ x. Goal (x ∷ stack)) (ap₂ (λ x y. changed x y b) hm ho ∙ (changed-lower way c b ∙ ap (λ x. combined way x b) (sym under.0))) (made under.1)
+    subst (λ x. Goal (x ∷ stack)) (ap₂ (λ x y. changed x y b) hm ho ∙ (changed-lower operation c b ∙ ap (λ x. combined operation x b) (sym under.0))) (made under.1)
 
 -- two sets that are not constant
-pub put_both_mixed : (w : ℕ → Bool) (way : Way) (ss new : List Step) (upper lower : Part) (parts news : List Part) (a b : Bool) (stack : List Bool) →
-    constant_of upper ≡ None → constant_of lower ≡ None → new ≡ ss ++ Both way ∷ [] → news ≡ lower ∷ parts → Fits w ss (upper ∷ lower ∷ parts) (b ∷ a ∷ stack) → Fits w new news (combined way a b ∷ stack)
-put_both_mixed w way ss new Empty lower parts news a b stack hu hl is are h = absurd (let e = hu in cc)
-put_both_mixed w way ss new Full lower parts news a b stack hu hl is are h = absurd (let e = hu in cc)
-put_both_mixed w way ss new (Mixed high) Empty parts news a b stack hu hl is are h = absurd (let e = hl in cc)
-put_both_mixed w way ss new (Mixed high) Full parts news a b stack hu hl is are h = absurd (let e = hl in cc)
-put_both_mixed w way ss new (Mixed high) (Mixed low) parts news a b stack hu hl is are h = rw (is, are) (fits_both w way ss low high parts a b stack h)
+pub put_both_mixed : (w : ℕ → Bool) (operation : SetOperation) (ss new : List Step) (upper lower : Part) (parts news : List Part) (a b : Bool) (stack : List Bool) →
+    constant_of upper ≡ None → constant_of lower ≡ None → new ≡ ss ++ Both operation ∷ [] → news ≡ lower ∷ parts → Fits w ss (upper ∷ lower ∷ parts) (b ∷ a ∷ stack) → Fits w new news (combined operation a b ∷ stack)
+put_both_mixed w operation ss new Empty lower parts news a b stack hu hl is are h = absurd (let e = hu in cc)
+put_both_mixed w operation ss new Full lower parts news a b stack hu hl is are h = absurd (let e = hu in cc)
+put_both_mixed w operation ss new (Mixed high) Empty parts news a b stack hu hl is are h = absurd (let e = hl in cc)
+put_both_mixed w operation ss new (Mixed high) Full parts news a b stack hu hl is are h = absurd (let e = hl in cc)
+put_both_mixed w operation ss new (Mixed high) (Mixed low) parts news a b stack hu hl is are h = rw (is, are) (fits_both w operation ss low high parts a b stack h)
 
 -- a set that is made by one step
 pub put_one : (w : ℕ → Bool) (ss new : List Step) (index start : ℕ) (parts news : List Part) (stack : List Bool) → new ≡ ss ++ Push index ∷ [] → start ≡ length ss → news ≡ Mixed start ∷ parts → Fits w ss parts stack →

@@ -2,23 +2,14 @@
 use Rattle.std.proofs.Common.{◌≡◌, ℕ, suc, ◌+◌, ◌-◌, ◌*◌, ◌/◌, ◌%◌, ◌<◌, ◌≤◌, ◌==◌, ◌&&◌, nat_le, nat_lt, Bool, true, false, List, [], ◌∷◌, ◌++◌, All, refl, sym, ap, ap₂, ◌∙◌, arith}
 use Rattle.std.proofs.lemmas.Bool.Decides.{nat_tests}
 use Rattle.cp_invlist.specs.InversionList.{contains, differ}
-use Rattle.cp_invlist.specs.ListLaws.{contains-append}
+use Rattle.cp_invlist.specs.ListLaws.{contains-append, differ_assoc}
+use Rattle.cp_invlist.specs.CutLaws.{differ-false}
 use Rattle.cp_terms.specs.declared.block.Block.{Block}
 use Rattle.cp_terms.specs.Blocks.{block_has, odd_below, AreTurned}
 
-differ-assoc : (a b c : Bool) → differ a (differ b c) ≡ differ (differ a b) c
-differ-assoc true true true = refl
-differ-assoc true true false = refl
-differ-assoc true false c = refl
-differ-assoc false b c = refl
-
 odd_below-append : (n : ℕ) (xs : List ℕ) (e : ℕ) → odd_below n (xs ++ e ∷ []) ≡ differ (odd_below n xs) (nat_lt e n)
-odd_below-append n [] e = end (nat_lt e n)
-  where
-    end : (b : Bool) → differ b false ≡ b
-    end true = refl
-    end false = refl
-odd_below-append n (x ∷ xs) e = ap (differ (nat_lt x n)) (odd_below-append n xs e) ∙ differ-assoc (nat_lt x n) (odd_below n xs) (nat_lt e n)
+odd_below-append n [] e = differ-false (nat_lt e n)
+odd_below-append n (x ∷ xs) e = ap (differ (nat_lt x n)) (odd_below-append n xs e) ∙ differ_assoc (nat_lt x n) (odd_below n xs) (nat_lt e n)
 
 -- no element is below a number that all are above
 pub odd_below-none : (n : ℕ) (xs : List ℕ) → All (λ x. n ≤ x) xs → odd_below n xs ≡ false

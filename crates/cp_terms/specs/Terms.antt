@@ -1,23 +1,23 @@
 -- What the steps of a term make of a stack of sets. Each set is seen as a truth value: whether it has one code point.
 use Rattle.std.specs.Prelude.{ℕ, zero, suc, Bool, false, not, ◌&&◌, ◌||◌, List, [], ◌∷◌}
 use Rattle.cp_invlist.specs.InversionList.{contains}
-use Rattle.cp_terms.specs.declared.step.Way.{Way}
-use Rattle.cp_terms.specs.declared.step.Way.TheVariants.{Join, Remove, Retain, RemoveFrom}
+use Rattle.cp_terms.specs.declared.step.SetOperation.{SetOperation}
+use Rattle.cp_terms.specs.declared.step.SetOperation.TheVariants.{Union, Difference, Intersection, ReverseDifference}
 use Rattle.cp_terms.specs.declared.step.Step.{Step}
 use Rattle.cp_terms.specs.declared.step.Step.TheVariants.{Push, Both, Complement, Clear}
 
 -- whether the set that is made of two has the member, by whether the lower and the upper have it
-abbrev pub combined : Way → Bool → Bool → Bool
-combined Join lower upper = lower || upper
-combined Remove lower upper = lower && not upper
-combined Retain lower upper = lower && upper
-combined RemoveFrom lower upper = upper && not lower
+abbrev pub combined : SetOperation → Bool → Bool → Bool
+combined Union lower upper = lower || upper
+combined Difference lower upper = lower && not upper
+combined Intersection lower upper = lower && upper
+combined ReverseDifference lower upper = upper && not lower
 
 -- one set is made of the two on top, where there are so many
-abbrev pub both_done : Way → List Bool → List Bool
-both_done way [] = []
-both_done way (upper ∷ []) = upper ∷ []
-both_done way (upper ∷ lower ∷ stack) = combined way lower upper ∷ stack
+abbrev pub both_done : SetOperation → List Bool → List Bool
+both_done operation [] = []
+both_done operation (upper ∷ []) = upper ∷ []
+both_done operation (upper ∷ lower ∷ stack) = combined operation lower upper ∷ stack
 
 -- the set on top is complemented, where there is one
 abbrev pub complement_done : List Bool → List Bool
@@ -32,7 +32,7 @@ clear_done (b ∷ stack) = false ∷ stack
 -- the stack behind a step, by which of the sets that are given have the member
 abbrev pub step_done : (ℕ → Bool) → Step → List Bool → List Bool
 step_done v (Push index) stack = v index ∷ stack
-step_done v (Both way) stack = both_done way stack
+step_done v (Both operation) stack = both_done operation stack
 step_done v Complement stack = complement_done stack
 step_done v Clear stack = clear_done stack
 

@@ -1,5 +1,5 @@
 //! Blocks of words: which of 16,384 code points are members.
-use crate::step::Way;
+use crate::step::SetOperation;
 use crate::word::{complement, differing, last_bits};
 use cp_invlist::words::{filled, turned};
 
@@ -47,12 +47,12 @@ impl Block {
 
     /// Makes it what is made of it as the lower one and of the words of the upper.
     #[inline]
-    pub(crate) fn combine(&mut self, way: Way, upper: &[u64; 256])
+    pub(crate) fn combine(&mut self, operation: SetOperation, upper: &[u64; 256])
         ensures { (i j : ℕ) → i < 256 → j < 64 →
-            block_has self.new i j ≡ combined way (block_has self.old i j) (word_has upper.now i j) }
+            block_has self.new i j ≡ combined operation (block_has self.old i j) (word_has upper.now i j) }
     {
         for index in 0..256 {
-            self.words[index] = way.combine_words(self.words[index], upper[index]);
+            self.words[index] = operation.combine_words(self.words[index], upper[index]);
         }
     }
 

@@ -12,4 +12,4 @@ mod windows;
 mod word;
 
 pub use evaluation::evaluate;
-pub use step::{Step, Way};
+pub use step::{SetOperation, Step};

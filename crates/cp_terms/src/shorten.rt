@@ -1,5 +1,5 @@
 //! Terms without what constant sets decide.
-use crate::step::{Step, Way};
+use crate::step::{SetOperation, Step};
 use cp_invlist::{NoMemory, Window};
 use std::alloc::Global;
 
@@ -155,25 +155,38 @@ impl Shortened {
     }
 
     /// Makes one set of two.
-    fn put_both(&mut self, way: Way, lower: Part, upper: Part) -> Result<(), NoMemory>
+    fn put_both(
+        &mut self,
+        operation: SetOperation,
+        lower: Part,
+        upper: Part,
+    ) -> Result<(), NoMemory>
         ensures { OnOk result ((w : ℕ → Bool) (a b : Bool) (stack : List Bool) →
-            FitsUnderBoth w upper lower self.old (b ∷ a ∷ stack) → FitsTerm w self.new (combined way a b ∷ stack)) }
+            FitsUnderBoth w upper lower self.old (b ∷ a ∷ stack) → FitsTerm w self.new (combined operation a b ∷ stack)) }
     {
         if let Some(inside) = upper.constant() {
-            return self.put_changed(lower, way.combine(true, inside), way.combine(false, inside));
+            return self.put_changed(
+                lower,
+                operation.combine(true, inside),
+                operation.combine(false, inside),
+            );
         }
         if let Some(inside) = lower.constant() {
-            return self.put_changed(upper, way.combine(inside, true), way.combine(inside, false));
+            return self.put_changed(
+                upper,
+                operation.combine(inside, true),
+                operation.combine(inside, false),
+            );
         }
-        self.steps.push(Step::Both(way))?;
+        self.steps.push(Step::Both(operation))?;
         self.stack.push(lower)?;
         Ok(())
     }
 
     /// Makes one set of the two on top.
-    fn merge_top(&mut self, way: Way) -> Result<(), NoMemory>
+    fn merge_top(&mut self, operation: SetOperation) -> Result<(), NoMemory>
         ensures { OnOk result ((w : ℕ → Bool) (stack : List Bool) →
-            FitsTerm w self.old stack → FitsTerm w self.new (both_done way stack)) }
+            FitsTerm w self.old stack → FitsTerm w self.new (both_done operation stack)) }
     {
         let Some(upper) = self.stack.pop() else {
             return Ok(());
@@ -182,7 +195,7 @@ impl Shortened {
             self.stack.push(upper)?;
             return Ok(());
         };
-        self.put_both(way, lower, upper)
+        self.put_both(operation, lower, upper)
     }
 
     /// Puts down a set that is neither.
@@ -215,7 +228,7 @@ impl Shortened {
     {
         match step {
             Step::Push(index) => self.put_down(windows, end, index),
-            Step::Both(way) => self.merge_top(way),
+            Step::Both(operation) => self.merge_top(operation),
             Step::Complement => self.change_top(false, true),
             Step::Clear => self.change_top(false, false),
         }

@@ -1,6 +1,6 @@
 //! Terms on a stretch of code points.
 use crate::block::Block;
-use crate::step::{Step, Way};
+use crate::step::{SetOperation, Step};
 use crate::stretch::Stretch;
 use cp_invlist::NoMemory;
 use std::alloc::Global;
@@ -55,10 +55,10 @@ impl Stack {
     }
 
     /// Makes one set of the two on top, of which neither is a given one.
-    fn merge_made(&mut self, way: Way) -> Result<(), NoMemory>
+    fn merge_made(&mut self, operation: SetOperation) -> Result<(), NoMemory>
         ensures named { self.new.named ≡ self.old.named }
         ensures marks { OnOk result ((i j : ℕ) → i < 256 → j < 64 →
-            block_marks i j self.new.made.items ≡ both_done way (block_marks i j self.old.made.items)) }
+            block_marks i j self.new.made.items ≡ both_done operation (block_marks i j self.old.made.items)) }
     {
         let Some(upper) = self.made.pop() else {
             return Ok(());
@@ -67,20 +67,20 @@ impl Stack {
             self.made.push(upper)?;
             return Ok(());
         };
-        lower.combine(way, &upper.words);
+        lower.combine(operation, &upper.words);
         Ok(())
     }
 
     /// Makes one set of the two on top.
-    fn merge(&mut self, stretch: &Stretch<'_>, way: Way) -> Result<(), NoMemory>
+    fn merge(&mut self, stretch: &Stretch<'_>, operation: SetOperation) -> Result<(), NoMemory>
         ensures { OnOk result ((i j : ℕ) → i < 256 → j < 64 →
-            stack_marks stretch.now i j self.new ≡ both_done way (stack_marks stretch.now i j self.old)) }
+            stack_marks stretch.now i j self.new ≡ both_done operation (stack_marks stretch.now i j self.old)) }
     {
         let Some(index) = self.named else {
-            return self.merge_made(way);
+            return self.merge_made(operation);
         };
         if let Some(lower) = self.made.last_mut() {
-            stretch.combine(lower, way, index);
+            stretch.combine(lower, operation, index);
             self.named = None;
         }
         Ok(())
@@ -118,7 +118,7 @@ impl Stack {
     {
         match step {
             Step::Push(index) => self.push(stretch, index),
-            Step::Both(way) => self.merge(stretch, way),
+            Step::Both(operation) => self.merge(stretch, operation),
             Step::Complement => self.complement(stretch),
             Step::Clear => self.clear(stretch),
         }

@@ -2,18 +2,18 @@
 
 /// How one set is made of the two on top of the stack, the lower and the upper.
 #[derive(Clone, Copy)]
-pub enum Way {
+pub enum SetOperation {
     /// The members of either.
-    Join,
+    Union,
     /// The lower without the upper.
-    Remove,
+    Difference,
     /// The members of both.
-    Retain,
+    Intersection,
     /// The upper without the lower.
-    RemoveFrom,
+    ReverseDifference,
 }
 
-impl Way {
+impl SetOperation {
     ghost use Rattle.std.specs.Prelude.{◌≡◌, ℕ, ◌<◌};
     ghost use Rattle.cp_terms.specs.Terms.{combined};
     ghost use Rattle.cp_invlist.specs.Words.{has_bit};
@@ -23,10 +23,10 @@ impl Way {
         ensures { result ≡ combined self lower upper }
     {
         match self {
-            Way::Join => lower || upper,
-            Way::Remove => lower && !upper,
-            Way::Retain => lower && upper,
-            Way::RemoveFrom => upper && !lower,
+            SetOperation::Union => lower || upper,
+            SetOperation::Difference => lower && !upper,
+            SetOperation::Intersection => lower && upper,
+            SetOperation::ReverseDifference => upper && !lower,
         }
     }
 
@@ -35,10 +35,10 @@ impl Way {
         ensures { (j : ℕ) → j < 64 → has_bit result j ≡ combined self (has_bit lower j) (has_bit upper j) }
     {
         match self {
-            Way::Join => lower | upper,
-            Way::Remove => lower & !upper,
-            Way::Retain => lower & upper,
-            Way::RemoveFrom => upper & !lower,
+            SetOperation::Union => lower | upper,
+            SetOperation::Difference => lower & !upper,
+            SetOperation::Intersection => lower & upper,
+            SetOperation::ReverseDifference => upper & !lower,
         }
     }
 }
@@ -49,7 +49,7 @@ pub enum Step {
     /// Puts down the set with this index, the empty set where there is none.
     Push(usize),
     /// Makes one set of the two on top. Where there are fewer, nothing is done.
-    Both(Way),
+    Both(SetOperation),
     /// Exchanges the members of the set on top and the other code points. Where there is none, nothing is done.
     Complement,
     /// Empties the set on top. Where there is none, nothing is done.

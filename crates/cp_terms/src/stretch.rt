@@ -2,7 +2,7 @@
 ghost use Rattle.cp_terms.specs.Windows.{AreKnown};
 
 use crate::block::Block;
-use crate::step::Way;
+use crate::step::SetOperation;
 use crate::windows::{read_block, stretch_words};
 use cp_invlist::{CodePointInversionList, Window};
 
@@ -50,16 +50,16 @@ impl Stretch<'_> {
     }
 
     /// Makes of the block as the lower set and of the set with the index what is made of both.
-    pub(crate) fn combine(&self, lower: &mut Block, way: Way, index: usize)
+    pub(crate) fn combine(&self, lower: &mut Block, operation: SetOperation, index: usize)
         ensures { (i j : ℕ) → i < 256 → j < 64 →
-            block_has lower.new i j ≡ combined way (block_has lower.old i j) (stretch_has self.now i j index) }
+            block_has lower.new i j ≡ combined operation (block_has lower.old i j) (stretch_has self.now i j index) }
     {
         if let Some(words) = self.words(index) {
-            lower.combine(way, words);
+            lower.combine(operation, words);
             return;
         }
         let mut upper = Block::EMPTY;
         self.read(index, &mut upper);
-        lower.combine(way, &upper.words);
+        lower.combine(operation, &upper.words);
     }
 }

@@ -3,8 +3,8 @@ use Rattle.std.proofs.Common.{◌≡◌, ℕ, zero, suc, ◌+◌, ◌*◌, ◌-�
 use Rattle.std.proofs.lemmas.List.{append-nil, take_all, take-take, take-append-le, drop-append-le, length-take-le, length-replicate, replicate-append-replicate, take-replicate}
 use Rattle.std.proofs.Math.Nat.{suc-mul, zero-mul}
 use Rattle.std.proofs.Math.Seq.{drop-append_seam, take-append-add, take-append_seam}
-use Rattle.std.specs.List.{slice_range}
-use Rattle.cp_trie.specs.Rows.{row_of, AreWhole, rows_of, spelled, repeat, Extends, laid, taken, IsCut}
+use Rattle.std.specs.List.{repeat, slice_range}
+use Rattle.cp_trie.specs.Rows.{row_of, AreWhole, rows_of, spelled, Extends, laid, taken, IsCut}
 use Rattle.cp_trie.specs.declared.rows.Repeated.{Repeated}
 use Rattle.cp_trie.specs.declared.rows.Rows.{Rows}
 

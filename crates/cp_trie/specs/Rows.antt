@@ -1,5 +1,5 @@
 -- Lists of values that are cut into rows of 64, where a number says which row is meant.
-use Rattle.std.specs.Prelude.{◌≡◌, ℕ, zero, suc, ◌+◌, ◌*◌, ◌%◌, ◌≤◌, List, [], ◌∷◌, ◌++◌, length, take, drop, replicate}
+use Rattle.std.specs.Prelude.{◌≡◌, ℕ, ◌+◌, ◌*◌, ◌%◌, ◌≤◌, List, [], ◌∷◌, ◌++◌, length, take, drop, replicate}
 use Rattle.cp_trie.specs.declared.rows.Repeated.{Repeated}
 use Rattle.cp_trie.specs.declared.rows.Rows.{Rows}
 
@@ -21,11 +21,6 @@ rows_of values (n ∷ ns) = row_of values n ++ rows_of values ns
 abbrev pub spelled : List Repeated → List ℕ
 spelled [] = []
 spelled (r ∷ rs) = replicate r.count r.number ++ spelled rs
-
--- a list so many times
-abbrev pub repeat : {V : Type 0} → ℕ → List V → List V
-repeat zero xs = []
-repeat (suc n) xs = xs ++ repeat n xs
 
 -- the first list with at most one row behind it, so that whole rows stay
 pub record Extends {V : Type 0} (old new : List V) : Type 0 where

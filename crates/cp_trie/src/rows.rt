@@ -1,6 +1,7 @@
 //! Lists of values cut into rows of 64, where equal rows are kept once.
 ghost use Rattle.std.specs.Prelude.{IsTrue, ◌≡◌, ◌+◌, ◌*◌, ◌-◌, ◌%◌, ◌<◌, ◌≤◌, [], ◌++◌, length, take, replicate, IfOk, IfSome, OnOk};
-ghost use Rattle.cp_trie.specs.Rows.{row_of, spelled, laid, repeat, Extends, taken, IsCut};
+ghost use Rattle.std.specs.List.{repeat};
+ghost use Rattle.cp_trie.specs.Rows.{row_of, spelled, laid, Extends, taken, IsCut};
 
 use crate::value::TrieValue;
 use std::alloc::{AllocError, Global};

@@ -47,7 +47,9 @@ impl<T: Copy + Eq> Runs<T> {
         if let Some(fault) = first_fault(&runs) {
             return Err(fault);
         }
-        Ok(joined(alloc, runs)?)
+        Ok(Runs {
+            runs: joined_list(alloc, &runs)?,
+        })
     }
 
     /// The runs in order.

@@ -66,6 +66,16 @@ const FAULTS: &[Faulty] = &[
         1,
         TableErrorKind::ValueOutOfType,
     ),
+    (
+        "map Bidi_Mirroring_Glyph 12582912",
+        1,
+        TableErrorKind::ValueOutOfType,
+    ),
+    (
+        "map Bidi_Mirroring_Glyph 55296",
+        1,
+        TableErrorKind::ValueOutOfType,
+    ),
     ("map Script 12345678901", 1, TableErrorKind::BadNumber),
     ("map Script -1", 1, TableErrorKind::BadNumber),
     (

@@ -201,10 +201,11 @@ fn wrong_in(names: &PropertyEnumToValueNameLinearMap) -> Option<u32> {
     None
 }
 
-/// The first number that has another name in the list, if memory is left for it.
-fn wrong_in_list(alloc: Global) -> Result<Option<u32>, AllocError> {
+/// The first number that has another name in the list or in a copy, if memory is left for them.
+fn wrong_in_list(alloc: Global) -> Result<Option<u32>, NoMemory> {
     let names = listed(alloc)?;
-    Ok(wrong_in(&names))
+    let copy = names.copy(alloc)?;
+    Ok(wrong_in(&names).or(wrong_in(&copy)))
 }
 
 #[test]

@@ -1,5 +1,5 @@
 -- The binary properties (UAX 44, section 5.3; UTS 18, annex C; UTS 51, section 1.4): their names, and which of them ECMA-262 has.
-use Rattle.std.specs.Prelude.{ℕ, zero, suc, ◌+◌, Bool, true, false, List, [], ◌∷◌, codes, map}
+use Rattle.std.specs.Prelude.{ℕ, Bool, true, false, List, [], ◌∷◌, codes, map}
 
 -- Each property, in the order of the numbers of the tables: its long name, its short name, and whether it is in ECMA-262's table
 -- "Binary Unicode property aliases and their canonical property names". White_Space has the short name WSpace.
@@ -91,8 +91,3 @@ both_names (property ∷ more) = (property.0, property.1) ∷ both_names more
 
 abbrev pub property_names : List (List ℕ × List ℕ)
 property_names = both_names properties
-
--- so many numbers from one on
-abbrev pub numbers_from : ℕ → ℕ → List ℕ
-numbers_from n zero = []
-numbers_from n (suc count) = n ∷ numbers_from (n + 1) count

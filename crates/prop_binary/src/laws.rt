@@ -1,6 +1,7 @@
 //! Laws of the property types: which numbers and names their constants have.
 ghost use Rattle.std.specs.Prelude.{◌≡◌, ◌∷◌, [], codes, drop, map, take};
-ghost use Rattle.prop_binary.specs.Tables.{numbers_from, property_names};
+ghost use Rattle.std.specs.List.{range_with_len};
+ghost use Rattle.prop_binary.specs.Tables.{property_names};
 
 use crate::case::*;
 use crate::emoji::{BasicEmoji, EmojiSet};
@@ -80,7 +81,7 @@ pub fn numbers_of_tables()
         ∷ ⟦<Xdigit as BinaryProperty>⟧.TABLE
         ∷ ⟦<XidContinue as BinaryProperty>⟧.TABLE
         ∷ ⟦<XidStart as BinaryProperty>⟧.TABLE
-        ∷ []) ≡ numbers_from 0 69 }
+        ∷ []) ≡ range_with_len 0 69 }
     ensures emoji { ⟦<BasicEmoji as EmojiSet>⟧.TABLE ≡ 0 }
 {}
 

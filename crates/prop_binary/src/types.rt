@@ -1,4 +1,4 @@
-//! The types of the binary properties of Unicode and ICU other than those of letter case.
+//! The types of the binary properties of Unicode and ICU other than those of letter case and of POSIX classes.
 use crate::property::BinaryProperty;
 use crate::table::SetTable;
 

@@ -21,9 +21,6 @@ pub record StandsAt (text rest : List ℕ) (seen : Above) (number : ℕ) : Type 
   pub lines_are : laid_on read (lines_by_field (lines rest)) ≡ laid_on [] (lines_by_field (lines text))
   pub counted : number + length rest ≤ 1 + length text
 
-pub begins : (text : List ℕ) (seen : Above) → seen ≡ above [] → StandsAt text text seen 1
-begins text seen e = record { read = []; seen_is = e; fault_is = refl; lines_are = refl; counted = omega arith }
-
 -- the fault of the first line to come, if it has one, is the first fault
 faulty_line : (text rest line behind : List ℕ) (seen : Above) (number : ℕ) (kind : TableErrorKind) → StandsAt text rest seen number → lines rest ≡ line ∷ lines behind →
     line_fault seen (line_of (fields line)) ≡ Some kind → table_fault (lines text) ≡ Some (at_line number kind)

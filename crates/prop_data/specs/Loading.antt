@@ -101,7 +101,7 @@ emoji_read o = record { code_points = contains o.builder; strings = contains_tex
 -- the scripts with extensions whose rows are being read
 abbrev pub scripts_read : OpenScripts → ScriptNumbers
 scripts_read o = record {
-  values = λ c. if nat_lt 0x10_FFFF c then default_number 4 else value_in o.builder.runs.items o.builder.default c;
+  values = λ c. if nat_lt 0x10_FFFF c then default_number script_table else value_in o.builder.runs.items o.builder.default c;
   named = o.named.items;
 }
 

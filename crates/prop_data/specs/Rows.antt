@@ -93,9 +93,9 @@ abbrev pub named_in : ℕ → List Row → List ℕ
 named_in default [] = default ∷ []
 named_in default (r ∷ rows) = named_in default rows ++ value_of r.1 ∷ []
 
--- the scripts with extensions: past the last code point the script Unknown, as in the table of scripts (4)
+-- the scripts with extensions: past the last code point the script Unknown, as in the table of scripts
 abbrev pub script_numbers : ℕ → List Row → ScriptNumbers
-script_numbers default rows = record { values = value 4 default rows; named = named_in default rows }
+script_numbers default rows = record { values = value script_table default rows; named = named_in default rows }
 
 abbrev pub first_scripts : Option ℕ → List ℕ
 first_scripts None = []

@@ -2,6 +2,7 @@
 use Rattle.std.specs.Prelude.{ℕ, Bool, false, ◌&&◌, ◌==◌, nat_le, List, [], ◌∷◌, Option, Some, None, option_map, option_and_then, encode_utf8_all, if◌then◌else◌}
 use Rattle.std.specs.List.{list_any, slice_split}
 use Rattle.std.specs.Str.{bytes_eq, all_scalars}
+use Rattle.prop_names.specs.Folding.{is_underscore}
 use Rattle.prop_data.specs.Numbers.{hex, range}
 
 -- what stands before the `}` at the end
@@ -14,9 +15,6 @@ before_brace (c ∷ d ∷ rest) = option_map (λ front. c ∷ front) (before_bra
 unfoldable pub braced : List ℕ → Option (List ℕ)
 braced [] = None
 braced (c ∷ rest) = if c == 0x7B then before_brace rest else None
-
-abbrev pub is_underscore : ℕ → Bool
-is_underscore c = c == 0x5F
 
 -- the numbers of the parts
 abbrev pub numbers_of : List (List ℕ) → Option (List ℕ)

@@ -320,10 +320,7 @@ impl PropertyDatabase {
     pub fn scripts(&self) -> Option<&ScriptWithExtensionsProperty>
         ensures { option_copied result ≡ scripts_of self.now }
     {
-        match &self.scripts {
-            Some(table) => Some(&table.property),
-            None => None,
-        }
+        self.scripts.as_ref().map(|table| &table.property)
     }
 
     /// How many tables of the kind the text has.

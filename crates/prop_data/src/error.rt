@@ -14,7 +14,7 @@ pub enum TableErrorKind {
     UnknownLine,
     /// The header names no table of its kind.
     UnknownTable,
-    /// An earlier header has the same word and name, or as `ext` an equal index.
+    /// An earlier header has the same word and name, as `ext` an equal index, or both are of `scx`.
     TableTwice,
     /// A number, range or string isn't spelled as it must be, or a number of a string is a surrogate.
     BadNumber,

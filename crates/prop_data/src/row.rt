@@ -1,5 +1,6 @@
 //! The tests of a row's range.
-ghost use Rattle.std.specs.Prelude.{◌≡◌, None, Some, List};
+ghost use Rattle.std.specs.Prelude.{◌≡◌, List};
+ghost use Rattle.std.specs.Result.{result_err};
 ghost use Rattle.std.specs.List.{list_any};
 ghost use Rattle.prop_data.specs.LineFault.{overlaps, forbidden, range_fault, syntax_fault, is_not_above};
 
@@ -40,28 +41,29 @@ pub(crate) fn is_not_above(last: Option<u32>, start: u32) -> bool
     }
 }
 
-/// The first test that the range fails in a row of any table, where `last` is the last code point of the row above.
+/// Refuses a range by the first test that it fails in a row of any table, where `last` is the last code point of the row
+/// above.
 #[tactic(auto, unfolding(crate::specs::LineFault::range_fault))]
-pub(crate) fn range_fault(last: Option<u32>, range: CodePointRange) -> Option<TableErrorKind>
-    ensures { result ≡ range_fault last (range.start, range.end) }
+pub(crate) fn check_range(last: Option<u32>, range: CodePointRange) -> Result<(), TableErrorKind>
+    ensures { result_err result ≡ range_fault last (range.start, range.end) }
 {
     if range.start.max(range.end) > LAST_CODE_POINT {
-        Some(TableErrorKind::TooLarge)
+        Err(TableErrorKind::TooLarge)
     } else if range.end < range.start || is_not_above(last, range.start) {
-        Some(TableErrorKind::RangeOrder)
+        Err(TableErrorKind::RangeOrder)
     } else {
-        None
+        Ok(())
     }
 }
 
-/// The fault of a range that holds an ASCII character which the table must not hold.
+/// Refuses a range that holds an ASCII character which the table must not hold.
 #[tactic(auto, unfolding(crate::specs::LineFault::syntax_fault))]
-pub(crate) fn syntax_fault(table: SetTable, range: CodePointRange) -> Option<TableErrorKind>
-    ensures { result ≡ syntax_fault table (range.start, range.end) }
+pub(crate) fn check_syntax(table: SetTable, range: CodePointRange) -> Result<(), TableErrorKind>
+    ensures { result_err result ≡ syntax_fault table (range.start, range.end) }
 {
     if holds_syntax(table, range) {
-        Some(TableErrorKind::SyntaxAscii)
+        Err(TableErrorKind::SyntaxAscii)
     } else {
-        None
+        Ok(())
     }
 }

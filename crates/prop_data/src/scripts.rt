@@ -133,35 +133,16 @@ pub(crate) fn take_lists(
     }
 }
 
-/// Whether there is a list without a script at the index.
-fn has_plain_list(property: &ScriptWithExtensionsProperty, index: u16) -> bool
-    ensures { result ≡ is_plain_list (list_of property.now index) }
-{
-    match property.lists.get(&u64::from(index)) {
-        Some(list) => !list.has_script,
-        None => false,
-    }
-}
-
-/// Whether there is a list with a script at the index.
-fn has_script_list(property: &ScriptWithExtensionsProperty, index: u16) -> bool
-    ensures { result ≡ is_script_list (list_of property.now index) }
-{
-    match property.lists.get(&u64::from(index)) {
-        Some(list) => list.has_script,
-        None => false,
-    }
-}
-
 /// Whether the number tells the place of a list that isn't there.
 fn lacks_list(property: &ScriptWithExtensionsProperty, number: u16) -> bool
     ensures { result ≡ lacks_list (list_of property.now) number }
 {
     let place = ScriptWithExt(number);
+    let list = property.lists.get(&u64::from(place.list_index()));
     if place.is_common() || place.is_inherited() {
-        !has_plain_list(property, place.list_index())
+        list.is_none_or(|list| list.has_script)
     } else if place.is_other() {
-        !has_script_list(property, place.list_index())
+        list.is_none_or(|list| !list.has_script)
     } else {
         false
     }

@@ -3,7 +3,8 @@ ghost use Rattle.std.specs.Prelude.{◌≡◌, IfOk, option_map};
 ghost use Rattle.std.specs.List.{list_any, slice_split};
 ghost use Rattle.std.specs.Option.{option_copied};
 ghost use Rattle.std.specs.String.{string_bytes};
-ghost use Rattle.prop_data.specs.Strings.{braced, is_underscore, numbers_of, spelled_numbers, is_surrogate, text_spelled};
+ghost use Rattle.prop_names.specs.Folding.{is_underscore};
+ghost use Rattle.prop_data.specs.Strings.{braced, numbers_of, spelled_numbers, is_surrogate, text_spelled};
 
 use cp_invlist::NoMemory;
 use std::alloc::Global;

@@ -1,7 +1,7 @@
 -- The foldings and look-ups, computed on small tables.
 use Rattle.std.specs.Prelude.{◌≡◌, [], codes, Some, None, refl}
 use Rattle.prop_names.specs.Folding.{stored_folding, query_folding}
-use Rattle.prop_names.specs.Names.{Names, exact, loose, with_name}
+use Rattle.prop_names.specs.Names.{Names, value_of_name, value_of_query, with_name}
 
 stored : stored_folding (codes "Old_Ita-lic") ≡ codes "oldita-lic"
 stored = refl
@@ -13,9 +13,9 @@ query = refl
 abbrev table : Names
 table = with_name (with_name (with_name [] (codes "Latn") 25) (codes "Latin") 25) (codes "A-b") 7
 
-exact-example : (exact table (codes "Latn") ≡ Some 25) × (exact table (codes "latn") ≡ None)
-exact-example = (refl, refl)
+value_of_name-example : (value_of_name table (codes "Latn") ≡ Some 25) × (value_of_name table (codes "latn") ≡ None)
+value_of_name-example = (refl, refl)
 
 -- a stored hyphen is never found
-loose-example : (loose table (codes "la-TN") ≡ Some 25) × (loose table (codes "a-b") ≡ None)
-loose-example = (refl, refl)
+value_of_query-example : (value_of_query table (codes "la-TN") ≡ Some 25) × (value_of_query table (codes "a-b") ≡ None)
+value_of_query-example = (refl, refl)

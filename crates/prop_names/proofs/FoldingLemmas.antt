@@ -3,7 +3,7 @@ use Rattle.std.proofs.Common.{◌≡◌, ℕ, Bool, true, false, ◌||◌, ◌==
 use Rattle.std.specs.Char.{to_ascii_lowercase}
 use Rattle.std.proofs.lemmas.List.Elements.{All-head, All-tail}
 use Rattle.prop_names.specs.Folding.{is_ignored, is_space_or_hyphen, is_underscore, stored_folding, query_folding, LacksSpacesAndHyphens}
-use Rattle.prop_names.specs.Names.{Names, exact, loose, value_of_folding, FoldingsAgree}
+use Rattle.prop_names.specs.Names.{Names, value_of_name, value_of_query, value_of_folding, FoldingsAgree}
 
 -- what is neither white space nor a hyphen is dropped from a query only where it is `_`
 underscore_alone : (controls space underscore hyphen : Bool) → (controls || (space || hyphen)) ≡ false → (controls || (space || (underscore || hyphen))) ≡ underscore
@@ -23,9 +23,9 @@ query_folding-stored_folding (c ∷ cs) lacks =
     (query_folding-stored_folding cs (All-tail (λ c. is_space_or_hyphen c ≡ false) c cs lacks))
 
 -- the value of a name without white space and hyphens is found loosely
-pub exact-loose : (names : Names) (name : List ℕ) → FoldingsAgree names → LacksSpacesAndHyphens name → IfSome (exact names name) (λ value. loose names name ≡ Some value)
-exact-loose names name agree lacks = by_answer (exact names name) refl
+pub value_of_name-value_of_query : (names : Names) (name : List ℕ) → FoldingsAgree names → LacksSpacesAndHyphens name → IfSome (value_of_name names name) (λ value. value_of_query names name ≡ Some value)
+value_of_name-value_of_query names name agree lacks = by_answer (value_of_name names name) refl
   where
-    by_answer : (o : Option ℕ) → exact names name ≡ o → IfSome o (λ value. loose names name ≡ Some value)
+    by_answer : (o : Option ℕ) → value_of_name names name ≡ o → IfSome o (λ value. value_of_query names name ≡ Some value)
     by_answer None is = tt
     by_answer (Some value) is = ap (value_of_folding names) (query_folding-stored_folding name lacks) ∙ agree name value is

@@ -16,7 +16,7 @@ use Rattle.std.proofs.lemmas.Map.Lookups.{exact_bytes}
 use Rattle.std.proofs.lemmas.Map.Text.{is_eq-slice_cmp, btree_map_updates_text}
 use Rattle.std.proofs.lemmas.Slice.Eq.{bytes_eq-Decides}
 use Rattle.prop_names.specs.Folding.{stored_folding}
-use Rattle.prop_names.specs.Names.{Names, AreFoldings, FoldingsAgree, exact, value_of_folding, with_name, all_above, ascend}
+use Rattle.prop_names.specs.Names.{Names, AreFoldings, FoldingsAgree, value_of_name, value_of_folding, with_name, all_above, ascend}
 use Rattle.prop_names.specs.Texts.{text_of, texts}
 
 -- an ordered map takes a name in its place
@@ -40,26 +40,26 @@ lookup-texts m f = in_rows m.entries
     in_rows (r ∷ rows) = ap (λ b. cond b (Some r.1) (lookup (bytes_eq f) (texts rows))) (sym (is_eq-slice_cmp f (string_bytes r.0))) ∙ ap (λ o. cond (is_eq (slice_cmp nat_cmp f (string_bytes r.0))) (Some r.1) o) (in_rows rows)
 
 -- the value of each name in a map where one has another value, or none
-pub exact-texts : (old new : BTreeMap (String Global) ℕ) (n : List ℕ) (w : Option ℕ) → UpdatesBy string_cmp (λ k. slice_cmp nat_cmp n (string_bytes k)) old new w → (q : List ℕ) →
-    exact (texts new.entries) q ≡ cond (bytes_eq n q) w (exact (texts old.entries) q)
-exact-texts old new n w updates q =
+pub value_of_name-texts : (old new : BTreeMap (String Global) ℕ) (n : List ℕ) (w : Option ℕ) → UpdatesBy string_cmp (λ k. slice_cmp nat_cmp n (string_bytes k)) old new w → (q : List ℕ) →
+    value_of_name (texts new.entries) q ≡ cond (bytes_eq n q) w (value_of_name (texts old.entries) q)
+value_of_name-texts old new n w updates q =
     lookup-texts new q ∙ (btree_map_updates_text n old new w updates q ∙ ap (λ o. cond (bytes_eq n q) w o) (sym (lookup-texts old q)))
 
 -- names of which one has the value, or none, that it had
-pub same_values : (old new : Names) (n : List ℕ) (w : Option ℕ) → exact old n ≡ w → ((q : List ℕ) → exact new q ≡ cond (bytes_eq n q) w (exact old q)) → (q : List ℕ) → exact new q ≡ exact old q
+pub same_values : (old new : Names) (n : List ℕ) (w : Option ℕ) → value_of_name old n ≡ w → ((q : List ℕ) → value_of_name new q ≡ cond (bytes_eq n q) w (value_of_name old q)) → (q : List ℕ) → value_of_name new q ≡ value_of_name old q
 same_values old new n w had updated q = updated q ∙ by_test (bytes_eq n q) refl
   where
-    by_test : (b : Bool) → bytes_eq n q ≡ b → cond b w (exact old q) ≡ exact old q
-    by_test true is = sym had ∙ ap (exact old) ((bytes_eq-Decides n q).0 is)
+    by_test : (b : Bool) → bytes_eq n q ≡ b → cond b w (value_of_name old q) ≡ value_of_name old q
+    by_test true is = sym had ∙ ap (value_of_name old) ((bytes_eq-Decides n q).0 is)
     by_test false is = refl
 
 -- a text that had no value and loses the one that it took
-pub taken_back : (old between new : BTreeMap (String Global) ℕ) (n : List ℕ) (v : ℕ) → exact (texts old.entries) n ≡ None →
+pub taken_back : (old between new : BTreeMap (String Global) ℕ) (n : List ℕ) (v : ℕ) → value_of_name (texts old.entries) n ≡ None →
     UpdatesBy string_cmp (λ k. slice_cmp nat_cmp n (string_bytes k)) old between (Some v) → UpdatesBy string_cmp (λ k. slice_cmp nat_cmp n (string_bytes k)) between new None →
-    (q : List ℕ) → exact (texts new.entries) q ≡ exact (texts old.entries) q
+    (q : List ℕ) → value_of_name (texts new.entries) q ≡ value_of_name (texts old.entries) q
 taken_back old between new n v had added removed =
     same_values (texts old.entries) (texts new.entries) n None had
-    (λ q. exact-texts between new n None removed q ∙ (ap (λ o. cond (bytes_eq n q) None o) (exact-texts old between n (Some v) added q) ∙ twice (bytes_eq n q) (exact (texts old.entries) q)))
+    (λ q. value_of_name-texts between new n None removed q ∙ (ap (λ o. cond (bytes_eq n q) None o) (value_of_name-texts old between n (Some v) added q) ∙ twice (bytes_eq n q) (value_of_name (texts old.entries) q)))
   where
     twice : (b : Bool) (o : Option ℕ) → cond b None (cond b (Some v) o) ≡ cond b None o
     twice true o = refl
@@ -76,7 +76,7 @@ no_value (Some w) there = absurd (let h = there in cc)
 no_value None there = refl
 
 -- other foldings with the same values are those of the names too
-pub AreFoldings-same : (names foldings others : Names) → ((q : List ℕ) → exact others q ≡ exact foldings q) → AreFoldings names foldings → AreFoldings names others
+pub AreFoldings-same : (names foldings others : Names) → ((q : List ℕ) → value_of_name others q ≡ value_of_name foldings q) → AreFoldings names foldings → AreFoldings names others
 AreFoldings-same names foldings others same are = record { found = λ q. same q ∙ are.found q; agree = are.agree }
 
 -- the names of an ordered map ascend
@@ -142,7 +142,7 @@ value_of_folding-with_name names n v agrees f = by_test (bytes_eq (stored_foldin
 
 -- names with the same folding have the same value, also with a name more whose folding has no other value
 pub FoldingsAgree-with_name : (names : Names) (n : List ℕ) (v : ℕ) → FoldingsAgree names → IfSome (value_of_folding names (stored_folding n)) (λ other. other ≡ v) →
-    ((q : List ℕ) → exact (with_name names n v) q ≡ cond (bytes_eq n q) (Some v) (exact names q)) → FoldingsAgree (with_name names n v)
+    ((q : List ℕ) → value_of_name (with_name names n v) q ≡ cond (bytes_eq n q) (Some v) (value_of_name names q)) → FoldingsAgree (with_name names n v)
 FoldingsAgree-with_name names n v agree own added = λ name value has. by_name name value (bytes_eq n name) refl (sym (added name) ∙ has)
   where
     -- a folding that has a value keeps it
@@ -153,7 +153,7 @@ FoldingsAgree-with_name names n v agree own added = λ name value has. by_name n
         let same : value ≡ v = subst (λ (o : Option ℕ). IfSome o (λ other. other ≡ v)) has at_folding in ap (λ (w : ℕ). Some w) (sym same)
     by_folding folding value false is has = has
 
-    by_name : (name : List ℕ) (value : ℕ) (b : Bool) → bytes_eq n name ≡ b → cond b (Some v) (exact names name) ≡ Some value → value_of_folding (with_name names n v) (stored_folding name) ≡ Some value
+    by_name : (name : List ℕ) (value : ℕ) (b : Bool) → bytes_eq n name ≡ b → cond b (Some v) (value_of_name names name) ≡ Some value → value_of_folding (with_name names n v) (stored_folding name) ≡ Some value
     by_name name value true is has =
         ap (λ (m : List ℕ). value_of_folding (with_name names n v) (stored_folding m)) (sym ((bytes_eq-Decides n name).0 is)) ∙ (own_folding names n v own ∙ has)
     by_name name value false is has =

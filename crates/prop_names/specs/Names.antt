@@ -11,26 +11,26 @@ abbrev pub Names : Type 0
 Names = List (List ℕ × ℕ)
 
 -- the value of the name
-abbrev pub exact : Names → List ℕ → Option ℕ
-exact names name = lookup (bytes_eq name) names
+abbrev pub value_of_name : Names → List ℕ → Option ℕ
+value_of_name names name = lookup (bytes_eq name) names
 
 -- the value of the least name with this folding
 abbrev pub value_of_folding : Names → List ℕ → Option ℕ
 value_of_folding names folding = lookup (λ name. bytes_eq folding (stored_folding name)) names
 
 -- the value of the least name that folds as the query
-abbrev pub loose : Names → List ℕ → Option ℕ
-loose names query = value_of_folding names (query_folding query)
+abbrev pub value_of_query : Names → List ℕ → Option ℕ
+value_of_query names query = value_of_folding names (query_folding query)
 
 -- Names with the same folding have the same value: the value of a name is that of its folding.
 abbrev pub FoldingsAgree : Names → Type 0
 FoldingsAgree names =
-    (name : List ℕ) (value : ℕ) → exact names name ≡ Some value →
+    (name : List ℕ) (value : ℕ) → value_of_name names name ≡ Some value →
     value_of_folding names (stored_folding name) ≡ Some value
 
 -- the foldings of names with their values, where names with the same folding have the same value
 pub record AreFoldings (names foldings : Names) : Type 0 where
-  pub found : (folding : List ℕ) → exact foldings folding ≡ value_of_folding names folding
+  pub found : (folding : List ℕ) → value_of_name foldings folding ≡ value_of_folding names folding
   pub agree : FoldingsAgree names
 
 -- the names with one more in its place, or with its value

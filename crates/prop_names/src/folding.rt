@@ -12,7 +12,7 @@ use std::cmp::Ordering;
 fn is_ignored(byte: u8) -> bool
     ensures { result ≡ is_ignored byte }
 {
-    (0x09 <= byte && byte <= 0x0D) || byte == b' ' || byte == b'_' || byte == b'-'
+    matches!(byte, 0x09..=0x0D | b' ' | b'_' | b'-')
 }
 
 /// The folding of a name that is stored: in lower case, without `_`. The name is ASCII. `NoMemory` says that a request

@@ -1,7 +1,7 @@
 //! The table that finds the value of a name.
 ghost use Rattle.std.specs.Prelude.{◌≡◌, Some, IfSome, IfOk};
 ghost use Rattle.prop_names.specs.Folding.{LacksSpacesAndHyphens};
-ghost use Rattle.prop_names.specs.Names.{AreFoldings, exact, loose};
+ghost use Rattle.prop_names.specs.Names.{AreFoldings, value_of_name, value_of_query};
 
 use crate::list::NameList;
 use cp_invlist::NoMemory;
@@ -57,9 +57,9 @@ impl PropertyValueNameToEnumMap {
     /// The number of the value with this name, compared byte for byte. A name without white space and hyphens that is
     /// found so is found loosely too, with the same value.
     pub fn get_strict_u16(&self, name: &[u8]) -> Option<u16>
-        ensures value { result ≡ exact self.now name.now }
+        ensures value { result ≡ value_of_name self.now name.now }
         ensures loosely { LacksSpacesAndHyphens name.now →
-            IfSome result (λ value. loose self.now name.now ≡ Some value) }
+            IfSome result (λ value. value_of_query self.now name.now ≡ Some value) }
     {
         self.names.get(name)
     }
@@ -68,9 +68,9 @@ impl PropertyValueNameToEnumMap {
     /// U+0009 to U+000D, U+0020, `_` and hyphens. A name of the table loses its `_` alone, so that one with a hyphen is never
     /// found so. A prefix `is` stays.
     pub fn get_loose_u16(&self, name: &[u8]) -> Option<u16>
-        ensures value { result ≡ loose self.now name.now }
+        ensures value { result ≡ value_of_query self.now name.now }
         ensures strictly { LacksSpacesAndHyphens name.now →
-            IfSome (exact self.now name.now) (λ value. result ≡ Some value) }
+            IfSome (value_of_name self.now name.now) (λ value. result ≡ Some value) }
     {
         self.foldings.get_folded(name)
     }

@@ -6,6 +6,7 @@ use Rattle.std.specs.List.{list_any}
 use Rattle.cp_invlist.specs.InversionList.{is_code_point}
 use Rattle.cp_trie.specs.Map.{value_at}
 use Rattle.prop_values.specs.ScriptWithExt.{kind_of}
+use Rattle.prop_values.specs.Tables.{unknown_script}
 use Rattle.prop_data.specs.Extensions.{list_of, scripts_map}
 use Rattle.prop_data.specs.Tables.{ExtensionList}
 use Rattle.prop_data.specs.declared.scripts.ScriptWithExtensionsProperty.{ScriptWithExtensionsProperty}
@@ -17,7 +18,7 @@ scripts_listed (Some list) = list.scripts
 
 -- the first script, and Unknown where there is none
 abbrev pub first_script : List ℕ → ℕ
-first_script [] = 103
+first_script [] = unknown_script
 first_script (s ∷ ss) = s
 
 -- the scripts behind the first
@@ -40,9 +41,9 @@ extensions_of_number lists v =
     else if kind_of v == 3 then others (scripts_listed (lists (v % 1024)))
     else v ∷ []
 
--- the script of a code point, and Unknown (103) past 10FFFF
+-- the script of a code point, and Unknown past 10FFFF
 abbrev pub script_of : ScriptWithExtensionsProperty → ℕ → ℕ
-script_of table c = if is_code_point c then script_of_number (list_of table) (value_at (scripts_map table) c) else 103
+script_of table c = if is_code_point c then script_of_number (list_of table) (value_at (scripts_map table) c) else unknown_script
 
 -- the script extensions of a code point, and none past 10FFFF
 abbrev pub extensions_of : ScriptWithExtensionsProperty → ℕ → List ℕ

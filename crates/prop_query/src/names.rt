@@ -3,7 +3,7 @@ ghost use Rattle.std.specs.Prelude.{◌≡◌, ℕ, Some, IfOk, IfSome, option_a
 ghost use Rattle.std.specs.Option.{option_copied};
 ghost use Rattle.prop_data.specs.Database.{names_of, long_of, short_of};
 ghost use Rattle.prop_names.specs.Folding.{LacksSpacesAndHyphens};
-ghost use Rattle.prop_names.specs.Names.{exact, loose};
+ghost use Rattle.prop_names.specs.Names.{value_of_name, value_of_query};
 ghost use Rattle.prop_names.specs.ValueNameTables.{subtag_text};
 ghost use Rattle.prop_query.specs.Answers.{NeedsTable, NeedsTableAndMemory};
 ghost use Rattle.prop_query.specs.Borrowed.{names_in, long_in, long_borrowed, short_in, short_borrowed, name_in};
@@ -116,9 +116,9 @@ impl<T: TrieValue> PropertyParserBorrowed<'_, T> {
     /// The number of the value with this name, compared byte for byte. A name without white space and hyphens that is
     /// found so is found loosely too, with the same value.
     pub fn get_strict_u16(self, name: &str) -> Option<u16>
-        ensures value { result ≡ exact (names_in self.entry) name.now }
+        ensures value { result ≡ value_of_name (names_in self.entry) name.now }
         ensures loosely { LacksSpacesAndHyphens name.now →
-            IfSome result (λ value. loose (names_in self.entry) name.now ≡ Some value) }
+            IfSome result (λ value. value_of_query (names_in self.entry) name.now ≡ Some value) }
     {
         self.get_strict_u16_utf8(name.as_bytes())
     }
@@ -126,9 +126,9 @@ impl<T: TrieValue> PropertyParserBorrowed<'_, T> {
     /// The number of the value with this name, compared byte for byte. A name without white space and hyphens that is
     /// found so is found loosely too, with the same value.
     pub fn get_strict_u16_utf8(self, name: &[u8]) -> Option<u16>
-        ensures value { result ≡ exact (names_in self.entry) name.now }
+        ensures value { result ≡ value_of_name (names_in self.entry) name.now }
         ensures loosely { LacksSpacesAndHyphens name.now →
-            IfSome result (λ value. loose (names_in self.entry) name.now ≡ Some value) }
+            IfSome result (λ value. value_of_query (names_in self.entry) name.now ≡ Some value) }
     {
         self.names.get_strict_u16(name)
     }
@@ -136,7 +136,7 @@ impl<T: TrieValue> PropertyParserBorrowed<'_, T> {
     /// The value with this name, compared byte for byte. It is none too where the number of the name is that of no
     /// value.
     pub fn get_strict(self, name: &str) -> Option<T>
-        ensures { result ≡ option_and_then T.unpacked (exact (names_in self.entry) name.now) }
+        ensures { result ≡ option_and_then T.unpacked (value_of_name (names_in self.entry) name.now) }
     {
         self.get_strict_utf8(name.as_bytes())
     }
@@ -144,7 +144,7 @@ impl<T: TrieValue> PropertyParserBorrowed<'_, T> {
     /// The value with this name, compared byte for byte. It is none too where the number of the name is that of no
     /// value.
     pub fn get_strict_utf8(self, name: &[u8]) -> Option<T>
-        ensures { result ≡ option_and_then T.unpacked (exact (names_in self.entry) name.now) }
+        ensures { result ≡ option_and_then T.unpacked (value_of_name (names_in self.entry) name.now) }
     {
         value_of_number(self.get_strict_u16_utf8(name)?)
     }
@@ -153,18 +153,18 @@ impl<T: TrieValue> PropertyParserBorrowed<'_, T> {
     /// without U+0009 to U+000D, U+0020, `_` and hyphens. A name of the table loses its `_` alone, so that one with a hyphen is
     /// never found so. A prefix `is` stays.
     pub fn get_loose_u16(self, name: &str) -> Option<u16>
-        ensures value { result ≡ loose (names_in self.entry) name.now }
+        ensures value { result ≡ value_of_query (names_in self.entry) name.now }
         ensures strictly { LacksSpacesAndHyphens name.now →
-            IfSome (exact (names_in self.entry) name.now) (λ value. result ≡ Some value) }
+            IfSome (value_of_name (names_in self.entry) name.now) (λ value. result ≡ Some value) }
     {
         self.get_loose_u16_utf8(name.as_bytes())
     }
 
     /// The number of the value of the least name that folds as this one, as `get_loose_u16`.
     pub fn get_loose_u16_utf8(self, name: &[u8]) -> Option<u16>
-        ensures value { result ≡ loose (names_in self.entry) name.now }
+        ensures value { result ≡ value_of_query (names_in self.entry) name.now }
         ensures strictly { LacksSpacesAndHyphens name.now →
-            IfSome (exact (names_in self.entry) name.now) (λ value. result ≡ Some value) }
+            IfSome (value_of_name (names_in self.entry) name.now) (λ value. result ≡ Some value) }
     {
         self.names.get_loose_u16(name)
     }
@@ -172,7 +172,7 @@ impl<T: TrieValue> PropertyParserBorrowed<'_, T> {
     /// The value of the least name that folds as this one, as `get_loose_u16`. It is none too where the number of the
     /// name is that of no value.
     pub fn get_loose(self, name: &str) -> Option<T>
-        ensures { result ≡ option_and_then T.unpacked (loose (names_in self.entry) name.now) }
+        ensures { result ≡ option_and_then T.unpacked (value_of_query (names_in self.entry) name.now) }
     {
         self.get_loose_utf8(name.as_bytes())
     }
@@ -180,7 +180,7 @@ impl<T: TrieValue> PropertyParserBorrowed<'_, T> {
     /// The value of the least name that folds as this one, as `get_loose_u16`. It is none too where the number of the
     /// name is that of no value.
     pub fn get_loose_utf8(self, name: &[u8]) -> Option<T>
-        ensures { result ≡ option_and_then T.unpacked (loose (names_in self.entry) name.now) }
+        ensures { result ≡ option_and_then T.unpacked (value_of_query (names_in self.entry) name.now) }
     {
         value_of_number(self.get_loose_u16_utf8(name)?)
     }

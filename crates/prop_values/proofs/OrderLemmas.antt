@@ -5,12 +5,12 @@ use lib.IntN.{ℤ, pos}
 use denote.Enum.Declared.{tag_of}
 use Rattle.prop_values.specs.contracts.category.GeneralCategory.{the_type}
 use Rattle.prop_values.specs.Category.{number_of}
-use Rattle.prop_values.specs.Tables.{numbers_from}
+use Rattle.std.specs.List.{range_with_len}
 use Rattle.prop_values.specs.declared.category.GeneralCategory.{GeneralCategory}
 use Rattle.prop_values.specs.declared.category.GeneralCategory.TheVariants.{Unassigned, UppercaseLetter, LowercaseLetter, TitlecaseLetter, ModifierLetter, OtherLetter, NonspacingMark, EnclosingMark, SpacingMark, DecimalNumber, LetterNumber, OtherNumber, SpaceSeparator, LineSeparator, ParagraphSeparator, Control, Format, PrivateUse, Surrogate, DashPunctuation, OpenPunctuation, ClosePunctuation, ConnectorPunctuation, OtherPunctuation, MathSymbol, CurrencySymbol, ModifierSymbol, OtherSymbol, InitialPunctuation, FinalPunctuation}
 
 abbrev discriminants : List ℤ
-discriminants = map pos (numbers_from 0 30)
+discriminants = map pos (range_with_len 0 30)
 
 -- one computation for each category, so that no search looks at pairs of them
 discriminant-number_of : (c : GeneralCategory) → get_or discriminants (tag_of the_type c) (pos 0) ≡ pos (number_of c)

@@ -1,5 +1,5 @@
 -- The tables of values and of names: their names, the numbers that they accept, and the numbers of the defaults.
-use Rattle.std.specs.Prelude.{ℕ, zero, suc, ◌+◌, Bool, ◌||◌, ◌++◌, ◌==◌, nat_lt, List, [], ◌∷◌, map, take, codes, if◌then◌else◌}
+use Rattle.std.specs.Prelude.{ℕ, Bool, ◌||◌, ◌++◌, ◌==◌, nat_lt, List, [], ◌∷◌, map, take, codes, if◌then◌else◌}
 use Rattle.prop_values.specs.MirroringGlyph.{is_glyph_number}
 
 -- the properties, in the order of the numbers of their tables: the long and the short name (UAX 44, section 5.1)
@@ -24,11 +24,6 @@ properties =
     ∷ (codes "Vertical_Orientation", codes "vo")
     ∷ (codes "Bidi_Mirroring_Glyph", codes "bmg")
     ∷ []
-
--- so many numbers from one on
-abbrev pub numbers_from : ℕ → ℕ → List ℕ
-numbers_from n zero = []
-numbers_from n (suc count) = n ∷ numbers_from (n + 1) count
 
 -- the long name of the property of each table of values, by the number of the table
 abbrev pub map_table_names : List (List ℕ)
@@ -66,9 +61,13 @@ accepts table n =
     else if table == glyph_table then is_glyph_number n
     else nat_lt n 256
 
--- the number of the default of the property of the table: the script Unknown has 103, all others 0
+-- the number of the script Unknown
+abbrev pub unknown_script : ℕ
+unknown_script = 103
+
+-- the number of the default of the property of the table: that of the script Unknown, and 0 of all others
 abbrev pub default_number : ℕ → ℕ
-default_number table = if table == script_table then 103 else 0
+default_number table = if table == script_table then unknown_script else 0
 
 -- the number stands for a value of the property of the table of names, which are at most 16 bits wide there; a group of
 -- categories is packed into any of them

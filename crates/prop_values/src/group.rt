@@ -12,8 +12,9 @@ use crate::tables::NamesTable;
 use cp_trie::{TrieValue, ValueError, ValueTest};
 use std::marker::Model;
 
-/// A set of general categories (UAX 44, section 5.7.1). As a number it has the bit of each of its categories, and no
-/// other: a contract sees it as that number.
+/// A set of general categories (UAX 44, section 5.7.1). `u32::from` gives the number that has the bit of each of its
+/// categories, and no other: a contract sees it as that number. `to_u32` of `TrieValue` gives the number that stands for it
+/// in tables: one of its own for each of 38 groups, and for all others FF00, which unpacks to the empty group.
 #[derive(Clone, Copy, Debug, PartialEq, Eq)]
 pub struct GeneralCategoryGroup(u32);
 
@@ -410,6 +411,7 @@ impl From<GeneralCategory> for GeneralCategoryGroup {
 impl From<u32> for GeneralCategoryGroup {
     ghost from_gives = { λ bits group. group ≡ bits % 2 ^ 30 };
 
+    /// The group of the categories whose bits the number has. The two bits above all of them are dropped.
     fn from(bits: u32) -> GeneralCategoryGroup {
         GeneralCategoryGroup(bits & ALL)
     }

@@ -3,7 +3,7 @@ ghost use Rattle.std.specs.Prelude.{◌≡◌, ◌∷◌, []};
 ghost use Rattle.std.specs.Ordering.{nat_cmp};
 ghost use Rattle.prop_values.specs.Category.{number_of};
 ghost use Rattle.prop_values.specs.Groups.{SameMembers};
-ghost use Rattle.prop_values.specs.Tables.{numbers_from};
+ghost use Rattle.std.specs.List.{range_with_len};
 
 use crate::bidi::BidiClass;
 use crate::block::Block;
@@ -46,7 +46,7 @@ pub fn numbers_of_tables()
         ∷ ⟦<JoiningType as EnumeratedProperty>⟧.TABLE
         ∷ ⟦<VerticalOrientation as EnumeratedProperty>⟧.TABLE
         ∷ ⟦<BidiMirroringGlyph as EnumeratedProperty>⟧.TABLE
-        ∷ []) ≡ numbers_from 0 18 }
+        ∷ []) ≡ range_with_len 0 18 }
 {}
 
 /// The tables of names of the property types, in this order, have the numbers 0 to 17.
@@ -70,7 +70,7 @@ pub fn numbers_of_names_tables()
         ∷ ⟦<JoiningType as ParseableEnumeratedProperty>⟧.NAMES
         ∷ ⟦<VerticalOrientation as ParseableEnumeratedProperty>⟧.NAMES
         ∷ ⟦<GeneralCategoryGroup as ParseableEnumeratedProperty>⟧.NAMES
-        ∷ []) ≡ numbers_from 0 18 }
+        ∷ []) ≡ range_with_len 0 18 }
 {}
 
 /// Values are ordered by their numbers.

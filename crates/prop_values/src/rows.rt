@@ -2,7 +2,8 @@
 //! speak of.
 ghost use Rattle.std.specs.Prelude.{◌≡◌, ◌∷◌, [], map};
 ghost use Rattle.prop_values.specs.Groups.{packings};
-ghost use Rattle.prop_values.specs.Tables.{default_number, numbers_from, properties};
+ghost use Rattle.std.specs.List.{range_with_len};
+ghost use Rattle.prop_values.specs.Tables.{default_number, properties};
 
 use crate::bidi::BidiClass;
 use crate::block::Block;
@@ -175,7 +176,7 @@ pub fn names_of_properties() -> [(&'static [u8], &'static [u8]); 18]
 
 /// The tables of names: the constants of the type, in the order of their numbers.
 pub fn names_tables() -> [NamesTable; 18]
-    ensures { result ≡ numbers_from 0 18 }
+    ensures { result ≡ range_with_len 0 18 }
 {
     NAMES_TABLES
 }
@@ -191,7 +192,7 @@ pub fn groups() -> [(GeneralCategoryGroup, GeneralCategoryGroup); 38]
 
 /// The constants for bidirectional classes, in the order of their numbers.
 pub fn bidi_classes() -> [BidiClass; 23]
-    ensures { result ≡ numbers_from 0 23 }
+    ensures { result ≡ range_with_len 0 23 }
 {
     [
         BidiClass::LeftToRight,
@@ -266,7 +267,7 @@ pub fn hangul_syllable_types() -> [HangulSyllableType; 8]
 
 /// The numbers that the constants for defaults pack to, in the order of the tables.
 pub fn defaults() -> [u32; 17]
-    ensures { result ≡ map default_number (numbers_from 0 17) }
+    ensures { result ≡ map default_number (range_with_len 0 17) }
 {
     [
         BidiClass::LeftToRight.to_u32(),

@@ -5,6 +5,8 @@ ghost use Rattle.std.specs.Str.{bytes_eq};
 ghost use Rattle.prop_values.specs.Tables.{map_table_names, names_table_names, accepts, default_number, accepts_name_of};
 
 use crate::glyph::is_glyph_number;
+use crate::script::Script;
+use cp_trie::TrieValue;
 use std::marker::Model;
 
 const BIDI_CLASS: &[u8] = b"Bidi_Class";
@@ -187,11 +189,14 @@ impl MapTable {
     pub fn accepts(self, n: u32) -> bool
         ensures { result ≡ accepts self n }
     {
-        match self.number {
-            1 | 4 => n < 0x1_0000,
-            3 => n < 30,
-            17 => is_glyph_number(n),
-            _ => n < 0x100,
+        if self == MapTable::GENERAL_CATEGORY {
+            n < 30
+        } else if self == MapTable::BLOCK || self == MapTable::SCRIPT {
+            n < 0x1_0000
+        } else if self == MapTable::BIDI_MIRRORING_GLYPH {
+            is_glyph_number(n)
+        } else {
+            n < 0x100
         }
     }
 
@@ -199,7 +204,11 @@ impl MapTable {
     pub fn default_number(self) -> u32
         ensures { result ≡ default_number self }
     {
-        if self.number == 4 { 103 } else { 0 }
+        if self == MapTable::SCRIPT {
+            Script::Unknown.to_u32()
+        } else {
+            0
+        }
     }
 }
 
@@ -305,7 +314,7 @@ impl NamesTable {
     pub fn accepts(self, n: u16) -> bool
         ensures { result ≡ accepts_name_of self n }
     {
-        self.number == 17
+        self == NamesTable::GENERAL_CATEGORY_MASK
             || MapTable {
                 number: self.number,
             }

@@ -45,6 +45,9 @@ fn a_set_with_an_index_answers_alike(rt: HostRuntime) -> Result<(), Fail> {
     let database = PropertyDatabase::from_text(alloc, TABLES)?;
     let mut letters = CodePointSetData::try_new_unstable::<Alphabetic>(alloc, &database)?;
     letters.index(alloc)?;
+    let words = letters
+        .as_code_point_inversion_list()
+        .map(|list| list.words().len());
     let set = letters.as_borrowed();
     let found = [
         set.contains32(0x40),
@@ -53,6 +56,9 @@ fn a_set_with_an_index_answers_alike(rt: HostRuntime) -> Result<(), Fail> {
         set.contains32(0x10_FFFF),
         set.contains32(0x11_0000),
     ];
-    assert_eq!(rt; found, [false, true, true, false, false]);
+    assert_eq!(rt;
+        (words, found),
+        (Some(17_408), [false, true, true, false, false])
+    );
     Ok(())
 }

@@ -1,6 +1,7 @@
 //! What tests of several subjects share.
-use cp_invlist::CodePointInversionList;
+use cp_invlist::{CodePointInversionList, NoMemory};
 use cp_strset::{CodePointInversionListAndStringList, StringListError};
+use cp_terms::{Step, evaluate};
 use std::alloc::{AllocError, Global};
 use std::fmt;
 use std::process::Abort;
@@ -23,6 +24,32 @@ pub(crate) fn assert_equal<T: PartialEq + fmt::Debug + Drop>(
     expected: T,
 ) {
     assert_eq!(rt; found, expected);
+}
+
+/// What is expected of a set.
+pub(crate) trait Row<T> {
+    /// Whether the set is so.
+    fn holds(&self, alloc: Global, set: &T) -> bool;
+}
+
+/// The index of the first row that does not hold.
+pub(crate) fn first_wrong<T, R: Row<T>>(alloc: Global, set: &T, rows: &[R]) -> Option<usize> {
+    rows.iter().position(|row| !row.holds(alloc, set))
+}
+
+/// Whether the steps make the set with this list, of the sets that are given.
+pub(crate) fn makes(
+    alloc: Global,
+    sets: &[CodePointInversionList],
+    steps: &[Step],
+    list: &[u32],
+) -> Result<bool, NoMemory> {
+    let mut references = Vec::new(alloc);
+    for set in sets {
+        references.push(set)?;
+    }
+    let set = evaluate(alloc, &references, steps)?;
+    Ok(set.get_inversion_list() == list)
 }
 
 /// Copies of the texts.

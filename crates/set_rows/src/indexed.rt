@@ -28,6 +28,8 @@ struct Indexed {
     is_long: bool,
     /// How many words there are.
     words: usize,
+    /// How many words a copy of the set has.
+    copied_words: usize,
     /// The first number that only the set or its list has.
     difference: Option<u32>,
     /// Whether the set is as it was.
@@ -44,9 +46,13 @@ fn by_index(alloc: Global, place: u32, count: u32) -> Option<Indexed> {
     if set.index(alloc).is_err() || set.index(alloc).is_err() {
         return None;
     }
+    let Ok(copy) = set.copy(alloc) else {
+        return None;
+    };
     Some(Indexed {
         is_long: set.is_long(),
         words: set.words().len(),
+        copied_words: copy.words().len(),
         difference: first_difference(&set, &plain),
         is_same: set == plain,
     })
@@ -68,6 +74,7 @@ fn an_index_tells_the_members_of_the_list(rt: HostRuntime) {
         let expected = Indexed {
             is_long: *is_long,
             words: 17_408,
+            copied_words: 0,
             difference: None,
             is_same: true,
         };
@@ -100,22 +107,31 @@ fn a_list_that_is_not_long_gets_no_index(rt: HostRuntime) {
     }
 }
 
-/// How many words the index of a set with strings has, and whether its code points are as they were.
-fn indexed_with_strings(alloc: Global, count: u32) -> Option<(usize, bool)> {
+/// How many words the index of a set with strings has, whether its code points are as they were, and how many words a copy of
+/// the set has.
+fn indexed_with_strings(alloc: Global, count: u32) -> Option<(usize, bool, usize)> {
     let Ok(plain) = apart(alloc, 0, count) else {
         return None;
     };
-    let Ok(copy) = plain.copy(alloc) else {
+    let Ok(list) = plain.copy(alloc) else {
         return None;
     };
-    let Ok(mut set) = CodePointInversionListAndStringList::try_from(copy, Vec::new(alloc)) else {
+    let Ok(mut set) = CodePointInversionListAndStringList::try_from(list, Vec::new(alloc)) else {
         return None;
     };
     let Ok(()) = set.index(alloc) else {
         return None;
     };
+    let Ok(copy) = set.copy(alloc) else {
+        return None;
+    };
     let code_points = set.code_points();
-    Some((code_points.words().len(), *code_points == plain))
+    let copied_words = copy.code_points().words().len();
+    Some((
+        code_points.words().len(),
+        *code_points == plain,
+        copied_words,
+    ))
 }
 
 #[test]
@@ -124,7 +140,7 @@ fn a_set_with_strings_has_the_index_of_its_code_points(rt: HostRuntime) {
         assert_equal(
             &rt,
             indexed_with_strings(rt.alloc(), count),
-            Some((17_408, true)),
+            Some((17_408, true, 0)),
         );
     }
 }

@@ -1,7 +1,7 @@
 //! Terms over sets that have an index.
-use crate::fixtures::assert_equal;
+use crate::fixtures::{assert_equal, makes};
 use cp_invlist::{CodePointInversionList, CodePointInversionListBuilder, NoMemory};
-use cp_terms::{Step, Way, evaluate};
+use cp_terms::{SetOperation, Step};
 use std::alloc::Global;
 
 /// The multiples of a number below another.
@@ -14,11 +14,19 @@ const SETS: &[Multiples] = &[(2, 40_000), (3, 60_000), (1, 60), (2, 200)];
 const TERMS: &[(&[Step], Multiples)] = &[
     (&[Step::Push(0)], (2, 40_000)),
     (
-        &[Step::Push(0), Step::Push(1), Step::Both(Way::Retain)],
+        &[
+            Step::Push(0),
+            Step::Push(1),
+            Step::Both(SetOperation::Intersection),
+        ],
         (6, 40_000),
     ),
     (
-        &[Step::Push(0), Step::Push(0), Step::Both(Way::Remove)],
+        &[
+            Step::Push(0),
+            Step::Push(0),
+            Step::Both(SetOperation::Difference),
+        ],
         (6, 0),
     ),
     (
@@ -27,7 +35,7 @@ const TERMS: &[(&[Step], Multiples)] = &[
             Step::Complement,
             Step::Push(1),
             Step::Complement,
-            Step::Both(Way::Join),
+            Step::Both(SetOperation::Union),
             Step::Complement,
         ],
         (6, 40_000),
@@ -36,23 +44,27 @@ const TERMS: &[(&[Step], Multiples)] = &[
         &[
             Step::Push(1),
             Step::Push(0),
-            Step::Both(Way::Retain),
+            Step::Both(SetOperation::Intersection),
             Step::Push(2),
-            Step::Both(Way::Retain),
+            Step::Both(SetOperation::Intersection),
         ],
         (6, 60),
     ),
     (
-        &[Step::Push(3), Step::Push(0), Step::Both(Way::Join)],
+        &[
+            Step::Push(3),
+            Step::Push(0),
+            Step::Both(SetOperation::Union),
+        ],
         (2, 40_000),
     ),
     (
         &[
             Step::Push(1),
             Step::Push(0),
-            Step::Both(Way::RemoveFrom),
+            Step::Both(SetOperation::ReverseDifference),
             Step::Push(0),
-            Step::Both(Way::RemoveFrom),
+            Step::Both(SetOperation::ReverseDifference),
         ],
         (6, 40_000),
     ),
@@ -82,24 +94,21 @@ fn all_indexed(alloc: Global) -> Result<Vec<CodePointInversionList>, NoMemory> {
 }
 
 /// Whether the steps make the multiples, of the sets that are given.
-fn makes(
+fn makes_multiples(
     alloc: Global,
     sets: &[CodePointInversionList],
     steps: &[Step],
     multiples: Multiples,
 ) -> Result<bool, NoMemory> {
-    let mut references = Vec::new(alloc);
-    for set in sets {
-        references.push(set)?;
-    }
-    Ok(evaluate(alloc, &references, steps)? == indexed(alloc, multiples)?)
+    let expected = indexed(alloc, multiples)?;
+    makes(alloc, sets, steps, expected.get_inversion_list())
 }
 
 /// The index of the first term that makes another set.
 fn first_wrong(alloc: Global) -> Result<Option<usize>, NoMemory> {
     let sets = all_indexed(alloc)?;
     for (index, (steps, multiples)) in TERMS.iter().enumerate() {
-        if !makes(alloc, &sets, steps, *multiples)? {
+        if !makes_multiples(alloc, &sets, steps, *multiples)? {
             return Ok(Some(index));
         }
     }

@@ -1,9 +1,5 @@
 //! Sets of code points by their inversion lists.
-use crate::fixtures::assert_equal;
-use cp_invlist::laws::{
-    faultless, first_fault, members_are_below_the_last, members_are_code_points,
-    one_list_of_ranges, ranges_hold_members, same_members,
-};
+use crate::fixtures::{Row, assert_equal, first_wrong};
 use cp_invlist::{CodePointInversionList, CodePointRange, InversionListError, NoMemory};
 use std::alloc::Global;
 
@@ -25,7 +21,7 @@ enum Expected {
     Copied,
 }
 
-impl Expected {
+impl Row<CodePointInversionList> for Expected {
     fn holds(&self, alloc: Global, set: &CodePointInversionList) -> bool {
         match *self {
             Expected::List(list) => set.get_inversion_list() == list,
@@ -47,16 +43,6 @@ fn is_copied(alloc: Global, set: &CodePointInversionList) -> bool {
         return false;
     };
     copy == *set
-}
-
-/// The index of the first row that does not hold.
-fn first_wrong(alloc: Global, set: &CodePointInversionList, rows: &[Expected]) -> Option<usize> {
-    for (index, row) in rows.iter().enumerate() {
-        if !row.holds(alloc, set) {
-            return Some(index);
-        }
-    }
-    None
 }
 
 /// The index of the first row that does not hold of the list's set.
@@ -160,16 +146,4 @@ fn first_wrong_of_all(alloc: Global) -> Result<Option<usize>, NoMemory> {
 #[test]
 fn all_code_points_are_one_range(rt: HostRuntime) {
     assert_equal(&rt, first_wrong_of_all(rt.alloc()), Ok(None));
-}
-
-// The laws are proved where they are declared; this calls each, so that none goes missing.
-#[test]
-fn the_laws_hold() {
-    same_members();
-    first_fault();
-    faultless();
-    members_are_code_points();
-    members_are_below_the_last();
-    one_list_of_ranges();
-    ranges_hold_members();
 }

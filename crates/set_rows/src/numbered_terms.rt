@@ -6,7 +6,7 @@ ghost use Rattle.cp_strset_terms.specs.Numbers.{AreNumbersOf, KeepsNumbers};
 use crate::fixtures::{assert_equal, set_of};
 use cp_invlist::CodePointInversionListBuilder;
 use cp_strset::CodePointInversionListAndStringList;
-use cp_strset_terms::{Leaf, NumberSet, Step, StringNumbers, Way, evaluate};
+use cp_strset_terms::{Leaf, NumberSet, SetOperation, Step, StringNumbers, evaluate};
 use std::alloc::Global;
 
 /// The strings `s` with a number behind, so many from the first on, each two further.
@@ -37,7 +37,11 @@ const FEW: &[&str] = &["s101", "s102", "x1"];
 /// few, and the odd ones again; the last two have no numbers.
 const ROWS: &[(&[Step], &[&str])] = &[
     (
-        &[Step::Push(1), Step::Push(0), Step::Both(Way::Retain)],
+        &[
+            Step::Push(1),
+            Step::Push(0),
+            Step::Both(SetOperation::Intersection),
+        ],
         &[],
     ),
     (
@@ -45,8 +49,8 @@ const ROWS: &[(&[Step], &[&str])] = &[
             Step::Push(1),
             Step::Push(0),
             Step::Push(3),
-            Step::Both(Way::Join),
-            Step::Both(Way::Retain),
+            Step::Both(SetOperation::Union),
+            Step::Both(SetOperation::Intersection),
         ],
         &["s102"],
     ),
@@ -54,44 +58,56 @@ const ROWS: &[(&[Step], &[&str])] = &[
         &[
             Step::Push(1),
             Step::Push(3),
-            Step::Both(Way::Join),
+            Step::Both(SetOperation::Union),
             Step::Push(0),
-            Step::Both(Way::Retain),
+            Step::Both(SetOperation::Intersection),
         ],
         &["s101"],
     ),
     (
-        &[Step::Push(1), Step::Push(2), Step::Both(Way::Remove)],
+        &[
+            Step::Push(1),
+            Step::Push(2),
+            Step::Both(SetOperation::Difference),
+        ],
         &["s698"],
     ),
     (
-        &[Step::Push(2), Step::Push(1), Step::Both(Way::RemoveFrom)],
+        &[
+            Step::Push(2),
+            Step::Push(1),
+            Step::Both(SetOperation::ReverseDifference),
+        ],
         &["s698"],
     ),
     (
         &[
             Step::Push(1),
             Step::Push(0),
-            Step::Both(Way::Retain),
+            Step::Both(SetOperation::Intersection),
             Step::Push(3),
-            Step::Both(Way::Join),
+            Step::Both(SetOperation::Union),
         ],
         &["s101", "s102", "x1"],
     ),
     // Of leaves without numbers too, each of whose strings is looked up.
     (
-        &[Step::Push(1), Step::Push(4), Step::Both(Way::Retain)],
+        &[
+            Step::Push(1),
+            Step::Push(4),
+            Step::Both(SetOperation::Intersection),
+        ],
         &[],
     ),
     (
         &[
             Step::Push(1),
             Step::Push(2),
-            Step::Both(Way::Remove),
+            Step::Both(SetOperation::Difference),
             Step::Push(0),
             Step::Push(4),
-            Step::Both(Way::Remove),
-            Step::Both(Way::Join),
+            Step::Both(SetOperation::Difference),
+            Step::Both(SetOperation::Union),
         ],
         &["s698"],
     ),
@@ -99,11 +115,11 @@ const ROWS: &[(&[Step], &[&str])] = &[
         &[
             Step::Push(1),
             Step::Push(2),
-            Step::Both(Way::Remove),
+            Step::Both(SetOperation::Difference),
             Step::Push(3),
-            Step::Both(Way::Join),
+            Step::Both(SetOperation::Union),
             Step::Push(1),
-            Step::Both(Way::Retain),
+            Step::Both(SetOperation::Intersection),
         ],
         &["s102", "s698"],
     ),
@@ -113,7 +129,7 @@ const ROWS: &[(&[Step], &[&str])] = &[
             Step::Push(1),
             Step::Complement,
             Step::Push(0),
-            Step::Both(Way::Retain),
+            Step::Both(SetOperation::Intersection),
         ],
         &[],
     ),
@@ -314,9 +330,17 @@ fn makes(
 }
 
 /// The steps of what both sets have, and of what the second alone has.
-const BOTH: &[Step] = &[Step::Push(0), Step::Push(1), Step::Both(Way::Retain)];
+const BOTH: &[Step] = &[
+    Step::Push(0),
+    Step::Push(1),
+    Step::Both(SetOperation::Intersection),
+];
 
-const SECOND_ALONE: &[Step] = &[Step::Push(1), Step::Push(0), Step::Both(Way::Remove)];
+const SECOND_ALONE: &[Step] = &[
+    Step::Push(1),
+    Step::Push(0),
+    Step::Both(SetOperation::Difference),
+];
 
 /// Whether the strings past the first 1,114,112 have numbers, and terms over them the strings that they should.
 fn are_numbered_on(alloc: Global) -> Option<bool> {

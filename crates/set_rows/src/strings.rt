@@ -1,7 +1,6 @@
 //! Sets of code points together with strings.
-use crate::fixtures::{Operation, assert_equal, set_of, try_set_of};
+use crate::fixtures::{Operation, Row, assert_equal, first_wrong, set_of, try_set_of};
 use cp_invlist::CodePointInversionList;
-use cp_strset::laws::{faultless, one_list};
 use cp_strset::{CodePointInversionListAndStringList, StringListError, Strings, sole_char};
 use std::alloc::Global;
 
@@ -26,7 +25,7 @@ enum Expected {
     Pattern(&'static str),
 }
 
-impl Expected {
+impl Row<CodePointInversionListAndStringList> for Expected {
     fn holds(&self, alloc: Global, set: &CodePointInversionListAndStringList) -> bool {
         match *self {
             Expected::Size(size) => set.size() == size,
@@ -72,20 +71,6 @@ const OF_LETTERS: &[Expected] = &[
     Expected::CodePoints(LETTERS),
     Expected::Strings(2),
 ];
-
-/// The index of the first row that does not hold.
-fn first_wrong(
-    alloc: Global,
-    set: &CodePointInversionListAndStringList,
-    rows: &[Expected],
-) -> Option<usize> {
-    for (index, row) in rows.iter().enumerate() {
-        if !row.holds(alloc, set) {
-            return Some(index);
-        }
-    }
-    None
-}
 
 /// The index of the first row that does not hold of the letters with two strings.
 fn first_wrong_of_two_strings(alloc: Global, rows: &[Expected]) -> Option<Option<usize>> {
@@ -285,11 +270,4 @@ fn strings_are_gathered(rt: HostRuntime) {
     for (change, expected) in CHANGES {
         assert_equal(&rt, is_changed(rt.alloc(), *change, expected), true);
     }
-}
-
-// As those of lists.
-#[test]
-fn the_laws_hold() {
-    faultless();
-    one_list();
 }

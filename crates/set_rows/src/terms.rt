@@ -1,7 +1,7 @@
 //! Terms over a few sets, and the sets that they make.
-use crate::fixtures::assert_equal;
+use crate::fixtures::{assert_equal, makes};
 use cp_invlist::CodePointInversionList;
-use cp_terms::{Step, Way, evaluate};
+use cp_terms::{SetOperation, Step};
 use std::alloc::Global;
 
 /// The sets that the terms are made of.
@@ -35,14 +35,17 @@ const TERMS: &[(&[Step], &[u32])] = &[
     // fewer sets than a step takes
     (&[Step::Complement], EMPTY),
     (&[Step::Clear], EMPTY),
-    (&[Step::Both(Way::Join)], EMPTY),
-    (&[Step::Push(1), Step::Both(Way::Remove)], &[0x70, 0x80]),
+    (&[Step::Both(SetOperation::Union)], EMPTY),
+    (
+        &[Step::Push(1), Step::Both(SetOperation::Difference)],
+        &[0x70, 0x80],
+    ),
     (
         &[
-            Step::Both(Way::Join),
+            Step::Both(SetOperation::Union),
             Step::Push(1),
             Step::Push(2),
-            Step::Both(Way::Join),
+            Step::Both(SetOperation::Union),
         ],
         &[0x70, 0x4001],
     ),
@@ -50,36 +53,68 @@ const TERMS: &[(&[Step], &[u32])] = &[
     (&[Step::Push(1), Step::Push(6)], EMPTY),
     // the four ways
     (
-        &[Step::Push(0), Step::Push(1), Step::Both(Way::Join)],
+        &[
+            Step::Push(0),
+            Step::Push(1),
+            Step::Both(SetOperation::Union),
+        ],
         &[0x41, 0x5B, 0x61, 0x80],
     ),
     (
-        &[Step::Push(0), Step::Push(1), Step::Both(Way::Remove)],
+        &[
+            Step::Push(0),
+            Step::Push(1),
+            Step::Both(SetOperation::Difference),
+        ],
         &[0x41, 0x5B, 0x61, 0x70],
     ),
     (
-        &[Step::Push(0), Step::Push(1), Step::Both(Way::Retain)],
+        &[
+            Step::Push(0),
+            Step::Push(1),
+            Step::Both(SetOperation::Intersection),
+        ],
         &[0x70, 0x7B],
     ),
     (
-        &[Step::Push(0), Step::Push(1), Step::Both(Way::RemoveFrom)],
+        &[
+            Step::Push(0),
+            Step::Push(1),
+            Step::Both(SetOperation::ReverseDifference),
+        ],
         &[0x7B, 0x80],
     ),
     // a set and itself
     (
-        &[Step::Push(0), Step::Push(0), Step::Both(Way::Join)],
+        &[
+            Step::Push(0),
+            Step::Push(0),
+            Step::Both(SetOperation::Union),
+        ],
         &[0x41, 0x5B, 0x61, 0x7B],
     ),
     (
-        &[Step::Push(0), Step::Push(0), Step::Both(Way::Retain)],
+        &[
+            Step::Push(0),
+            Step::Push(0),
+            Step::Both(SetOperation::Intersection),
+        ],
         &[0x41, 0x5B, 0x61, 0x7B],
     ),
     (
-        &[Step::Push(0), Step::Push(0), Step::Both(Way::Remove)],
+        &[
+            Step::Push(0),
+            Step::Push(0),
+            Step::Both(SetOperation::Difference),
+        ],
         EMPTY,
     ),
     (
-        &[Step::Push(0), Step::Push(0), Step::Both(Way::RemoveFrom)],
+        &[
+            Step::Push(0),
+            Step::Push(0),
+            Step::Both(SetOperation::ReverseDifference),
+        ],
         EMPTY,
     ),
     // complements, and a set that is emptied
@@ -100,53 +135,85 @@ const TERMS: &[(&[Step], &[u32])] = &[
             Step::Push(5),
             Step::Push(1),
             Step::Clear,
-            Step::Both(Way::Join),
+            Step::Both(SetOperation::Union),
         ],
         &[0x4000, 0xC000, 0xC001, 0xC002],
     ),
     // constant sets below and above
     (
-        &[Step::Push(4), Step::Push(1), Step::Both(Way::Remove)],
+        &[
+            Step::Push(4),
+            Step::Push(1),
+            Step::Both(SetOperation::Difference),
+        ],
         &[0, 0x70, 0x80, 0x11_0000],
     ),
     (
-        &[Step::Push(1), Step::Push(4), Step::Both(Way::RemoveFrom)],
+        &[
+            Step::Push(1),
+            Step::Push(4),
+            Step::Both(SetOperation::ReverseDifference),
+        ],
         &[0, 0x70, 0x80, 0x11_0000],
     ),
     (
-        &[Step::Push(4), Step::Push(1), Step::Both(Way::Retain)],
+        &[
+            Step::Push(4),
+            Step::Push(1),
+            Step::Both(SetOperation::Intersection),
+        ],
         &[0x70, 0x80],
     ),
     (
-        &[Step::Push(1), Step::Push(4), Step::Both(Way::Join)],
+        &[
+            Step::Push(1),
+            Step::Push(4),
+            Step::Both(SetOperation::Union),
+        ],
         &[0, 0x11_0000],
     ),
     (
-        &[Step::Push(1), Step::Push(4), Step::Both(Way::Remove)],
+        &[
+            Step::Push(1),
+            Step::Push(4),
+            Step::Both(SetOperation::Difference),
+        ],
         EMPTY,
     ),
     (
-        &[Step::Push(6), Step::Push(1), Step::Both(Way::RemoveFrom)],
+        &[
+            Step::Push(6),
+            Step::Push(1),
+            Step::Both(SetOperation::ReverseDifference),
+        ],
         &[0x70, 0x80],
     ),
     // runs across the borders of stretches
     (
-        &[Step::Push(2), Step::Push(5), Step::Both(Way::Join)],
+        &[
+            Step::Push(2),
+            Step::Push(5),
+            Step::Both(SetOperation::Union),
+        ],
         &[0x80, 0xC000, 0xC001, 0xC002],
     ),
     (
-        &[Step::Push(2), Step::Push(5), Step::Both(Way::Retain)],
+        &[
+            Step::Push(2),
+            Step::Push(5),
+            Step::Both(SetOperation::Intersection),
+        ],
         &[0x4000, 0x4001],
     ),
     (
         &[
             Step::Push(0),
             Step::Push(2),
-            Step::Both(Way::Join),
+            Step::Both(SetOperation::Union),
             Step::Push(3),
             Step::Push(5),
-            Step::Both(Way::Join),
-            Step::Both(Way::RemoveFrom),
+            Step::Both(SetOperation::Union),
+            Step::Both(SetOperation::ReverseDifference),
             Step::Complement,
         ],
         &[1, 0x4001, 0xC000, 0xC001, 0xC002, 0x10_FFFF],
@@ -174,19 +241,35 @@ const BORDER_TERMS: &[(&[Step], &[u32])] = &[
         &[0x300, 0x301, 0x302, 0x303, 0x37F, 0x381],
     ),
     (
-        &[Step::Push(0), Step::Push(1), Step::Both(Way::Join)],
+        &[
+            Step::Push(0),
+            Step::Push(1),
+            Step::Both(SetOperation::Union),
+        ],
         &[0x3FF, 0x401],
     ),
     (
-        &[Step::Push(0), Step::Push(1), Step::Both(Way::Retain)],
+        &[
+            Step::Push(0),
+            Step::Push(1),
+            Step::Both(SetOperation::Intersection),
+        ],
         EMPTY,
     ),
     (
-        &[Step::Push(2), Step::Push(0), Step::Both(Way::Remove)],
+        &[
+            Step::Push(2),
+            Step::Push(0),
+            Step::Both(SetOperation::Difference),
+        ],
         &[0x3C0, 0x3FF, 0x400, 0x440],
     ),
     (
-        &[Step::Push(1), Step::Push(2), Step::Both(Way::RemoveFrom)],
+        &[
+            Step::Push(1),
+            Step::Push(2),
+            Step::Both(SetOperation::ReverseDifference),
+        ],
         &[0x3C0, 0x400, 0x401, 0x440],
     ),
     (
@@ -194,7 +277,7 @@ const BORDER_TERMS: &[(&[Step], &[u32])] = &[
             Step::Push(0),
             Step::Complement,
             Step::Push(2),
-            Step::Both(Way::Retain),
+            Step::Both(SetOperation::Intersection),
         ],
         &[0x3C0, 0x3FF, 0x400, 0x440],
     ),
@@ -207,13 +290,17 @@ const BORDER_TERMS: &[(&[Step], &[u32])] = &[
             Step::Push(2),
             Step::Push(3),
             Step::Clear,
-            Step::Both(Way::Join),
+            Step::Both(SetOperation::Union),
         ],
         &[0x3C0, 0x440],
     ),
     // the upper set is one of those that are given
     (
-        &[Step::Push(2), Step::Push(3), Step::Both(Way::Join)],
+        &[
+            Step::Push(2),
+            Step::Push(3),
+            Step::Both(SetOperation::Union),
+        ],
         &[0x300, 0x301, 0x302, 0x303, 0x37F, 0x381, 0x3C0, 0x440],
     ),
     // both are made
@@ -221,21 +308,28 @@ const BORDER_TERMS: &[(&[Step], &[u32])] = &[
         &[
             Step::Push(0),
             Step::Push(1),
-            Step::Both(Way::Join),
+            Step::Both(SetOperation::Union),
             Step::Push(3),
             Step::Push(2),
-            Step::Both(Way::Join),
-            Step::Both(Way::RemoveFrom),
+            Step::Both(SetOperation::Union),
+            Step::Both(SetOperation::ReverseDifference),
         ],
         &[
             0x300, 0x301, 0x302, 0x303, 0x37F, 0x381, 0x3C0, 0x3FF, 0x401, 0x440,
         ],
     ),
     // there are fewer sets than the step takes
-    (&[Step::Push(2), Step::Both(Way::Join)], &[0x3C0, 0x440]),
+    (
+        &[Step::Push(2), Step::Both(SetOperation::Union)],
+        &[0x3C0, 0x440],
+    ),
     // there is no set with this index
     (
-        &[Step::Push(4), Step::Push(0), Step::Both(Way::Join)],
+        &[
+            Step::Push(4),
+            Step::Push(0),
+            Step::Both(SetOperation::Union),
+        ],
         &[0x3FF, 0x400],
     ),
 ];
@@ -300,11 +394,19 @@ const STRETCH_TERMS: &[(&[Step], &[u32])] = &[
     ),
     // one set is left where the other is constant
     (
-        &[Step::Push(2), Step::Push(4), Step::Both(Way::Remove)],
+        &[
+            Step::Push(2),
+            Step::Push(4),
+            Step::Both(SetOperation::Difference),
+        ],
         &[0x50, 0x62, 0x63, 0x1_4001],
     ),
     (
-        &[Step::Push(5), Step::Push(4), Step::Both(Way::Join)],
+        &[
+            Step::Push(5),
+            Step::Push(4),
+            Step::Both(SetOperation::Union),
+        ],
         &[0x62, 0x63, 0x10_C000, 0x10_C001, 0x10_FFFF, 0x11_0000],
     ),
     (
@@ -312,30 +414,42 @@ const STRETCH_TERMS: &[(&[Step], &[u32])] = &[
             Step::Push(3),
             Step::Push(0),
             Step::Clear,
-            Step::Both(Way::Join),
+            Step::Both(SetOperation::Union),
         ],
         &[0x80, 0x81, 0x400, 0x401, 0x4000, 0x4400, 0x8000, 0x8080],
     ),
     (
-        &[Step::Push(2), Step::Push(3), Step::Both(Way::Remove)],
+        &[
+            Step::Push(2),
+            Step::Push(3),
+            Step::Both(SetOperation::Difference),
+        ],
         &[
             0x50, 0x80, 0x81, 0x400, 0x401, 0x4000, 0x4400, 0x8000, 0x8080, 0x1_4001,
         ],
     ),
     // one set before the stretch and behind it, and both in it
     (
-        &[Step::Push(0), Step::Push(1), Step::Both(Way::Join)],
+        &[
+            Step::Push(0),
+            Step::Push(1),
+            Step::Both(SetOperation::Union),
+        ],
         &[0x3FFF, 0x4001, 0x7FFE, 0x8001],
     ),
     (
-        &[Step::Push(0), Step::Push(1), Step::Both(Way::RemoveFrom)],
+        &[
+            Step::Push(0),
+            Step::Push(1),
+            Step::Both(SetOperation::ReverseDifference),
+        ],
         &[0x3FFF, 0x4000, 0x7FFE, 0x7FFF, 0x8000, 0x8001],
     ),
     (
         &[
             Step::Push(0),
             Step::Push(1),
-            Step::Both(Way::Retain),
+            Step::Both(SetOperation::Intersection),
             Step::Complement,
         ],
         &[0, 0x4000, 0x4001, 0x7FFF, 0x8000, 0x11_0000],
@@ -351,21 +465,6 @@ fn add_sets(alloc: Global, lists: &[&[u32]], sets: &mut Vec<CodePointInversionLi
     Some(())
 }
 
-/// Whether the steps make the set with this list, of the sets that are given.
-fn makes(
-    alloc: Global,
-    sets: &[CodePointInversionList],
-    steps: &[Step],
-    list: &[u32],
-) -> Option<bool> {
-    let mut references = Vec::new(alloc);
-    for set in sets {
-        references.push(set).ok()?;
-    }
-    let set = evaluate(alloc, &references, steps).ok()?;
-    Some(set.get_inversion_list() == list)
-}
-
 /// The index of the first term that makes another set, of the sets with these lists.
 fn first_wrong(alloc: Global, lists: &[&[u32]], terms: &[(&[Step], &[u32])]) -> Option<usize> {
     let mut sets = Vec::new(alloc);
@@ -373,7 +472,7 @@ fn first_wrong(alloc: Global, lists: &[&[u32]], terms: &[(&[Step], &[u32])]) -> 
         return Some(terms.len());
     }
     for (index, (steps, list)) in terms.iter().enumerate() {
-        if makes(alloc, &sets, steps, list) != Some(true) {
+        if makes(alloc, &sets, steps, list) != Ok(true) {
             return Some(index);
         }
     }

@@ -4,7 +4,8 @@ use Rattle.std.specs.Str.{IsUtf8, IsCharBoundary}
 use Rattle.std.proofs.Math.Seq.{take-append_seam, drop-append_seam}
 use Rattle.std.proofs.lemmas.List.{append_cancel_right}
 use Rattle.std.proofs.lemmas.Str.{IsCharBoundary-at_seam}
-use Rattle.text_lines.specs.Lines.{onto_first, begins_with, lines, IsCut}
+use Rattle.std.specs.List.{onto_first}
+use Rattle.text_lines.specs.Lines.{begins_with, lines, IsCut}
 use Rattle.text_lines.specs.Fields.{is_sole, through, past}
 
 abbrev ended : List ℕ → List ℕ

@@ -2,7 +2,8 @@
 use Rattle.std.proofs.Common.{◌≡◌, ℕ, suc, ◌<◌, ◌≢◌, true, false, ◌&&◌, ◌==◌, List, [], ◌∷◌, ◌++◌, length, get_or, refl, ap, ◌∙◌, arith, length-append, Option, None, Some, unwrap_or, MatchOption, Bor}
 use Rattle.std.proofs.lemmas.List.{get_or_append_left}
 use Rattle.std.proofs.lemmas.Bool.{cond-false, ne_eqb, and_left, and_right}
-use Rattle.text_lines.specs.Lines.{onto_first, begins_with, lines}
+use Rattle.std.specs.List.{onto_first}
+use Rattle.text_lines.specs.Lines.{begins_with, lines}
 
 -- no LF stands in the text
 abbrev pub HasNoEnding : List ℕ → Type 0

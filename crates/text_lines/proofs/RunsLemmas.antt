@@ -1,10 +1,9 @@
 -- What stands in front of a text, and the runs of the whole.
 use Rattle.std.proofs.Common.{◌≡◌, ℕ, suc, ◌+◌, ◌<◌, ◌≤◌, Bool, true, false, not, List, [], ◌∷◌, ◌++◌, length, get_or, take, drop, refl, ap, ◌∙◌, sym, inl, inr, arith, length-take, length-drop, drop-cons}
-use Rattle.std.specs.List.{prefix_len, position_or_len}
+use Rattle.std.specs.List.{onto_first, prefix_len, position_or_len}
 use Rattle.std.proofs.lemmas.Bool.{cases_lt, cond-true, cond-false, not-false, not-true, both_ways}
 use Rattle.std.proofs.lemmas.List.{take-append-drop, get_or-take, get_or-drop, nil_from_length, drop_all}
 use Rattle.std.proofs.lemmas.List.Sums.{prefix_len_passes, prefix_len_stops, prefix_len-le-length}
-use Rattle.text_lines.specs.Lines.{onto_first}
 use Rattle.text_lines.specs.Fields.{is_blank, begins_blank, runs}
 
 -- each element has this answer to the test

@@ -1,8 +1,7 @@
 -- The fields of a line, as their bytes.
 use Rattle.std.specs.Prelude.{ℕ, Bool, true, false, ◌||◌, ◌==◌, List, [], ◌∷◌, drop, if◌then◌else◌}
-use Rattle.std.specs.List.{before_first, position_or_len, prefix_len}
+use Rattle.std.specs.List.{before_first, onto_first, position_or_len, prefix_len}
 use Rattle.std.specs.Str.{bytes_eq}
-use Rattle.text_lines.specs.Lines.{onto_first}
 
 -- a space or a tab
 abbrev pub is_blank : ℕ → Bool

@@ -1,10 +1,6 @@
 -- The lines of a text, as its bytes.
 use Rattle.std.specs.Prelude.{◌≡◌, ℕ, Bool, false, ◌&&◌, ◌==◌, List, [], ◌∷◌, ◌++◌, ◌⊎◌, if◌then◌else◌}
-
--- puts a byte in front of the first part
-abbrev pub onto_first : ℕ → List (List ℕ) → List (List ℕ)
-onto_first c [] = (c ∷ []) ∷ []
-onto_first c (part ∷ parts) = (c ∷ part) ∷ parts
+use Rattle.std.specs.List.{onto_first}
 
 -- the byte stands in front
 abbrev pub begins_with : ℕ → List ℕ → Bool

@@ -10,6 +10,7 @@ use Rattle.uset_gather.specs.declared.layers.Layer.{Layer}
 use Rattle.cp_invlist.specs.declared.ranges.CodePointRange.{CodePointRange}
 use Rattle.uset_gather.specs.declared.painting.PaintedRange.{PaintedRange}
 use Rattle.uset_gather.specs.declared.painting.Painting.{Painting}
+use Rattle.uset_gather.proofs.RangesLemmas.{within_code}
 use Rattle.uset_gather.specs.Painting.{covered, painted, behind, behind_all, IsPutOnto, in_painting}
 
 -- one more range
@@ -80,11 +81,6 @@ layer_painted old new l set kept none still put is c within =
     ∙ (ap (seen old.complemented (is_code_point c)) (put c false ∙ is c b)
     ∙ (seen_set old.complemented (contains set c) (is_code_point c) b within
     ∙ ap (λ rs. seen old.complemented (is_code_point c) (painted rs c b) || contains set c) (sym none)))
-
-within_code : (code b : Bool) → ((code && b) && code) ≡ (code && b)
-within_code true true = refl
-within_code true false = refl
-within_code false b = refl
 
 -- the members of a set in the making are code points
 pub painting_within : (s : Painting) (c : ℕ) → (in_painting s c && is_code_point c) ≡ in_painting s c

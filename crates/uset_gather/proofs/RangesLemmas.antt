@@ -22,7 +22,7 @@ spelled member rs c held within = some_parts rs c ∙ (ap (λ b. b && is_code_po
 pub set_spelled : (set : List ℕ) (rs : List CodePointRange) (c : ℕ) → in_ranges rs c ≡ contains set c → (contains set c && is_code_point c) ≡ contains set c → in_some rs c ≡ contains set c
 set_spelled set rs c held within = spelled (contains set c) rs c held within
 
-within_code : (code b : Bool) → ((code && b) && code) ≡ (code && b)
+pub within_code : (code b : Bool) → ((code && b) && code) ≡ (code && b)
 within_code true true = refl
 within_code true false = refl
 within_code false b = refl

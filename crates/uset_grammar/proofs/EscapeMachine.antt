@@ -1,5 +1,6 @@
 -- The machine of escapes, and that it reads their shapes.
 use Rattle.std.proofs.Common.{◌≡◌, ◌≤◌, ℕ, zero, suc, ◌+◌, Bool, true, false, ◌&&◌, cond, List, [], ◌∷◌, ◌++◌, length, Option, Some, None, refl, sym, ap, ◌∙◌, inl, inr, append_assoc, append-nil, arith}
+use Rattle.std.proofs.lemmas.List.{length_push}
 use mathlib.Core.Logic.{◌⊎◌}
 use Rattle.std.specs.Prelude.{◌==◌, nat_le, if◌then◌else◌}
 use Rattle.std.specs.List.{list_all}
@@ -114,10 +115,6 @@ pub record Digits (read : Text) (m : ℕ) : Type 0 where
   pub some : 1 ≤ length read
   pub most : length read + m ≡ 6
 
-pub length_snoc : (w : Text) (c : ℕ) → length (w ++ c ∷ []) ≡ length w + 1
-length_snoc [] c = refl
-length_snoc (d ∷ w) c = let ih = length_snoc w c in omega arith
-
 pub all_snoc : (test : ℕ → Bool) (w : Text) (c : ℕ) → list_all test w ≡ true → test c ≡ true → list_all test (w ++ c ∷ []) ≡ true
 all_snoc test w c h k = list_all-append test w (c ∷ []) ∙ (λ i. h i && (k i && true))
 
@@ -126,7 +123,7 @@ one_digit c h = record { hex = ap (λ b. b && true) h; some = omega arith; most 
 
 pub more_digits : (w : Text) (c m : ℕ) → is_hex c ≡ true → Digits w (suc m) → Digits (w ++ c ∷ []) m
 more_digits w c m h d =
-    let l = length_snoc w c in
+    let l = length_push w c in
     record { hex = all_snoc is_hex w c d.hex h; some = omega arith; most = omega arith }
 
 pub digits_number : (w : Text) (m : ℕ) → Digits w m → is_number w ≡ true
@@ -140,7 +137,7 @@ record Bad (w : Text) : Type 0 where
   bad : (list_all is_hex w ≡ false) ⊎ (7 ≤ length w)
 
 bad_longer : (w : Text) (c : ℕ) → Bad w → Bad (w ++ c ∷ [])
-bad_longer w c b = let l = length_snoc w c in record {
+bad_longer w c b = let l = length_push w c in record {
   some = omega (arith, b.some);
   bad = elim b.bad [
     | inl isnt ↦ inl (list_all-append is_hex w (c ∷ []) ∙ and_left (list_all is_hex w) (is_hex c && true) isnt)
@@ -156,7 +153,7 @@ bad_number w b = elim b.bad [
 ]
 
 stray_bad : (w : Text) (c : ℕ) → is_hex c ≡ false → Bad (w ++ c ∷ [])
-stray_bad w c h = let l = length_snoc w c in record {
+stray_bad w c h = let l = length_push w c in record {
   some = omega arith;
   bad = inl (list_all-append is_hex w (c ∷ []) ∙ and_right (list_all is_hex w) (is_hex c && true) (and_left (is_hex c) true h));
 }
@@ -245,7 +242,7 @@ module _ (white_space : ℕ → Bool) (apart : Apart white_space) where
       step_refuses p t (awaits ns) c (rw (h, b, w) refl) ∙ sym (inner_in_word white_space ns [] t c b w ∙ bad_inner white_space ns (c ∷ []) t (stray_bad [] c h))
 
   too_many : (w : Text) (c : ℕ) → Digits w zero → Bad (w ++ c ∷ [])
-  too_many w c d = let l = length_snoc w c in record { some = omega arith; bad = inr (omega (arith, d.most)) }
+  too_many w c d = let l = length_push w c in record { some = omega arith; bad = inr (omega (arith, d.most)) }
 
   digit_step : (c : ℕ) (t p : Text) (ns : List ℕ) (m : ℕ) (w b : Text) → Digits w m → Braces t → is_hex c ≡ true → (c == 0x7D) ≡ false → white_space c ≡ false →
       read_whole (run (next white_space) free p (number ns m w b) (c ∷ t)) ≡ inner white_space ns w (c ∷ t)

@@ -4,7 +4,7 @@ use mathlib.Core.Logic.{◌⊎◌}
 use Rattle.std.specs.Prelude.{◌==◌, nat_le}
 use Rattle.std.specs.Option.{option_or}
 use Rattle.std.specs.List.{list_all}
-use Rattle.std.proofs.lemmas.Bool.{cases_Bool, eqb-true, leb-true}
+use Rattle.std.proofs.lemmas.Bool.{cases_Bool, eqb-true, leb-true, and_parts}
 use Rattle.std.proofs.lemmas.Bool.Decides.{nat_tests}
 use Rattle.uset_grammar.specs.Text.{Text}
 use Rattle.uset_grammar.specs.Outcome.{Kind, invalid_escape, Outcome, got, faulty, ended}
@@ -160,14 +160,6 @@ module _ (white_space : ℕ → Bool) (apart : Apart white_space) where
       reach (next white_space) free p s (c ∷ t) ≡ o
   reach_step p t s e c o is h = ap (λ n. onward None n (λ s'. reach (next white_space) free (p ++ c ∷ []) s' t)) is ∙ h
 
-  pub and_first : (x y : Bool) → (x && y) ≡ true → x ≡ true
-  and_first true y h = refl
-  and_first false y h = h
-
-  pub and_second : (x y : Bool) → (x && y) ≡ true → y ≡ true
-  and_second true y h = h
-  and_second false y h = absurd (let e = h in cc)
-
   white_not : (c : ℕ) → white_space c ≡ true → (is_hex c ≡ false) × ((c == 0x7D) ≡ false)
   white_not c h = (
     apart.no_digit c h,
@@ -183,8 +175,8 @@ module _ (white_space : ℕ → Bool) (apart : Apart white_space) where
   reach_white : (p w : Text) (ns : List ℕ) → list_all white_space w ≡ true → reach (next white_space) free p (awaits ns) w ≡ Some (awaits ns)
   reach_white p [] ns h = refl
   reach_white p (c ∷ w) ns h =
-      reach_step p w (awaits ns) (awaits ns) c (Some (awaits ns)) (awaits_white p ns c (and_first (white_space c) (list_all white_space w) h))
-      (reach_white (p ++ c ∷ []) w ns (and_second (white_space c) (list_all white_space w) h))
+      reach_step p w (awaits ns) (awaits ns) c (Some (awaits ns)) (awaits_white p ns c (and_parts (white_space c) (list_all white_space w) h).0)
+      (reach_white (p ++ c ∷ []) w ns (and_parts (white_space c) (list_all white_space w) h).1)
 
   -- digits behind digits
   reach_digits : (p d w before : Text) (ns : List ℕ) (m k : ℕ) → list_all is_hex d ≡ true → m ≡ length d + k →
@@ -192,8 +184,8 @@ module _ (white_space : ℕ → Bool) (apart : Apart white_space) where
   reach_digits p [] w before ns m k h e = let f : m ≡ k = omega (arith, e) in (λ i. Some (number ns (f i) (sym (append-nil w) i) before))
   reach_digits p (c ∷ d) w before ns zero k h e = absurd (omega (arith, e))
   reach_digits p (c ∷ d) w before ns (suc m) k h e =
-      reach_step p d (number ns (suc m) w before) (number ns m (w ++ c ∷ []) before) c (Some (number ns k (w ++ c ∷ d) before)) (rw (and_first (is_hex c) (list_all is_hex d) h) refl)
-      (reach_digits (p ++ c ∷ []) d (w ++ c ∷ []) before ns m k (and_second (is_hex c) (list_all is_hex d) h) (omega (arith, e))
+      reach_step p d (number ns (suc m) w before) (number ns m (w ++ c ∷ []) before) c (Some (number ns k (w ++ c ∷ d) before)) (rw (and_parts (is_hex c) (list_all is_hex d) h).0 refl)
+      (reach_digits (p ++ c ∷ []) d (w ++ c ∷ []) before ns m k (and_parts (is_hex c) (list_all is_hex d) h).1 (omega (arith, e))
       ∙ ap (λ z. Some (number ns k z before)) (append_assoc w (c ∷ []) d))
 
   -- the digits of a number
@@ -201,16 +193,16 @@ module _ (white_space : ℕ → Bool) (apart : Apart white_space) where
       reach (next white_space) free before (awaits ns) w ≡ Some (number ns k w before)
   reach_word before [] ns k h some most = absurd (omega (arith, some))
   reach_word before (c ∷ w) ns k h some most =
-      reach_step before w (awaits ns) (number ns 5 (c ∷ []) before) c (Some (number ns k (c ∷ w) before)) (rw (and_first (is_hex c) (list_all is_hex w) h) refl)
-      (reach_digits (before ++ c ∷ []) w (c ∷ []) before ns 5 k (and_second (is_hex c) (list_all is_hex w) h) (omega (arith, most)))
+      reach_step before w (awaits ns) (number ns 5 (c ∷ []) before) c (Some (number ns k (c ∷ w) before)) (rw (and_parts (is_hex c) (list_all is_hex w) h).0 refl)
+      (reach_digits (before ++ c ∷ []) w (c ∷ []) before ns 5 k (and_parts (is_hex c) (list_all is_hex w) h).1 (omega (arith, most)))
 
   pub number_digits : (w : Text) → is_number w ≡ true → (k : ℕ) × Digits w k
   unfolding is_number
   number_digits w h =
-      let more = and_second (list_all is_hex w) (nat_le 1 (length w) && nat_le (length w) 6) h in
-      let some = leb-true 1 (length w) (and_first (nat_le 1 (length w)) (nat_le (length w) 6) more) in
-      let most = leb-true (length w) 6 (and_second (nat_le 1 (length w)) (nat_le (length w) 6) more) in
-      (6 - length w, record { hex = and_first (list_all is_hex w) (nat_le 1 (length w) && nat_le (length w) 6) h; some = some; most = omega arith })
+      let more = (and_parts (list_all is_hex w) (nat_le 1 (length w) && nat_le (length w) 6) h).1 in
+      let some = leb-true 1 (length w) ((and_parts (nat_le 1 (length w)) (nat_le (length w) 6) more).0) in
+      let most = leb-true (length w) 6 ((and_parts (nat_le 1 (length w)) (nat_le (length w) 6) more).1) in
+      (6 - length w, record { hex = (and_parts (list_all is_hex w) (nat_le 1 (length w) && nat_le (length w) 6) h).0; some = some; most = omega arith })
 
   number_white : (p before w : Text) (ns : List ℕ) (m c : ℕ) → white_space c ≡ true → next white_space p (number ns m w before) c ≡ goes (awaits (ns ++ value w ∷ []))
   number_white p before w ns m c h = let n = white_not c h in rw (n.0, n.1, h) refl
@@ -243,8 +235,8 @@ module _ (white_space : ℕ → Bool) (apart : Apart white_space) where
   reach_fixed p [] w m k h e = let f : m ≡ k = omega (arith, e) in (λ i. Some (fixed true (f i) (sym (append-nil w) i)))
   reach_fixed p (c ∷ d) w zero k h e = absurd (omega (arith, e))
   reach_fixed p (c ∷ d) w (suc m) k h e =
-      reach_step p d (fixed true (suc m) w) (fixed true m (w ++ c ∷ [])) c (Some (fixed true k (w ++ c ∷ d))) (rw (and_first (is_hex c) (list_all is_hex d) h) refl)
-      (reach_fixed (p ++ c ∷ []) d (w ++ c ∷ []) m k (and_second (is_hex c) (list_all is_hex d) h) (omega (arith, e))
+      reach_step p d (fixed true (suc m) w) (fixed true m (w ++ c ∷ [])) c (Some (fixed true k (w ++ c ∷ d))) (rw (and_parts (is_hex c) (list_all is_hex d) h).0 refl)
+      (reach_fixed (p ++ c ∷ []) d (w ++ c ∷ []) m k (and_parts (is_hex c) (list_all is_hex d) h).1 (omega (arith, e))
       ∙ ap (λ z. Some (fixed true k z)) (append_assoc w (c ∷ []) d))
 
   five : (w : Text) (c : ℕ) → Sixth w c → Digits w 1

@@ -1,5 +1,6 @@
 -- The slips of the machine of escapes: the kind and the text before the place, at each state.
 use Rattle.std.proofs.Common.{◌≡◌, ℕ, zero, suc, ◌+◌, Bool, true, false, cond, List, [], ◌∷◌, ◌++◌, length, Some, None, refl, sym, ap, ◌∙◌, subst, inl, inr, append_assoc, arith}
+use Rattle.std.proofs.lemmas.List.{length_push}
 use mathlib.Core.Logic.{◌⊎◌}
 use Rattle.std.specs.Prelude.{◌==◌, if◌then◌else◌}
 use Rattle.std.specs.Option.{option_or}
@@ -10,7 +11,7 @@ use Rattle.uset_grammar.specs.Outcome.{unexpected, unimplemented, invalid_escape
 use Rattle.uset_grammar.specs.Escape.{Apart, is_hex, value, Spelled, named, itself, numbers, Letter, four, two, six, name, other, letter, is_above, is_surrogate}
 use Rattle.uset_grammar.specs.EscapeSlips.{Around, in_string, in_bracket, BeforeNumber, first, further}
 use Rattle.uset_grammar.proofs.UnitMachine.{Next, goes, whole, refuses, Slip, reach, free, holds_at}
-use Rattle.uset_grammar.proofs.EscapeMachine.{State, start, letters, brace_or, zero_first, zero_second, fixed, awaits, number, at_letter, next_fixed, next_digit, close_or, next, Sort, digit, brace, white, stray, sort, Digits, one_digit, more_digits, digits_number, length_snoc, all_snoc}
+use Rattle.uset_grammar.proofs.EscapeMachine.{State, start, letters, brace_or, zero_first, zero_second, fixed, awaits, number, at_letter, next_fixed, next_digit, close_or, next, Sort, digit, brace, white, stray, sort, Digits, one_digit, more_digits, digits_number, all_snoc}
 
 abbrev pub letter_slip : Text → Letter → Slip
 letter_slip p four = None
@@ -126,7 +127,7 @@ module _ (white_space : ℕ → Bool) (apart : Apart white_space) (a : Around) w
   fixed_on : (p : Text) (long : Bool) (k : ℕ) (w : Text) (c : ℕ) → is_hex c ≡ true → At white_space a (fixed long k w) p → Onward white_space a p c (next_fixed long k (w ++ c ∷ []))
   fixed_on p long zero w c e at = tt
   fixed_on p false (suc k) w c e at = tt
-  fixed_on p true (suc k) w c e at = (snoc at.0 refl, all_snoc is_hex w c at.1 e, (let l = length_snoc w c in let m = at.2 in omega arith))
+  fixed_on p true (suc k) w c e at = (snoc at.0 refl, all_snoc is_hex w c at.1 e, (let l = length_push w c in let m = at.2 in omega arith))
 
   fixed_by : (p : Text) (long : Bool) (k : ℕ) (w : Text) (c : ℕ) (h : Bool) → is_hex c ≡ h → At white_space a (fixed long k w) p → Onward white_space a p c (cond h (next_fixed long k (w ++ c ∷ [])) refuses)
   fixed_by p long k w c true e at = fixed_on p long k w c e at

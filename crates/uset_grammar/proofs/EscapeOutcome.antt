@@ -1,5 +1,6 @@
 -- What begins as an escape has one outcome.
 use Rattle.std.proofs.Common.{◌≡◌, ◌<◌, ◌≤◌, ℕ, zero, suc, ◌+◌, ◌*◌, ◌^◌, Bool, true, false, ◌||◌, ◌&&◌, cond, List, [], ◌∷◌, ◌++◌, length, Option, Some, None, refl, sym, ap, ◌∙◌, subst, inl, inr, append_assoc, arith}
+use Rattle.std.proofs.lemmas.List.{length_push}
 use Rattle.std.specs.Prelude.{◌==◌, nat_le}
 use Rattle.std.specs.Option.{option_or}
 use Rattle.std.specs.List.{list_all}
@@ -13,7 +14,7 @@ use Rattle.uset_grammar.specs.Escape.{Apart, is_hex, value, Spelled, named, itse
 use Rattle.uset_grammar.specs.EscapeSlips.{EscapeShape, EscapeRead, Around, fits_in, so_many, in_string, in_bracket, allowed, EscapeSlips}
 use Rattle.uset_grammar.proofs.Binding.{bound}
 use Rattle.uset_grammar.proofs.UnitMachine.{Next, goes, whole, refuses, Slip, turn, Halts, run, reach, Stopped, free, run_on, Keeps, read_fits}
-use Rattle.uset_grammar.proofs.EscapeMachine.{State, start, letters, brace_or, zero_first, zero_second, fixed, awaits, number, at_letter, next_fixed, next_digit, close_or, next, read_whole, Sort, digit, brace, white, stray, sort, Digits, one_digit, more_digits, shape_is_read, braces_read, inner, finish, length_snoc, all_snoc}
+use Rattle.uset_grammar.proofs.EscapeMachine.{State, start, letters, brace_or, zero_first, zero_second, fixed, awaits, number, at_letter, next_fixed, next_digit, close_or, next, read_whole, Sort, digit, brace, white, stray, sort, Digits, one_digit, more_digits, shape_is_read, braces_read, inner, finish, all_snoc}
 use Rattle.uset_grammar.proofs.UnitMachineOutcome.{Describes, answered}
 use Rattle.uset_grammar.proofs.EscapeMachineSlips.{letter_slip, second, later, sixth, shorter, fixed_slip, within, end_slip, slip}
 use Rattle.uset_grammar.proofs.EscapeMachineMeaning.{read_got, at_slip_law, slip_at_law, not_above}
@@ -195,9 +196,9 @@ module _ (white_space : ℕ → Bool) (apart : Apart white_space) (a : Around) w
       let e' = ap (λ b. cond b (fixed_slip p zero (value (w ++ c ∷ []))) None) h in
       let n = above_none (is_above (value (w ++ c ∷ []))) (invalid_escape, p) None (sym e' ∙ x) in one_fits a (value (w ++ c ∷ [])) n.0 e
   good_fixed p false (suc k) w c h f x e =
-      (all_snoc is_hex w c f.0 h, (let l = length_snoc w c in let g = f.1 in omega arith))
+      (all_snoc is_hex w c f.0 h, (let l = length_push w c in let g = f.1 in omega arith))
   good_fixed p false zero w c h f x e =
-      one_fits a (value (w ++ c ∷ [])) (five_below (w ++ c ∷ []) (all_snoc is_hex w c f.0 h) (let l = length_snoc w c in let g = f.1 in omega arith)) e
+      one_fits a (value (w ++ c ∷ [])) (five_below (w ++ c ∷ []) (all_snoc is_hex w c f.0 h) (let l = length_push w c in let g = f.1 in omega arith)) e
 
   good_fixed_by : (p : Text) (long : Bool) (k : ℕ) (w : Text) (c : ℕ) (h : Bool) → is_hex c ≡ h → Fine a (fixed long k w) → within a p (fixed long k w) c ≡ None →
       end_slip a (cond h (next_fixed long k (w ++ c ∷ [])) refuses) ≡ None → Good a (cond h (next_fixed long k (w ++ c ∷ [])) refuses)

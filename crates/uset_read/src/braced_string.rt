@@ -42,7 +42,7 @@ fn read_piece<'a>(
     if c == '}' {
         return Ok(Piece::Closed(behind));
     }
-    if white_space.contains32(c as u32) {
+    if white_space.contains(c) {
         return Ok(Piece::Space(behind));
     }
     if c == '\\' {

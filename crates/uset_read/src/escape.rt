@@ -171,7 +171,7 @@ fn read_next<'a>(
     if c == '}' {
         return Ok(Next::Closed(behind));
     }
-    if is_hex(c) || !white_space.contains32(c as u32) {
+    if is_hex(c) || !white_space.contains(c) {
         return Err(Stop::Fault(Kind::UnexpectedChar(c), text));
     }
     read_next_at(

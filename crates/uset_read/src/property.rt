@@ -1,5 +1,5 @@
 //! Properties, up to their end mark and behind it.
-ghost use Rattle.std.specs.Prelude.{◌≡◌, ◌<◌, ◌≤◌, length, IfOk, IfErr};
+ghost use Rattle.std.specs.Prelude.{◌≡◌, ◌≢◌, ◌<◌, ◌≤◌, Err, length, IfOk, IfErr};
 ghost use Rattle.std.specs.Str.{chars};
 ghost use Rattle.std.specs.String.{string_bytes};
 ghost use Rattle.cp_invlist.specs.InversionList.{contains};
@@ -157,7 +157,7 @@ fn key_part(white_space: &CodePointInversionList, form: Form, c: char) -> KeyPar
     if c == mark(form) {
         return KeyPart::Ends(Sign::Mark);
     }
-    if white_space.contains32(c as u32) {
+    if white_space.contains(c) {
         return KeyPart::Space;
     }
     match c {
@@ -214,7 +214,7 @@ fn read_value<'a>(
             }
             return Ok((value, rest));
         }
-        if !white_space.contains32(c as u32) {
+        if !white_space.contains(c) {
             push_char(&mut value, c)?;
         }
         rest = behind;
@@ -298,6 +298,7 @@ pub fn close_property(form: Form, text: &str) -> Result<&str, Stop<'_>>
     ensures parts { Tells (close_in (form_seen form) (chars text.now)) (λ rest. got tt (chars rest.now)) result }
     ensures place { IfErr result (λ stop. left_at stop ≤ length text.now) }
     ensures shorter { IfOk result (λ rest. length rest.now < length text.now) }
+    ensures memory { result ≢ Err Stop.NoMemory }
 {
     let behind = read_char(mark(form), text)?;
     match form {

@@ -11,9 +11,10 @@ pub enum Kind {
     Unimplemented,
     /// The number is no code point, or a surrogate where characters are due.
     InvalidEscape,
-    /// The property resolves to nothing.
+    /// The property resolves to nothing. Whoever resolves it tells so, and no call of this crate.
     UnknownProperty,
-    /// A table is absent.
+    /// Block is asked for a value, and the table of the names of blocks is absent, or the map of blocks, where the value is the
+    /// name of one or its number. Whoever resolves it tells so.
     Internal,
 }
 

@@ -1,5 +1,5 @@
 //! What stands in front of a text.
-ghost use Rattle.std.specs.Prelude.{◌≡◌, ◌<◌, ◌≤◌, ◌∷◌, ◌++◌, [], encode_utf8, length, IfSome, IfErr, IfOk, MatchOption};
+ghost use Rattle.std.specs.Prelude.{◌≡◌, ◌≢◌, ◌<◌, ◌≤◌, ◌∷◌, ◌++◌, ℕ, List, [], Err, encode_utf8, length, IfSome, IfErr, IfOk, MatchOption};
 ghost use Rattle.std.specs.Str.{chars};
 ghost use Rattle.std.specs.String.{string_bytes};
 ghost use Rattle.cp_invlist.specs.InversionList.{contains};
@@ -42,6 +42,7 @@ pub(crate) fn read_char(due: char, text: &str) -> Result<&str, Stop<'_>>
     ensures parts { Tells (char_in due (chars text.now)) (λ rest. got tt (chars rest.now)) result }
     ensures place { IfErr result (λ stop. left_at stop ≤ length text.now) }
     ensures shorter { IfOk result (λ rest. length rest.now < length text.now) }
+    ensures memory { result ≢ Err Stop.NoMemory }
 {
     let (c, rest) = take_first(text)?;
     if c == due {
@@ -59,15 +60,32 @@ pub(crate) fn push_char(string: &mut String, c: char) -> Result<(), NoMemory>
     Ok(())
 }
 
-/// Whether the character is white space. Most characters stand behind all that is, where no search is needed.
-fn is_white_space(white_space: &CodePointInversionList, c: char) -> bool
-    ensures { result ≡ contains white_space.now c }
+/// Whether the set has the character. Most characters stand behind all that white space has, where no search is needed.
+fn has_character(set: &CodePointInversionList, c: char) -> bool
+    ensures { result ≡ contains set.now c }
 {
     members_are_below_the_last();
-    let Some(end) = white_space.get_inversion_list().last() else {
+    let Some(end) = set.get_inversion_list().last() else {
         return false;
     };
-    (c as u32) < *end && white_space.contains32(c as u32)
+    (c as u32) < *end && set.contains(c)
+}
+
+/// The text without the characters of the set in front.
+pub(crate) fn skip_all<'a>(set: &CodePointInversionList, text: &'a str) -> &'a str
+    ensures skipped { chars result.now ≡ skip (contains set.now) (chars text.now) }
+    ensures front { (front : List ℕ) × (text.now ≡ front ++ result.now) }
+    ensures within { length result.now ≤ length text.now }
+    ensures no_more { length (chars result.now) ≤ length (chars text.now) }
+{
+    let mut rest = text;
+    while let Some((c, behind)) = split_first(rest) {
+        if !has_character(set, c) {
+            break;
+        }
+        rest = behind;
+    }
+    rest
 }
 
 /// The text without the white space in front.
@@ -76,12 +94,5 @@ pub fn skip_white_space<'a>(white_space: &CodePointInversionList, text: &'a str)
     ensures within { length result.now ≤ length text.now }
     ensures no_more { length (chars result.now) ≤ length (chars text.now) }
 {
-    let mut rest = text;
-    while let Some((c, behind)) = split_first(rest) {
-        if !is_white_space(white_space, c) {
-            break;
-        }
-        rest = behind;
-    }
-    rest
+    skip_all(white_space, text)
 }

@@ -1,6 +1,7 @@
 -- Steps over the lists of sets, and over the sets themselves.
 use Rattle.std.proofs.Common.{◌≡◌, ℕ, zero, suc, ◌<◌, ◌+◌, Bool, true, false, not, ◌&&◌, List, [], ◌∷◌, ◌++◌, length, map, take, slice_index_or, Option, Some, None, Result, Ok, Err, IfOk, option_map, refl, sym, ap, ap₂, ◌∙◌, subst, arith, if◌then◌else◌, encode_utf8_all}
 use Rattle.std.specs.Prelude.{All, slice_get}
+use Rattle.std.proofs.Math.Bool.{and-false}
 use Rattle.std.proofs.Math.Seq.{take-suc}
 use Rattle.std.proofs.lemmas.List.{map-append}
 use Rattle.std.specs.Str.{chars}
@@ -15,8 +16,8 @@ use Rattle.cp_strset_terms.specs.declared.leaf.Leaf.{Leaf}
 use Rattle.cp_terms.specs.Terms.{combined, step_done, steps_done, top, value_of}
 use Rattle.cp_terms.specs.declared.step.Step.{Step}
 use Rattle.cp_terms.specs.declared.step.Step.TheVariants.{Push, Both, Complement as Complemented, Clear}
-use Rattle.cp_terms.specs.declared.step.Way.{Way}
-use Rattle.cp_terms.specs.declared.step.Way.TheVariants.{Join, Remove, Retain, RemoveFrom}
+use Rattle.cp_terms.specs.declared.step.SetOperation.{SetOperation}
+use Rattle.cp_terms.specs.declared.step.SetOperation.TheVariants.{Union, Difference, Intersection, ReverseDifference}
 use Rattle.uset_grammar.specs.Tree.{Member, point, string, negation}
 use Rattle.uset_gather.specs.Gathered.{in_set}
 use Rattle.uset_variables.specs.declared.value.VariableValue.{VariableValue}
@@ -28,6 +29,7 @@ use Rattle.uset_steps.specs.declared.numbering.NumberedTerm.{NumberedTerm}
 use Rattle.uset_steps.specs.declared.numbering.TermSet.{TermSet}
 use Rattle.uset_steps.specs.Names.{Sets, variable, in_some, in_meant}
 use Rattle.uset_steps.specs.TermSteps.{negated_top}
+use Rattle.uset_steps.specs.TermLaws.{steps_over-push}
 use Rattle.uset_steps.specs.NumberedTerms.{put_in, some_put_in, has_at, step_over, steps_over, numbered_in}
 use Rattle.uset_reader.specs.declared.found.FoundSet.{FoundSet}
 use Rattle.uset_reader.specs.declared.found.FoundSet.TheVariants.{Named, Numbered, Gathered}
@@ -37,22 +39,17 @@ use Rattle.uset_reader.specs.Named.{bound_set, sets_of}
 use Rattle.uset_reader.specs.Syntaxes.{language_seen}
 use Rattle.uset_reader.specs.Evaluation.{lists_of_leaf, lists_of_found, is_complement, some_complement, puts_complement, found_in, some_found_in, found_at, some_listed, listed_at, AreFound, PushesStep}
 
--- one more step
-over_more : (m : Member) (v : ℕ → Bool) (ss : List Step) (s : Step) (stack : List Bool) → steps_over m v (ss ++ s ∷ []) stack ≡ step_over m v s (steps_over m v ss stack)
-over_more m v [] s stack = refl
-over_more m v (t ∷ ss) s stack = over_more m v ss s (step_over m v t stack)
-
 -- the next step of a list
 pub over_next : (m : Member) (v : ℕ → Bool) (steps : List Step) (i : ℕ) (d : Step) → i < length steps → step_over m v (slice_index_or steps i d) (steps_over m v (take i steps) []) ≡ steps_over m v (take (i + 1) steps) []
 over_next m v steps i d below =
     let one : i + 1 ≡ suc i = omega arith in
-    sym (over_more m v (take i steps) (slice_index_or steps i d) []) ∙ ap (λ ss. steps_over m v ss []) (sym (take-suc steps i d below) ∙ ap (λ n. take n steps) (sym one))
+    sym (steps_over-push m v (take i steps) (slice_index_or steps i d) []) ∙ ap (λ ss. steps_over m v ss []) (sym (take-suc steps i d below) ∙ ap (λ n. take n steps) (sym one))
 
 -- STEPS OVER CODE POINTS AND STRINGS
 module _ (c : ℕ) (is : is_code_point c ≡ true) (v : ℕ → Bool) where
   step_at : (s : Step) (stack : List Bool) → step_over (point c) v s stack ≡ step_done v s stack
   step_at (Push number) stack = refl
-  step_at (Both way) stack = refl
+  step_at (Both operation) stack = refl
   step_at Complemented [] = refl
   step_at Complemented (b ∷ stack) = ap (λ t. (t && not b) ∷ stack) is
   step_at Clear stack = refl
@@ -65,19 +62,19 @@ abbrev AllFalse : List Bool → Type 0
 AllFalse [] = Unit {0}
 AllFalse (b ∷ stack) = (b ≡ false) × AllFalse stack
 
-neither : (way : Way) (lower upper : Bool) → lower ≡ false → upper ≡ false → combined way lower upper ≡ false
-neither Join lower upper h k = ap₂ (combined Join) h k
-neither Remove lower upper h k = ap₂ (combined Remove) h k
-neither Retain lower upper h k = ap₂ (combined Retain) h k
-neither RemoveFrom lower upper h k = ap₂ (combined RemoveFrom) h k
+neither : (operation : SetOperation) (lower upper : Bool) → lower ≡ false → upper ≡ false → combined operation lower upper ≡ false
+neither Union lower upper h k = ap₂ (combined Union) h k
+neither Difference lower upper h k = ap₂ (combined Difference) h k
+neither Intersection lower upper h k = ap₂ (combined Intersection) h k
+neither ReverseDifference lower upper h k = ap₂ (combined ReverseDifference) h k
 
 -- beyond the code points no set has a member
 module _ (c : ℕ) (is : is_code_point c ≡ false) (v : ℕ → Bool) (none : (number : ℕ) → v number ≡ false) where
   step_beyond : (s : Step) (stack : List Bool) → AllFalse stack → AllFalse (step_over (point c) v s stack)
   step_beyond (Push number) stack h = (none number, h)
-  step_beyond (Both way) [] h = tt
-  step_beyond (Both way) (upper ∷ []) h = h
-  step_beyond (Both way) (upper ∷ lower ∷ stack) h = (neither way lower upper h.1.0 h.0, h.1.1)
+  step_beyond (Both operation) [] h = tt
+  step_beyond (Both operation) (upper ∷ []) h = h
+  step_beyond (Both operation) (upper ∷ lower ∷ stack) h = (neither operation lower upper h.1.0 h.0, h.1.1)
   step_beyond Complemented [] h = tt
   step_beyond Complemented (b ∷ stack) h = (ap (λ t. t && not b) is, h.1)
   step_beyond Clear [] h = tt
@@ -97,7 +94,7 @@ module _ (c : ℕ) (is : is_code_point c ≡ false) (v : ℕ → Bool) (none : (
 module _ (bytes : List ℕ) (v : ℕ → Bool) where
   string_step : (s : Step) (ss : List Step) (stack : List Bool) → steps_done v (without_complements (s ∷ ss)) stack ≡ steps_done v (without_complements ss) (step_over (string bytes) v s stack)
   string_step (Push number) ss stack = refl
-  string_step (Both way) ss stack = refl
+  string_step (Both operation) ss stack = refl
   string_step Complemented ss [] = refl
   string_step Complemented ss (b ∷ stack) = refl
   string_step Clear ss stack = refl
@@ -140,23 +137,23 @@ module _ (found : List FoundSet) where
     pushed_with : (m : Member) (step : Step) → puts_complement found step ≡ false → step_over m (listed_at (map lists_of_found found) m) step (steps_over m (listed_at (map lists_of_found found) m) old []) ≡
         step_over m (found_at found m) step (steps_over m (listed_at (map lists_of_found found) m) old [])
     pushed_with m (Push number) plain = ap (λ b. b ∷ steps_over m (listed_at (map lists_of_found found) m) old []) (put_plain m number (slice_get found number) refl plain)
-    pushed_with m (Both way) plain = refl
+    pushed_with m (Both operation) plain = refl
     pushed_with m Complemented plain = refl
     pushed_with m Clear plain = refl
 
     -- the step alone was pushed
     pub pushed_plain : (step : Step) (new : List Step) → new ≡ old ++ step ∷ [] → puts_complement found step ≡ false → PushesStep found step old new
-    pushed_plain step new is plain m = ap (λ ss. steps_over m (listed_at (map lists_of_found found) m) ss []) is ∙ (over_more m (listed_at (map lists_of_found found) m) old step [] ∙ pushed_with m step plain)
+    pushed_plain step new is plain m = ap (λ ss. steps_over m (listed_at (map lists_of_found found) m) ss []) is ∙ (steps_over-push m (listed_at (map lists_of_found found) m) old step [] ∙ pushed_with m step plain)
 
     -- and a complement behind it
     pub pushed_complement : (step : Step) (between new : List Step) → between ≡ old ++ step ∷ [] → new ≡ between ++ Complemented ∷ [] → puts_complement found step ≡ true → PushesStep found step old new
     pushed_complement (Push number) between new is more other m =
         let v = listed_at (map lists_of_found found) m in
         ap (λ ss. steps_over m v ss []) more
-        ∙ (over_more m v between Complemented []
+        ∙ (steps_over-push m v between Complemented []
         ∙ (ap (λ ss. negated_top m (steps_over m v ss [])) is
-        ∙ (ap (negated_top m) (over_more m v old (Push number) []) ∙ ap (λ b. b ∷ steps_over m v old []) (put_complement m number (slice_get found number) refl other))))
-    pushed_complement (Both way) between new is more other m = absurd (let e = other in cc)
+        ∙ (ap (negated_top m) (steps_over-push m v old (Push number) []) ∙ ap (λ b. b ∷ steps_over m v old []) (put_complement m number (slice_get found number) refl other))))
+    pushed_complement (Both operation) between new is more other m = absurd (let e = other in cc)
     pushed_complement Complemented between new is more other m = absurd (let e = other in cc)
     pushed_complement Clear between new is more other m = absurd (let e = other in cc)
 
@@ -176,10 +173,6 @@ leaf_strings [] bytes number = refl
 leaf_strings (leaf ∷ leaves) bytes zero = refl
 leaf_strings (leaf ∷ leaves) bytes (suc number) = leaf_strings leaves bytes number
 
-and_false : (b : Bool) → (b && false) ≡ false
-and_false true = refl
-and_false false = refl
-
 -- the lists of leaves have no number beyond the code points
 lists_within : MembersAreCodePoints → (leaves : List Leaf) → All (λ leaf. IsInversionList (code_points_of leaf)) leaves → (c : ℕ) → is_code_point c ≡ false → (number : ℕ) → listed_at (map lists_of_leaf leaves) (point c) number ≡ false
 lists_within law leaves all c is number = ap (λ o. some_listed o (point c)) (slice_get-map lists_of_leaf leaves number) ∙ by (slice_get leaves number) refl
@@ -188,7 +181,7 @@ lists_within law leaves all c is number = ap (λ o. some_listed o (point c)) (sl
     by None e = refl
     by (Some leaf) e =
         let canonical : IsInversionList (code_points_of leaf) = subst (λ x. IsInversionList (code_points_of x)) (get_or_from_slice_get leaves number leaf leaf e) (all number leaf (slice_get_within leaves number leaf e)) in
-        sym (law (code_points_of leaf) c canonical) ∙ (ap (λ t. contains (code_points_of leaf) c && t) is ∙ and_false (contains (code_points_of leaf) c))
+        sym (law (code_points_of leaf) c canonical) ∙ (ap (λ t. contains (code_points_of leaf) c && t) is ∙ and-false (contains (code_points_of leaf) c))
 
 abbrev flag : Option Bool → Bool
 flag None = false

@@ -111,10 +111,6 @@ sole_item l g c t d h e = subst (IsItem l g (Single c)) (sym (sole_text t d h)) 
 pub string_item : (l : Language) (g : Gathering) (s : String Global) → sole_of (chars (string_bytes s)) ≡ None → IsItem l g (Spelled_text s) (text_item (chars (string_bytes s)))
 string_item l g s h = record { meant = nothing_meant; same = tt; is = other_text (chars (string_bytes s)) h }
 
-pub none_kept : (o : Option ℕ) → not (is_some o) ≡ true → o ≡ None
-none_kept None h = refl
-none_kept (Some c) h = absurd (let g : false ≡ true = h in cc)
-
 -- a copy of a string
 pub copied_item : (l : Language) (g : Gathering) (s : String Global) (bytes : List ℕ) → string_bytes s ≡ bytes → IsItem l g (Spelled_text s) (item_text (chars bytes))
 copied_item l g s bytes e = record { meant = nothing_meant; same = tt; is = ap (λ bs. item_text (chars bs)) (sym e) }

@@ -54,7 +54,7 @@ some_complement (Some found) = is_complement found
 -- the step puts down the lists of such a set
 abbrev pub puts_complement : List FoundSet → Step → Bool
 puts_complement found (Push number) = some_complement (slice_get found number)
-puts_complement found (Both way) = false
+puts_complement found (Both operation) = false
 puts_complement found Complemented = false
 puts_complement found Clear = false
 

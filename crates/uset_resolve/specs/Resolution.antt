@@ -4,7 +4,7 @@ use Rattle.std.specs.Prelude.{ℕ, Bool, false, ◌&&◌, ◌||◌, ◌==◌, Li
 use Rattle.std.specs.Option.{option_or}
 use Rattle.cp_invlist.specs.InversionList.{is_code_point}
 use Rattle.prop_binary.specs.Ecma262.{ecma262_number}
-use Rattle.prop_names.specs.Names.{loose}
+use Rattle.prop_names.specs.Names.{value_of_query}
 use Rattle.prop_values.specs.Category.{category_of}
 use Rattle.prop_values.specs.Groups.{has, packings, bits_in}
 use Rattle.prop_values.specs.Tables.{block_table, category_table, script_table, combining_class_table, group_names_table}
@@ -45,7 +45,7 @@ with_extension lists map script c = is_code_point c && is_among (extensions_of_n
 
 -- the number of the value with this name in a table of names, loosely
 abbrev pub loosely : Tables → ℕ → List ℕ → Option ℕ
-loosely tables t name = tables.names t >>= λ names. loose names name
+loosely tables t name = tables.names t >>= λ names. value_of_query names name
 
 -- the code points of a value of a property, by the number of its table
 abbrev pub of_number : Tables → ℕ → Option ℕ → Option Source
@@ -79,7 +79,7 @@ written t value =
 
 -- the number of a value: that of its name, or the one that it writes, where the table of names is there
 abbrev pub number_of_value : Tables → ℕ → List ℕ → Option ℕ
-number_of_value tables t value = tables.names t >>= λ names. option_or (loose names value) (written t value)
+number_of_value tables t value = tables.names t >>= λ names. option_or (value_of_query names value) (written t value)
 
 -- Without a value, a key names a group of categories, a script or a binary property.
 abbrev pub of_key : Tables → List ℕ → Option Source

@@ -57,7 +57,7 @@ fn denotes_in_front(alloc: Global, pattern: &str, members: &str) -> Result<bool,
 }
 
 #[test]
-fn it_counts_alike_in_long_patterns(rt: HostRuntime) {
+fn a_set_of_many_strings_counts_alike_in_long_patterns(rt: HostRuntime) {
     for (pattern, members) in DENOTED {
         let holds = denotes_in_front(rt.alloc(), pattern, members);
         assert_holds(&rt, holds, pattern, members);
@@ -151,7 +151,7 @@ fn denotes_beside_many(alloc: Global, pattern: &str, members: &str) -> Result<bo
 }
 
 #[test]
-fn it_may_stand_beside_more_strings_than_it_has(rt: HostRuntime) {
+fn a_set_of_many_strings_may_stand_beside_more_than_it_has(rt: HostRuntime) {
     for (pattern, members) in BESIDE_MANY {
         let holds = denotes_beside_many(rt.alloc(), pattern, members);
         assert_holds(&rt, holds, pattern, members);
@@ -168,7 +168,7 @@ fn answered(alloc: Global, expected: &str) -> Result<bool, AllocError> {
 }
 
 #[test]
-fn text_behind_it_is_told(rt: HostRuntime) {
+fn text_behind_a_set_of_many_strings_is_told(rt: HostRuntime) {
     let alloc = rt.alloc();
     let expected =
         "bound w\nerr text after the set at byte 2\nerr text after the set at byte 8\nbound n\nok 9 0061\n";

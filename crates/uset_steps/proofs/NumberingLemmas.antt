@@ -15,12 +15,8 @@ use Rattle.uset_steps.specs.NumberedTerms.{put_in, step_over, steps_over}
 use Rattle.uset_steps.specs.Numbering.{IsNamed, AreNumbered, Tells, Grown, TakesStep}
 use Rattle.uset_steps.specs.Places.{IsPlaceIn, Adds}
 use Rattle.uset_steps.specs.TermSteps.{term_step}
+use Rattle.uset_steps.specs.TermLaws.{steps_over-push}
 use Rattle.uset_steps.proofs.ListLemmas.{get_grown, get_last}
-
--- one more step
-over_more : (m : Member) (v : ℕ → Bool) (ss : List Step) (s : Step) (stack : List Bool) → steps_over m v (ss ++ s ∷ []) stack ≡ step_over m v s (steps_over m v ss stack)
-over_more m v [] s stack = refl
-over_more m v (t ∷ ss) s stack = over_more m v ss s (step_over m v t stack)
 
 pub same_grown : (n : Numbering) → Grown n n
 same_grown n = record { numbered = λ a. a; told = λ sets m v h. h }
@@ -52,5 +48,5 @@ takes step old between steps s grown same more does = record {
   grown = record { numbered = λ a. grown.numbered a; told = λ sets m v h. grown.told sets m v h };
   does = λ a sets m v stack h.
       ap (λ ss. steps_over m v ss stack) (more ∙ ap (λ (ss : Vec Step Global). ss.items ++ s ∷ []) same)
-      ∙ (over_more m v old.term.steps.items s stack ∙ does a sets m v h (steps_over m v old.term.steps.items stack));
+      ∙ (steps_over-push m v old.term.steps.items s stack ∙ does a sets m v h (steps_over m v old.term.steps.items stack));
 }

@@ -3,6 +3,7 @@ pub mod Operations
 pub mod TermSteps
 pub mod Terms
 pub mod NumberedTerms
+pub mod TermLaws
 pub mod Places
 pub mod Steps
 pub mod Seen

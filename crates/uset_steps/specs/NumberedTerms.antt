@@ -27,7 +27,7 @@ has_at sets all m number = some_put_in sets (slice_get all number) m
 -- the stack behind a step, by which of the sets have the member
 abbrev pub step_over : Member → (ℕ → Bool) → Step → List Bool → List Bool
 step_over m v (Push number) stack = v number ∷ stack
-step_over m v (Both way) stack = both_done way stack
+step_over m v (Both operation) stack = both_done operation stack
 step_over m v Complement stack = negated_top m stack
 step_over m v Clear stack = clear_done stack
 

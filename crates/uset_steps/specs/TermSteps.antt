@@ -16,14 +16,14 @@ negated_top m (b ∷ stack) = negation m b ∷ stack
 abbrev pub term_step : Sets → Member → TermStep → List Bool → List Bool
 term_step sets m (Plain set) stack = gathered_in set.value m ∷ stack
 term_step sets m (Named name) stack = in_meant sets (name_seen name.value) m ∷ stack
-term_step sets m (Both way) stack = both_done way stack
+term_step sets m (Both operation) stack = both_done operation stack
 term_step sets m Negate stack = negated_top m stack
 
 -- the step puts a set down, which has the member
 abbrev pub put_down : Sets → TermStep → Member → Bool
 put_down sets (Plain set) m = gathered_in set.value m
 put_down sets (Named name) m = in_meant sets (name_seen name.value) m
-put_down sets (Both way) m = false
+put_down sets (Both operation) m = false
 put_down sets Negate m = false
 
 abbrev pub PutsDown : TermStep → Type 0

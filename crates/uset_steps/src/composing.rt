@@ -3,7 +3,7 @@ use crate::name::Name;
 use crate::step::Operation;
 use crate::term::{Term, TermStep};
 use cp_invlist::NoMemory;
-use cp_terms::Way;
+use cp_terms::SetOperation;
 use std::alloc::Global;
 use uset_gather::Gathered;
 
@@ -13,24 +13,24 @@ impl Operation {
     ghost use Rattle.uset_steps.specs.Operations.{operated};
 
     /// How the upper of two sets is gathered into the lower.
-    fn of_upper(self) -> Way
+    fn of_upper(self) -> SetOperation
         ensures { (lower upper : Bool) → combined result lower upper ≡ operated self upper lower }
     {
         match self {
-            Operation::Join => Way::Join,
-            Operation::Remove => Way::Remove,
-            Operation::Retain => Way::Retain,
+            Operation::Join => SetOperation::Union,
+            Operation::Remove => SetOperation::Difference,
+            Operation::Retain => SetOperation::Intersection,
         }
     }
 
     /// How the lower of two sets is gathered into the upper.
-    fn of_lower(self) -> Way
+    fn of_lower(self) -> SetOperation
         ensures { (lower upper : Bool) → combined result lower upper ≡ operated self lower upper }
     {
         match self {
-            Operation::Join => Way::Join,
-            Operation::Remove => Way::RemoveFrom,
-            Operation::Retain => Way::Retain,
+            Operation::Join => SetOperation::Union,
+            Operation::Remove => SetOperation::ReverseDifference,
+            Operation::Retain => SetOperation::Intersection,
         }
     }
 }
@@ -71,14 +71,14 @@ impl Term {
     }
 
     /// Both, the other above this one.
-    fn below(self, way: Way, upper: Term) -> Result<Term, NoMemory>
+    fn below(self, operation: SetOperation, upper: Term) -> Result<Term, NoMemory>
         ensures { IfOk result (λ term. (sets : Sets) (m : Member) →
-            term_in sets term m ≡ combined way (term_in sets self m) (term_in sets upper m)) }
+            term_in sets term m ≡ combined operation (term_in sets self m) (term_in sets upper m)) }
     {
         let mut steps = self.steps;
         let mut more = upper.steps;
         steps.append(&mut more)?;
-        steps.push(TermStep::Both(way))?;
+        steps.push(TermStep::Both(operation))?;
         Ok(Term { steps })
     }
 

@@ -11,9 +11,8 @@ use uset_gather::{Gathered, Operand};
 use uset_read::Query;
 
 /// What a bracket gathers. From the first large set with a name on, steps are put off until the set is needed, or about 8 MB of
-/// named sets and inner brackets are kept: then a set that was named again and again is gathered no more than twice. So each
-/// step costs no more than its name does. Where memory is refused to `gather` or `gather_named` it is empty then; the other
-/// calls leave it as it was.
+/// named sets and inner brackets are kept, so that a set which is named again and again costs little more than its names do.
+/// Where memory is refused to `gather` or `gather_named` it is empty then; the other calls leave it as it was.
 pub struct Gathering<'a> {
     gathered: Gathered,
     later: Option<Box<Later<'a>>>,

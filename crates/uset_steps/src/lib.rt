@@ -1,6 +1,6 @@
 //! The steps of a bracket (UTS 35, Unicode Sets). From the first large set with a name on they are put off until the bracket's
-//! set is needed, or about 8 MB of named sets and inner brackets are kept: then a set that is named again and again is gathered
-//! no more than twice.
+//! set is needed, or about 8 MB of named sets and inner brackets are kept. So a set that is named again and again is gathered
+//! once or twice, which is measured and said by no clause.
 #![tactic(auto)]
 
 mod closed;

@@ -91,7 +91,7 @@ impl Numbering {
         let step = match step {
             TermStep::Plain(set) => Step::Push(self.of_gathered(alloc, Box::into_inner(set))?),
             TermStep::Named(name) => Step::Push(self.of_name(alloc, Box::into_inner(name))?),
-            TermStep::Both(way) => Step::Both(way),
+            TermStep::Both(operation) => Step::Both(operation),
             TermStep::Negate => Step::Complement,
         };
         self.term.steps.push(step)?;

@@ -2,7 +2,7 @@
 ghost use Rattle.uset_steps.specs.TermSteps.{MakesOne};
 
 use crate::name::Name;
-use cp_terms::Way;
+use cp_terms::SetOperation;
 use uset_gather::Gathered;
 
 /// A step of a term, over a stack of sets.
@@ -13,7 +13,7 @@ pub(crate) enum TermStep {
     /// Puts down the set with this name.
     Named(Box<Name>),
     /// Makes one of the two sets on top.
-    Both(Way),
+    Both(SetOperation),
     /// Exchanges the members of the set on top and the other code points, and forgets its strings.
     Negate,
 }

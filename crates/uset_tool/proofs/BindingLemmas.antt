@@ -41,15 +41,6 @@ same_variables old new h = fun_ext (λ name. ap (option_map value_seen) (h (enco
 pub bound_name : (map : VariableMap) (name : List ℕ) → IsUtf8 name → variables_of map (chars name) ≡ option_map value_seen (bound map name)
 bound_name map name text = ap (λ bytes. option_map value_seen (bound map bytes)) (encodes-chars name text)
 
-seen_of : (b : Bool) (v : VariableValue) (o : Option VariableValue) → option_map value_seen (cond b (Some v) o) ≡ cond b (Some (value_seen v)) (option_map value_seen o)
-seen_of true v o = refl
-seen_of false v o = refl
-
--- a map with one name more
-pub one_more : (old new : VariableMap) (name : List ℕ) (value : VariableValue) → Binds old name (Some value) new → variables_of new ≡ with_binding name (value_seen value) (variables_of old)
-one_more old new name value h = fun_ext (λ n.
-    ap (option_map value_seen) (h (encode_utf8_all n)) ∙ seen_of (bytes_eq name (encode_utf8_all n)) value (bound old (encode_utf8_all n)))
-
 kept_as : (bytes : List ℕ) (cs : Text) → chars bytes ≡ cs → value_seen (character_or (Spelled bytes) (sole_of cs)) ≡ string_or_character cs
 kept_as bytes [] is = ap string is
 kept_as bytes (c ∷ []) is = refl

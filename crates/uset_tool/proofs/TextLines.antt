@@ -4,9 +4,9 @@ use Rattle.std.proofs.lemmas.Bool.{eqb-true}
 use Rattle.std.proofs.lemmas.List.{length-append}
 use Rattle.std.proofs.Math.Seq.{get_or-append_seam, take-append_seam, drop-append_seam}
 use Rattle.std.proofs.lemmas.Str.{IsUtf8-append, IsUtf8-take, IsUtf8-drop, IsCharBoundary-before_ascii, IsUtf8-past_char, encode_ascii}
-use Rattle.std.specs.List.{AllByRecursion}
+use Rattle.std.specs.List.{onto_first, AllByRecursion}
 use Rattle.std.specs.Str.{IsUtf8}
-use Rattle.text_lines.specs.Lines.{onto_first, begins_with, lines}
+use Rattle.text_lines.specs.Lines.{begins_with, lines}
 use Rattle.text_lines.specs.Fields.{is_sole, past}
 
 -- behind an ASCII character

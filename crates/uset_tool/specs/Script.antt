@@ -1,6 +1,6 @@
 -- The lines of a script.
 use Rattle.std.specs.Prelude.{ℕ, Bool, true, ◌&&◌, ◌||◌, nat_lt, nat_le, ◌==◌, List, [], ◌∷◌, Option, Some, None, option_map, option_and_then, codes, if◌then◌else◌}
-use Rattle.text_lines.specs.Lines.{onto_first}
+use Rattle.std.specs.List.{onto_first}
 use Rattle.text_lines.specs.Numbers.{hex}
 
 -- What a name is to be bound to.

@@ -209,11 +209,11 @@ fn answer_words<S: Source, K: Sink>(
 
 /// Runs the program: the words after its name, the bytes of the source, and the answer to the sink.
 /// The known lists of words are `eval`, where the input is a table text through its first line that is
-/// `end` alone and then a script, `tables`, where it is a table text, and `gen` with a number from 1 to 10000, where it
-/// is one too. At most 2^23 bytes are an input. What is written is the answer that the grammar and the tables give, as
-/// `written` says; `settled` and `complete` say that without a fault of the source or the sink no other end comes but
-/// want of memory. The pattern that `gen` makes is always read, as `generated` says, where the tables of the syntax are
-/// there.
+/// `end` alone and then a script, `tables`, where it is a table text, and `gen` with a number from 1 to 10000 in decimal
+/// digits, the first no 0, where it is one too. At most 2^23 bytes are an input. What is written is the answer that the
+/// grammar and the tables give, as `written` says; `settled` and `complete` say that without a fault of the source or the
+/// sink no other end comes but want of memory. The pattern that `gen` makes is always read, as `generated` says, where the
+/// tables of the syntax are there.
 pub fn run<S: Source, K: Sink>(
     alloc: Global,
     words: &Vec<String>,

@@ -54,7 +54,7 @@ pub struct VariableMap {
 }
 
 impl VariableMap {
-    ghost use Rattle.std.specs.Prelude.{◌&&◌, ◌||◌, None, OnErr, true};
+    ghost use Rattle.std.specs.Prelude.{◌&&◌, ◌||◌, [], None, OnErr, true};
     ghost use Rattle.std.specs.Borrow.{sem};
     ghost use Rattle.std.specs.Option.{option_copied};
     ghost use Rattle.std.specs.String.{string_bytes};
@@ -71,6 +71,7 @@ impl VariableMap {
     pub fn new(alloc: Global) -> VariableMap
         ensures free { (name : List ℕ) → bound result name ≡ None }
         ensures unnumbered { (name : List ℕ) → numbers_at result name ≡ None }
+        ensures strings { numbered_strings result ≡ [] }
     {
         VariableMap {
             values: BTreeMap::new(alloc),
@@ -210,6 +211,7 @@ impl VariableMap {
     pub fn copy(&self, alloc: Global) -> Result<VariableMap, NoMemory>
         ensures bound { IfOk result (λ map. IsSame self.now map) }
         ensures unnumbered { IfOk result (λ map. (name : List ℕ) → numbers_at map name ≡ None) }
+        ensures strings { IfOk result (λ map. numbered_strings map ≡ []) }
     {
         Ok(VariableMap {
             values: copied_values(alloc, &self.values)?,

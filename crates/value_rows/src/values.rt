@@ -1,13 +1,11 @@
 //! The rows of the enumerated properties and of their values.
-use crate::fixtures::{
-    assert_equal, assert_facts, assert_last, assert_names, assert_pairs, assert_unpacks,
-};
+use crate::fixtures::{assert_equal, assert_facts, assert_names, assert_pairs, assert_unpacks};
 use crate::maps::fixtures::map_of;
 use cp_trie::{CodePointTrie, ConvertError, TrieError, TrieValue};
 use prop_values::{
     BidiClass, BidiMirroringGlyph, BidiPairedBracketType, GeneralCategory, GeneralCategoryGroup,
     GeneralCategoryOutOfBoundsError, HangulSyllableType, MapTable, NamesTable, Script,
-    ScriptWithExt, Subtag, laws, rows,
+    ScriptWithExt, Subtag, rows,
 };
 use std::alloc::Global;
 use std::test::Fail;
@@ -42,10 +40,7 @@ const GROUP_NAMES: [&str; 38] = [
 ];
 
 #[test]
-fn the_laws_hold(rt: HostRuntime) {
-    laws::numbers_of_tables();
-    laws::order_by_number();
-    laws::same_members();
+fn a_property_has_its_short_name(rt: HostRuntime) {
     assert_names(&rt, &[(rows::names_of_properties()[8].1, "GCB")]);
 }
 
@@ -123,13 +118,6 @@ fn tables_accept_the_numbers_of_their_types(rt: HostRuntime) {
         ),
     ];
     assert_facts(&rt, facts);
-}
-
-#[test]
-fn numbers_past_the_last_of_a_type_are_refused(rt: HostRuntime) {
-    assert_last::<GeneralCategory>(&rt, 29);
-    assert_last::<BidiClass>(&rt, 255);
-    assert_last::<Script>(&rt, 65_535);
 }
 
 #[test]

@@ -11,7 +11,7 @@ use crate::error::{LineError, TableErrorKind};
 use crate::line::Row;
 use crate::load::OpenTable;
 use crate::numbers::range;
-use crate::row::range_fault;
+use crate::row::check_range;
 use crate::string::{braced, has_surrogate, spelled_numbers, text_of};
 use cp_invlist::{CodePointInversionListBuilder, NoMemory};
 use cp_strset::Strings;
@@ -63,9 +63,7 @@ impl OpenEmoji {
             (range field.now) None result self.new }
     {
         let range = range(field).ok_or(TableErrorKind::BadNumber)?;
-        if let Some(kind) = range_fault(self.last, range) {
-            return Err(LineError::Fault(kind));
-        }
+        check_range(self.last, range)?;
         self.builder.add_range32(range)?;
         self.last = Some(range.end);
         Ok(())

@@ -9,7 +9,7 @@ use crate::line::Row;
 use crate::load::OpenTable;
 use crate::load::map_builder::MapBuilder;
 use crate::numbers::range;
-use crate::row::range_fault;
+use crate::row::check_range;
 use crate::value::accepted;
 use cp_invlist::NoMemory;
 use prop_values::MapTable;
@@ -49,9 +49,7 @@ impl OpenMap {
         let second = row.second.ok_or(TableErrorKind::UnknownLine)?;
         let range = range(row.first).ok_or(TableErrorKind::BadNumber)?;
         let spelled = decimal_number(second).ok_or(TableErrorKind::BadNumber)?;
-        if let Some(kind) = range_fault(self.builder.last(), range) {
-            return Err(LineError::Fault(kind));
-        }
+        check_range(self.builder.last(), range)?;
         let value = accepted(self.table, spelled).ok_or(TableErrorKind::ValueOutOfType)?;
         self.builder.add(range, value)?;
         Ok(())

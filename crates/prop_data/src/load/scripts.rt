@@ -8,7 +8,7 @@ use crate::line::Row;
 use crate::load::OpenTable;
 use crate::load::map_builder::MapBuilder;
 use crate::numbers::range;
-use crate::row::range_fault;
+use crate::row::check_range;
 use crate::value::accepted_script;
 use cp_invlist::NoMemory;
 use prop_values::ScriptWithExt;
@@ -54,9 +54,7 @@ impl OpenScripts {
         let second = row.second.ok_or(TableErrorKind::UnknownLine)?;
         let range = range(row.first).ok_or(TableErrorKind::BadNumber)?;
         let spelled = decimal_number(second).ok_or(TableErrorKind::BadNumber)?;
-        if let Some(kind) = range_fault(self.builder.last(), range) {
-            return Err(LineError::Fault(kind));
-        }
+        check_range(self.builder.last(), range)?;
         let value = accepted_script(spelled).ok_or(TableErrorKind::ValueOutOfType)?;
         self.builder.add(range, ScriptWithExt(value))?;
         push_number(&mut self.named, value)?;

@@ -8,7 +8,7 @@ use crate::error::{LineError, TableErrorKind};
 use crate::line::Row;
 use crate::load::OpenTable;
 use crate::numbers::range;
-use crate::row::{range_fault, syntax_fault};
+use crate::row::{check_range, check_syntax};
 use cp_invlist::{CodePointInversionListBuilder, NoMemory};
 use prop_binary::SetTable;
 use std::alloc::Global;
@@ -46,12 +46,8 @@ impl OpenSet {
             return Err(LineError::Fault(TableErrorKind::UnknownLine));
         };
         let range = range(row.first).ok_or(TableErrorKind::BadNumber)?;
-        if let Some(kind) = range_fault(self.last, range) {
-            return Err(LineError::Fault(kind));
-        }
-        if let Some(kind) = syntax_fault(self.table, range) {
-            return Err(LineError::Fault(kind));
-        }
+        check_range(self.last, range)?;
+        check_syntax(self.table, range)?;
         self.builder.add_range32(range)?;
         self.last = Some(range.end);
         Ok(())

@@ -2,7 +2,8 @@ use Rattle.std.proofs.Common.{ℕ, List, ◌++◌, option_map, sym, ap, ◌∙�
 use Rattle.std.proofs.lemmas.Iterator.Consumers.{YieldsList-at}
 use Rattle.std.proofs.lemmas.Iterator.Splits.{YieldsList-from_slice_split}
 use Rattle.std.specs.List.{slice_split}
-use Rattle.prop_data.specs.Strings.{is_underscore, numbers_of}
+use Rattle.prop_names.specs.Folding.{is_underscore}
+use Rattle.prop_data.specs.Strings.{numbers_of}
 use Rattle.prop_data.proofs.SpelledLemmas.{next_part, no_part, numbers_of-front, numbers_of-end, numbers_of-misspelled, numbers_of-next}
 use Rattle.prop_data.proofs.string.numbers_of.Goals as goal
 

@@ -1,7 +1,8 @@
 use Rattle.std.proofs.Common.{◌≡◌, ℕ, List, ◌++◌, option_map}
 use Rattle.std.proofs.lemmas.Iterator.{YieldsList}
 use Rattle.std.specs.List.{slice_split}
-use Rattle.prop_data.specs.Strings.{is_underscore, numbers_of}
+use Rattle.prop_names.specs.Folding.{is_underscore}
+use Rattle.prop_data.specs.Strings.{numbers_of}
 use Rattle.prop_data.proofs.string.numbers_of.Given as goal
 
 -- the parts that are left, and the numbers of all

@@ -13,9 +13,9 @@ loop-index-preserved c =
     record {
       sized = length-set words index c.combine_words.result ∙ c.loop-index.invariant.sized;
       words =
-          words_more (λ i word. (j : ℕ) → j < 64 → has_bit word j ≡ combined c.args.way (block_has c.args.self.now i j) (word_has c.args.upper.now i j))
+          words_more (λ i word. (j : ℕ) → j < 64 → has_bit word j ≡ combined c.args.operation (block_has c.args.self.now i j) (word_has c.args.upper.now i j))
           words index c.combine_words.result (omega (arith, c.loop-index.invariant.sized)) c.loop-index.invariant.words
-          (λ j lt. c.combine_words.ensures j lt ∙ ap (λ word. combined c.args.way (has_bit word j) (word_has c.args.upper.now index j)) (c.loop-index.invariant.others index (omega arith)));
+          (λ j lt. c.combine_words.ensures j lt ∙ ap (λ word. combined c.args.operation (has_bit word j) (word_has c.args.upper.now index j)) (c.loop-index.invariant.others index (omega arith)));
       others = λ i le. get_or-set_other words index i c.combine_words.result 0 (omega (arith, le)) ∙ c.loop-index.invariant.others i (omega (arith, le));
     }
 

@@ -8,6 +8,6 @@ use Rattle.cp_terms.proofs.block.Block.combine.Given as goal
 abbrev pub invariant-loop-index : goal.invariant-loop-index
 invariant-loop-index l = record {
   sized : length l.self.words ≡ 256;
-  words : (i : ℕ) → i < l.index → (j : ℕ) → j < 64 → has_bit (slice_index l.self.words i) j ≡ combined l.way (block_has l.fn.self i j) (word_has l.upper i j);
+  words : (i : ℕ) → i < l.index → (j : ℕ) → j < 64 → has_bit (slice_index l.self.words i) j ≡ combined l.operation (block_has l.fn.self i j) (word_has l.upper i j);
   others : (i : ℕ) → l.index ≤ i → slice_index l.self.words i ≡ slice_index l.fn.self.words i;
 }

@@ -13,4 +13,4 @@ returns-in-Some-last_mut c = λ i j short h.
     let top = top_set i j made.items (vec_len made - 1) c.in-Some-last_mut.lower.now c.combine.new.lower (omega (arith, c.in-Some-last_mut.ensures.variant.0 refl)) c.in-Some-last_mut.ensures.value in
     top.is
     ∙ (ap (λ b. b ∷ top.rest) (c.combine.ensures i j short h)
-    ∙ sym (ap (both_done c.args.way) (ap (λ o. named_above v o (block_marks i j made.items)) c.in-Some.is ∙ ap (λ l. v c.in-Some.index ∷ l) top.was)))
+    ∙ sym (ap (both_done c.args.operation) (ap (λ o. named_above v o (block_marks i j made.items)) c.in-Some.is ∙ ap (λ l. v c.in-Some.index ∷ l) top.was)))

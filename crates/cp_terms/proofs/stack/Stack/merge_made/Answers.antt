@@ -13,4 +13,4 @@ returns-clause-marks c = λ i j short h.
     ap (block_marks i j) c.in-Some.ensures.items ∙ block_marks-push i j below c.in-Some.upper in
     top.is
     ∙ (ap (λ b. b ∷ top.rest) (c.combine.ensures i j short h)
-    ∙ sym (ap (both_done c.args.way) (was ∙ ap (λ l. block_has c.in-Some.upper i j ∷ l) top.was)))
+    ∙ sym (ap (both_done c.args.operation) (was ∙ ap (λ l. block_has c.in-Some.upper i j ∷ l) top.was)))

@@ -12,7 +12,7 @@ pub returns : goal.returns
 returns c =
     let old = c.args.self.now in
     let is = ap (option_map (λ r. (r.start, r.end))) (sym c.in_ok-range.ensures.ok_part) ∙ c.range.ensures in
-    let range_fine = sym c.range_fault.ensures ∙ c.in_default.is in (
+    let range_fine = sym c.in_ok-check_range.ensures in (
       ap (emoji_range_fault old.last) (sym is) ∙ range_fine,
       refl,
       ap (λ (o : Option (ℕ × ℕ)). option_or (option_map (λ (x : ℕ × ℕ). x.1) o) old.last) is,

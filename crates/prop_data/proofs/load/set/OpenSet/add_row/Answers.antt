@@ -14,13 +14,13 @@ pub invariant_of-self-2 : goal.invariant_of-self-2
 invariant_of-self-2 c = record {
   allowed =
       allowed-grown c.args.self.now.table c.in_ok-range.range.start c.in_ok-range.range.end (contains c.args.self.now.builder) (contains c.add_range32.new.self) c.args.self.now.allowed
-      (sym c.syntax_fault.ensures ∙ c.in_default-syntax_fault.is) c.in_ok-add_range32.ensures.ok;
+      (sym c.in_ok-check_syntax.ensures) c.in_ok-add_range32.ensures.ok;
 }
 
 pub returns : goal.returns
 returns c =
-    let range_fine = sym c.range_fault.ensures ∙ c.in_default-range_fault.is in
-    let syntax_fine = sym c.syntax_fault.ensures ∙ c.in_default-syntax_fault.is in
+    let range_fine = sym c.in_ok-check_range.ensures in
+    let syntax_fine = sym c.in_ok-check_syntax.ensures in
     let allowed = allowed-grown c.args.self.now.table c.in_ok-range.range.start c.in_ok-range.range.end (contains c.args.self.now.builder) (contains c.add_range32.new.self) c.args.self.now.allowed syntax_fine c.in_ok-add_range32.ensures.ok in
     let is = ap (option_map (λ r. (r.start, r.end))) (sym c.in_ok-range.ensures.ok_part) ∙ c.range.ensures in (
       λ tables.
