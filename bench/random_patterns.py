@@ -5,9 +5,9 @@ Usage: bench/random_patterns.py PROGRAM TABLES [COUNT [SEED]]. TABLES is a table
 headers are to be had (libicu-dev), and a C++ compiler. The patterns of the first half are written so that both have to read
 them alike. In those of the second half some characters are left out, put in or doubled. There one may refuse what the other
 reads: ICU4C reads names loosely, a `$` that begins no variable as itself, a range from a hyphen behind a first one, a property
-with an empty value, and surrogates in strings; `uset` reads ranges of one member, those with an end in braces, and `\\u` with
-braces. How many are read by one alone for each of these reasons is printed, and each pattern that is read otherwise, or by one
-alone in the first half or for no such reason; then the status is 1.
+with an empty value, surrogates in strings, and `\\x` with one digit; `uset` reads ranges of one member, those with an end in
+braces, and `\\u` with braces. How many are read by one alone for each of these reasons is printed, and each pattern that is
+read otherwise, or by one alone in the first half or for no such reason; then the status is 1.
 """
 
 import random
@@ -91,6 +91,7 @@ ICU4C_ALONE = {
     "a range from a hyphen": re.compile(r"\[\^?--.← error: unexpected character"),
     "a loose name": re.compile(r"(\[:|\\[pP]\{)[^\]}]*(-← error: unexpected character|← error: unknown property)"),
     "an empty value": re.compile(r"(\[:|\\[pP]\{)[^\]}]*=[:}]← error: unexpected character"),
+    "an `\\x` with one digit": re.compile(r"\\x[0-9A-Fa-f].← error: unexpected character"),
     "a surrogate in a string": re.compile(r"\{([^}\\]|\\.)*\\← error: invalid escape sequence"),
 }
 
