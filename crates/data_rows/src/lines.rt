@@ -1,28 +1,6 @@
 //! Lines of a text, the fields of a line, and numbers as fields spell them.
 use crate::fixtures::assert_equal;
-use text_lines::{before_comment, decimal_number, hex, split_behind, split_field, split_line};
-
-/// Texts, their first lines and what stands behind these.
-const LINES: &[(&str, Option<(&str, &str)>)] = &[
-    ("a", Some(("a", ""))),
-    ("a\n", Some(("a", ""))),
-    ("a\nb", Some(("a", "b"))),
-    ("a\r\nb\r\n", Some(("a", "b\r\n"))),
-    ("a\rb\n", Some(("a\rb", ""))),
-    ("a\r", Some(("a\r", ""))),
-    ("a\r\r\nb", Some(("a\r", "b"))),
-    ("\n\nb", Some(("", "\nb"))),
-    ("\r\n", Some(("", ""))),
-    ("\u{85}\u{2028}\n", Some(("\u{85}\u{2028}", ""))),
-    ("", None),
-];
-
-#[test]
-fn the_first_line_is_split(rt: HostRuntime) {
-    for (text, parts) in LINES {
-        assert_equal(&rt, (*text, split_line(text)), (*text, *parts));
-    }
-}
+use text_lines::{before_comment, decimal_number, hex, split_behind, split_field};
 
 /// Lines, their first fields and what stands behind these.
 const FIELDS: &[(&[u8], Option<(&[u8], &[u8])>)] = &[
@@ -66,6 +44,14 @@ const PARTS: &[(&str, (&str, &str))] = &[
     ("a\nend b\nends\n#end\n", ("a\nend b\nends\n#end\n", "")),
     ("end b\nb end\nend#\nc", ("end b\nb end\nend#\n", "c")),
     ("END\n", ("END\n", "")),
+    ("end\r\nb", ("end\r\n", "b")),
+    ("a\rend\n", ("a\rend\n", "")),
+    ("end\r\r\nb", ("end\r\r\nb", "")),
+    ("\n\nend\n\nb", ("\n\nend\n", "\nb")),
+    (
+        "end\u{85}\nend\u{2028}\nend",
+        ("end\u{85}\nend\u{2028}\nend", ""),
+    ),
     ("", ("", "")),
 ];
 

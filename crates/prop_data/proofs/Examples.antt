@@ -1,6 +1,6 @@
 -- The definitions of a table text, computed on small texts.
 use Rattle.std.specs.Prelude.{◌≡◌, ℕ, true, false, List, [], ◌∷◌, codes, Some, None, option_map, refl}
-use Rattle.text_lines.specs.Lines.{lines}
+use Rattle.std.specs.Str.Lines.{lines}
 use Rattle.text_lines.specs.Fields.{fields}
 use Rattle.prop_data.specs.declared.error.TableErrorKind.TheVariants.{RangeOrder, ValueOutOfType, SyntaxAscii, NoEnd}
 use Rattle.prop_data.specs.Line.{set_header, header, line_of}

@@ -27,7 +27,7 @@ use prop_names::{
 use prop_values::{MapTable, NamesTable, ScriptWithExt};
 use std::alloc::Global;
 use std::collections::BTreeMap;
-use text_lines::split_line;
+use text_lines::laws::lines_in_order;
 
 /// The tables of a table text. Every table may be absent.
 pub struct PropertyDatabase {
@@ -70,7 +70,7 @@ impl Drop for PropertyDatabase {
 impl PropertyDatabase {
     ghost use Rattle.std.specs.Prelude.{◌≡◌, nat_eq, ◌||◌, if◌then◌else◌, true, None, is_some, option_map, OnOk, IfOk, IfErr, IfSome};
     ghost use Rattle.std.specs.Option.{option_copied};
-    ghost use Rattle.text_lines.specs.Lines.{lines};
+    ghost use Rattle.std.specs.Str.Lines.{lines};
     ghost use Rattle.cp_invlist.specs.InversionList.{contains};
     ghost use Rattle.prop_data.specs.Accepted.{AreAccepted};
     ghost use Rattle.prop_data.specs.Forbidden.{IsAllowed, AreAllowed};
@@ -93,15 +93,14 @@ impl PropertyDatabase {
         ensures tables { IfOk result (λ database. tables_of database ≡ tables_in (lines text.now)) }
         ensures fault { IfErr result (IsFault (lines text.now)) }
     {
+        lines_in_order();
         let mut loader = Loader::new(alloc);
-        let mut rest = text;
         let mut number = 1;
-        while let Some((line, behind)) = split_line(rest) {
+        for line in text.lines() {
             if let Err(error) = loader.take(line.as_bytes()) {
                 return Err(error.at(number));
             }
             number += 1;
-            rest = behind;
         }
         loader.finish().map_err(|error| error.at(number))
     }

@@ -1,46 +1,16 @@
 -- The lines of a text that is cut behind a line.
-use Rattle.std.proofs.Common.{◌≡◌, ℕ, ◌<◌, Bool, true, false, ◌&&◌, ◌==◌, ◌⊎◌, cond, List, [], ◌∷◌, ◌++◌, length, refl, sym, ap, ◌∙◌, inl, inr, append_assoc, append-nil, length-append, take, drop, subst, ◌-◌, arith}
+use Rattle.std.proofs.Common.{◌≡◌, ℕ, true, false, ◌⊎◌, cond, List, [], ◌∷◌, ◌++◌, length, refl, sym, ap, ◌∙◌, inl, inr, append_assoc, append-nil, length-append, take, drop, subst, ◌-◌, arith}
 use Rattle.std.specs.Str.{IsUtf8, IsCharBoundary}
 use Rattle.std.proofs.Math.Seq.{take-append_seam, drop-append_seam}
 use Rattle.std.proofs.lemmas.List.{append_cancel_right}
 use Rattle.std.proofs.lemmas.Str.{IsCharBoundary-at_seam}
-use Rattle.std.specs.List.{onto_first}
-use Rattle.text_lines.specs.Lines.{begins_with, lines, IsCut}
+use Rattle.std.specs.Str.Lines.{lines}
+use Rattle.text_lines.specs.Lines.{IsCut}
 use Rattle.text_lines.specs.Fields.{is_sole, through, past}
+use Rattle.text_lines.proofs.LinesLemmas.{lines-ended}
 
 abbrev ended : List ℕ → List ℕ
 ended inner = inner ++ 0x0A ∷ []
-
-begins-ended : (inner rest : List ℕ) → begins_with 0x0A (ended inner ++ rest) ≡ begins_with 0x0A (ended inner)
-begins-ended [] rest = refl
-begins-ended (c ∷ inner) rest = refl
-
--- the three ways in which a byte stands in front of lines
-abbrev in_front : ℕ → Bool → Bool → List (List ℕ) → List (List ℕ)
-in_front c is_end is_return ls = cond is_end ([] ∷ ls) (cond is_return ls (onto_first c ls))
-
-some_lines : (c : ℕ) (a b : Bool) (ls : List (List ℕ)) → 0 < length ls → 0 < length (in_front c a b ls)
-some_lines c true b ls h = omega arith
-some_lines c false true ls h = h
-some_lines c false false [] h = omega arith
-some_lines c false false (l ∷ ls) h = omega arith
-
-lines-some : (inner : List ℕ) → 0 < length (lines (ended inner))
-lines-some [] = omega arith
-lines-some (c ∷ inner) = some_lines c (c == 0x0A) ((c == 0x0D) && begins_with 0x0A (ended inner)) (lines (ended inner)) (lines-some inner)
-
-in_front-append : (c : ℕ) (a b : Bool) (ls more : List (List ℕ)) → 0 < length ls → in_front c a b (ls ++ more) ≡ in_front c a b ls ++ more
-in_front-append c true b ls more h = refl
-in_front-append c false true ls more h = refl
-in_front-append c false false [] more h = absurd (omega arith)
-in_front-append c false false (l ∷ ls) more h = refl
-
-lines-ended : (inner rest : List ℕ) → lines (ended inner ++ rest) ≡ lines (ended inner) ++ lines rest
-lines-ended [] rest = refl
-lines-ended (c ∷ inner) rest =
-    ap (λ ls. in_front c (c == 0x0A) ((c == 0x0D) && begins_with 0x0A (ended inner ++ rest)) ls) (lines-ended inner rest)
-    ∙ (ap (λ b. in_front c (c == 0x0A) ((c == 0x0D) && b) (lines (ended inner) ++ lines rest)) (begins-ended inner rest)
-    ∙ in_front-append c (c == 0x0A) ((c == 0x0D) && begins_with 0x0A (ended inner)) (lines (ended inner)) (lines rest) (lines-some inner))
 
 -- behind some whole lines, which hold no sole word
 pub record PastLines (word text rest : List ℕ) : Type 0 where

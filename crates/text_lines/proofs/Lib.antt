@@ -1,3 +1,4 @@
 pub mod RunsLemmas
 pub mod LinesLemmas
 pub mod CutLemmas
+pub mod LinesInOrder

@@ -2,11 +2,11 @@
 #![tactic(auto)]
 
 mod fields;
+pub mod laws;
 mod lines;
 mod numbers;
 mod parts;
 
 pub use fields::{before_comment, split_field};
-pub use lines::split_line;
 pub use numbers::{decimal_number, hex};
 pub use parts::split_behind;

@@ -1,6 +1,6 @@
 //! A text cut behind one of its lines.
 ghost use Rattle.std.specs.Prelude.{◌≡◌, ◌++◌};
-ghost use Rattle.text_lines.specs.Lines.{lines};
+ghost use Rattle.std.specs.Str.Lines.{lines};
 ghost use Rattle.text_lines.specs.Fields.{is_sole, through, past};
 
 use crate::fields::{before_comment, split_field};

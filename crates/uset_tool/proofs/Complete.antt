@@ -2,7 +2,7 @@
 use Rattle.std.proofs.Common.{◌≡◌, ℕ, Bool, true, false, cond, List, ◌++◌, Option, None, Some, IfSome, refl, ap, subst, inl, inr, arith}
 use Rattle.std.proofs.lemmas.Bool.{both_ways}
 use Rattle.std.specs.Str.{chars}
-use Rattle.text_lines.specs.Lines.{lines}
+use Rattle.std.specs.Str.Lines.{lines}
 use Rattle.prop_data.specs.TableText.{table_fault, tables_in}
 use Rattle.uset_tool.specs.Words.{Command, evaluate, count_tables, generate, table_fault_text}
 use Rattle.uset_variables.specs.Variables.{no_variables}

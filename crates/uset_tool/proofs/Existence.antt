@@ -8,7 +8,7 @@ use Rattle.std.proofs.lemmas.Str.{encodes-append, encodes-chars, scalars-chars, 
 use Rattle.std.specs.List.{list_all}
 use Rattle.std.specs.Str.{IsUtf8, is_utf8, chars, all_scalars, bytes_eq}
 use lib.Utf8.{scalar}
-use Rattle.text_lines.specs.Lines.{lines}
+use Rattle.std.specs.Str.Lines.{lines}
 use Rattle.text_lines.specs.Numbers.{hex}
 use Rattle.prop_data.specs.declared.error.TableError.{TableError}
 use Rattle.prop_data.specs.Forbidden.{AreAllowed}

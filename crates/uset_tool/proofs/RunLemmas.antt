@@ -12,7 +12,7 @@ use Rattle.prop_data.specs.TableText.{table_fault, tables_in}
 use Rattle.uset_tool.specs.declared.status.Status.{Status}
 use Rattle.uset_tool.specs.declared.status.Status.TheVariants.{Done, SomeErr, Usage, Tables, ReadFault, WriteFault, NoMemory, NotText, TooLong}
 use Rattle.uset_variables.specs.Variables.{no_variables}
-use Rattle.text_lines.specs.Lines.{lines}
+use Rattle.std.specs.Str.Lines.{lines}
 use Rattle.uset_tool.specs.Answer.{ScriptAnswer}
 use Rattle.uset_tool.specs.Counts.{counts_text}
 use Rattle.uset_tool.specs.Device.{limit, TakesAll, IsFront, IsProperFront}

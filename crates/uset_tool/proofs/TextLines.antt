@@ -1,12 +1,12 @@
 -- The lines of a text are texts, and so is what stands in front of an ASCII character in one, and behind it.
-use Rattle.std.proofs.Common.{◌≡◌, ℕ, ◌<◌, Bool, true, false, cond, ◌&&◌, ◌==◌, List, [], ◌∷◌, ◌++◌, length, refl, sym, ap, subst, append_assoc, append-nil, arith}
+use Rattle.std.proofs.Common.{◌≡◌, ℕ, ◌-◌, ◌<◌, Bool, true, false, cond, ◌==◌, List, [], ◌∷◌, ◌++◌, length, get_or, take, refl, sym, ap, subst, append_assoc, append-nil, arith}
 use Rattle.std.proofs.lemmas.Bool.{eqb-true}
 use Rattle.std.proofs.lemmas.List.{length-append}
 use Rattle.std.proofs.Math.Seq.{get_or-append_seam, take-append_seam, drop-append_seam}
-use Rattle.std.proofs.lemmas.Str.{IsUtf8-append, IsUtf8-take, IsUtf8-drop, IsCharBoundary-before_ascii, IsUtf8-past_char, encode_ascii}
-use Rattle.std.specs.List.{onto_first, AllByRecursion}
+use Rattle.std.proofs.lemmas.Str.{IsUtf8-take, IsUtf8-drop, IsCharBoundary-before_ascii, IsUtf8-past_char, encode_ascii}
+use Rattle.std.specs.List.{onto_first, slice_split, AllByRecursion}
 use Rattle.std.specs.Str.{IsUtf8}
-use Rattle.text_lines.specs.Lines.{begins_with, lines}
+use Rattle.std.specs.Str.Lines.{lines, lines_of_parts, strip_carriage_return}
 use Rattle.text_lines.specs.Fields.{is_sole, past}
 
 -- behind an ASCII character
@@ -24,13 +24,17 @@ parted xs ys c low u =
       behind_ascii c ys low (subst IsUtf8 (drop-append_seam xs (c ∷ ys)) (IsUtf8-drop (xs ++ c ∷ ys) (length xs) u at)),
     )
 
--- with these bytes in front of the first line
+abbrev pub AreTexts : List (List ℕ) → Type 0
+AreTexts ls = AllByRecursion IsUtf8 ls
+
+-- the parts between the LFs of a text
+abbrev parts : List ℕ → List (List ℕ)
+parts bytes = slice_split (λ b. b == 0x0A) bytes
+
+-- with these bytes in front of the first part
 abbrev prefixed : List ℕ → List (List ℕ) → List (List ℕ)
 prefixed w [] = w ∷ []
 prefixed w (l ∷ ls) = (w ++ l) ∷ ls
-
-abbrev pub AreTexts : List (List ℕ) → Type 0
-AreTexts ls = AllByRecursion IsUtf8 ls
 
 not_prefixed : (ls : List (List ℕ)) → AreTexts (prefixed [] ls) → AreTexts ls
 not_prefixed [] h = tt
@@ -40,26 +44,39 @@ onto : (w : List ℕ) (c : ℕ) (ls : List (List ℕ)) → AreTexts (prefixed (w
 onto w c [] h = h
 onto w c (l ∷ ls) (first, more) = (subst IsUtf8 (append_assoc w (c ∷ []) l) first, more)
 
-line_ends : (w : List ℕ) (ls : List (List ℕ)) → IsUtf8 w → AreTexts ls → AreTexts (prefixed w ([] ∷ ls))
-line_ends w ls first more = (subst IsUtf8 (sym (append-nil w)) first, more)
-
-lines_prefixed : (bytes w : List ℕ) → IsUtf8 (w ++ bytes) → AreTexts (prefixed w (lines bytes))
-lines_prefixed [] w u = (subst IsUtf8 (append-nil w) u, tt)
-lines_prefixed (c ∷ bytes) w u = by (c == 0x0A) (c == 0x0D) (begins_with 0x0A bytes) refl refl (λ v k. lines_prefixed bytes v k)
+parts_prefixed : (bytes w : List ℕ) → IsUtf8 (w ++ bytes) → AreTexts (prefixed w (parts bytes))
+parts_prefixed [] w u = (u, tt)
+parts_prefixed (c ∷ bytes) w u = by (c == 0x0A) refl (λ v k. parts_prefixed bytes v k)
   where
-    at : (d : ℕ) → d < 128 → (c == d) ≡ true → IsUtf8 w × IsUtf8 bytes
-    at d low e = parted w bytes c (subst (λ n. n < 128) (sym (eqb-true c d e)) low) u
+    by : (x : Bool) → (c == 0x0A) ≡ x → ((v : List ℕ) → IsUtf8 (v ++ bytes) → AreTexts (prefixed v (parts bytes))) →
+        AreTexts (prefixed w (cond x ([] ∷ parts bytes) (onto_first c (parts bytes))))
+    by true e more =
+        let p = parted w bytes c (subst (λ n. n < 128) (sym (eqb-true c 0x0A e)) (omega arith)) u in
+        (subst IsUtf8 (sym (append-nil w)) p.0, not_prefixed (parts bytes) (more [] p.1))
+    by false e more = onto w c (parts bytes) (more (w ++ c ∷ []) (subst IsUtf8 (sym (append_assoc w (c ∷ []) bytes)) u))
 
-    by : (x y z : Bool) → (c == 0x0A) ≡ x → (c == 0x0D) ≡ y → ((v : List ℕ) → IsUtf8 (v ++ bytes) → AreTexts (prefixed v (lines bytes))) →
-        AreTexts (prefixed w (cond x ([] ∷ lines bytes) (cond (y && z) (lines bytes) (onto_first c (lines bytes)))))
-    by true y z e f more = let p = at 0x0A (omega arith) e in line_ends w (lines bytes) p.0 (not_prefixed (lines bytes) (more [] p.1))
-    by false true true e f more = let p = at 0x0D (omega arith) f in more w (IsUtf8-append w bytes p.0 p.1)
-    by false true false e f more = onto w c (lines bytes) (more (w ++ c ∷ []) (subst IsUtf8 (sym (append_assoc w (c ∷ []) bytes)) u))
-    by false false z e f more = onto w c (lines bytes) (more (w ++ c ∷ []) (subst IsUtf8 (sym (append_assoc w (c ∷ []) bytes)) u))
+stripped : (line : List ℕ) → IsUtf8 line → IsUtf8 (strip_carriage_return line)
+stripped [] u = u
+stripped (c ∷ cs) u = by (get_or (c ∷ cs) (length (c ∷ cs) - 1) 0 == 0x0D) refl
+  where
+    by : (x : Bool) → (get_or (c ∷ cs) (length (c ∷ cs) - 1) 0 == 0x0D) ≡ x → IsUtf8 (cond x (take (length (c ∷ cs) - 1) (c ∷ cs)) (c ∷ cs))
+    by true e =
+        let low = subst (λ n. n < 128) (sym (eqb-true _ 0x0D e)) (omega arith) in
+        IsUtf8-take (c ∷ cs) (length (c ∷ cs) - 1) u (IsCharBoundary-before_ascii (c ∷ cs) (length (c ∷ cs) - 1) (omega arith) low)
+    by false e = u
+
+lines_of : (ls : List (List ℕ)) → AreTexts ls → AreTexts (lines_of_parts ls)
+lines_of [] h = tt
+lines_of (l ∷ []) (text, more) = by (length l == 0)
+  where
+    by : (x : Bool) → AreTexts (cond x [] (l ∷ []))
+    by true = tt
+    by false = (text, tt)
+lines_of (l ∷ m ∷ ls) (text, more) = (stripped l text, lines_of (m ∷ ls) more)
 
 -- the lines of a text
 pub lines_are_texts : (bytes : List ℕ) → IsUtf8 bytes → AreTexts (lines bytes)
-lines_are_texts bytes u = not_prefixed (lines bytes) (lines_prefixed bytes [] u)
+lines_are_texts bytes u = lines_of (parts bytes) (not_prefixed (parts bytes) (parts_prefixed bytes [] u))
 
 -- so are those behind one of them
 pub past_are_texts : (word : List ℕ) (ls : List (List ℕ)) → AreTexts ls → AreTexts (past word ls)

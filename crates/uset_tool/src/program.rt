@@ -5,7 +5,7 @@ ghost use Rattle.uset_tool.specs.Device.{Rose, NoFault, count_after};
 ghost use Rattle.uset_tool.specs.Commands.{command_seen};
 ghost use Rattle.uset_tool.specs.Status.{is_read_fault, is_write_fault};
 ghost use Rattle.uset_tool.specs.Words.{is_known, table_fault_text, usage_text};
-ghost use Rattle.text_lines.specs.Lines.{lines};
+ghost use Rattle.std.specs.Str.Lines.{lines};
 ghost use Rattle.prop_data.specs.Database.{tables_of};
 ghost use Rattle.prop_data.specs.Forbidden.{AreAllowed};
 ghost use Rattle.uset_tool.specs.Run.{Answers, Results, Evaluates, Counts, SaysCounts, Generates, SaysSizes, LacksSyntax, Writes, AppendsAnswer, IsLeft, HasStatus, IsSettled, IsAccepted, IsAnswered, EndsAs, Says, SaysError, ScriptWrites, is_of_text};

@@ -1,6 +1,6 @@
 //! The answers to a script.
 ghost use Rattle.std.specs.Prelude.{◌≡◌};
-ghost use Rattle.text_lines.specs.Lines.{lines};
+ghost use Rattle.std.specs.Str.Lines.{lines};
 ghost use Rattle.prop_data.specs.Database.{tables_of};
 ghost use Rattle.prop_data.specs.Forbidden.{AreAllowed};
 ghost use Rattle.uset_variables.specs.Variables.{no_variables};
@@ -13,7 +13,7 @@ use cp_invlist::laws::one_list_of_ranges;
 use cp_strset::laws::one_list;
 use prop_data::PropertyDatabase;
 use std::alloc::Global;
-use text_lines::split_line;
+use text_lines::laws::lines_in_order;
 use uset_parse::laws::one_answer;
 use uset_parse::{Resolver, VariableMap};
 
@@ -30,20 +30,19 @@ pub(crate) fn answer_script<K: Sink>(
         (K.written sink.new) result }
     ensures counted { K.faults sink.new ≡ count_after (has_failed result) (K.faults sink.old) }
 {
-    // The laws by which a line has one answer, so that what is written begins every answer.
+    // The laws by which lines come in order and each has one answer, so that what is written begins every answer.
+    lines_in_order();
     one_answer();
     one_list_of_ranges();
     one_list();
-    let mut rest = script;
     let mut has_err = false;
     let mut variables = VariableMap::new(alloc);
     let mut resolver = Resolver::new(alloc, database);
     let mut pending = Vec::new(alloc);
-    while let Some((line, behind)) = split_line(rest) {
+    for line in script.lines() {
         let answer = answer_line(alloc, line, &mut variables, &mut resolver)?;
         gather(sink, &mut pending, answer.text.as_bytes())?;
         has_err |= answer.is_err;
-        rest = behind;
     }
     write_all(sink, &pending)?;
     Ok(has_err)

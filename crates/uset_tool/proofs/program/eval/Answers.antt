@@ -1,5 +1,5 @@
 use Rattle.std.proofs.Common.{List, ℕ, ap, ◌∙◌, sym, subst}
-use Rattle.text_lines.specs.Lines.{lines}
+use Rattle.std.specs.Str.Lines.{lines}
 use Rattle.prop_data.specs.Database.{IsFault}
 use Rattle.prop_data.specs.Forbidden.{AreAllowed}
 use Rattle.prop_data.specs.Tables.{Tables}

@@ -1,12 +1,9 @@
-use Rattle.std.proofs.Common.{length}
-use denote.Shadow.{shadow}
-use denote.Text.{Utf8}
+use Rattle.std.proofs.Common.{◌≡◌, ◌+◌, length}
+use Rattle.std.specs.Str.Iter.{lines_rest}
+use Rattle.std.specs.Str.Lines.{lines}
 use Rattle.prop_data.specs.Loading.{kept}
 use Rattle.prop_data.proofs.Reading.{StandsAt}
 use Rattle.prop_data.proofs.database.PropertyDatabase.from_text.Given as goal
 
 abbrev pub invariant-loop-line : goal.invariant-loop-line
-invariant-loop-line l = shadow (Utf8 l.rest) × StandsAt l.text l.rest (kept l.loader) l.number
-
-abbrev pub decreases-loop-line : goal.decreases-loop-line
-decreases-loop-line l = length l.rest
+invariant-loop-line l = StandsAt l.text (lines (lines_rest l.line-iterator)) (kept l.loader) l.number × (l.number ≡ 1 + length l.yielded)
