@@ -3,7 +3,7 @@ use Rattle.std.proofs.Common.{◌≡◌, ◌≢◌, ℕ, suc, ◌<◌, ◌==◌,
 use Rattle.std.proofs.lemmas.Bool.{cond-false, ne_eqb, eqb-true, eq-eqb}
 use Rattle.std.specs.Str.Pattern.{LacksTextAt, FindsTextPrefix}
 use Rattle.std.specs.List.{onto_first}
-use Rattle.uset_tool.specs.Script.{stripped, onto_front, at_space, spaced}
+use Rattle.uset_tool.specs.Script.{stripped, onto_front, at_space}
 
 -- no space stands in the text
 abbrev pub HasNoSpace : List ℕ → Type 0
@@ -19,14 +19,6 @@ at_space-some (x ∷ xs) ys h = cond-false (x == 0x20) _ _ (ne_eqb x 0x20 (h 0 (
 pub at_space-none : (xs : List ℕ) → HasNoSpace xs → at_space xs ≡ None
 at_space-none [] h = refl
 at_space-none (x ∷ xs) h = cond-false (x == 0x20) _ _ (ne_eqb x 0x20 (h 0 (omega arith))) ∙ ap (option_map (onto_front x)) (at_space-none xs (HasNoSpace-tail x xs h))
-
-pub spaced-some : (xs ys : List ℕ) → HasNoSpace xs → spaced (xs ++ 0x20 ∷ ys) ≡ xs ∷ spaced ys
-spaced-some [] ys h = refl
-spaced-some (x ∷ xs) ys h = cond-false (x == 0x20) _ _ (ne_eqb x 0x20 (h 0 (omega arith))) ∙ ap (onto_first x) (spaced-some xs ys (HasNoSpace-tail x xs h))
-
-pub spaced-none : (xs : List ℕ) → HasNoSpace xs → spaced xs ≡ xs ∷ []
-spaced-none [] h = refl
-spaced-none (x ∷ xs) h = cond-false (x == 0x20) _ _ (ne_eqb x 0x20 (h 0 (omega arith))) ∙ ap (onto_first x) (spaced-none xs (HasNoSpace-tail x xs h))
 
 -- the two parts of a text, where there are two
 pub at_space_cut : (text : List ℕ) (r : Option (Bor (List ℕ) × Bor (List ℕ))) →

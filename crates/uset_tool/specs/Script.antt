@@ -1,6 +1,6 @@
 -- The lines of a script.
 use Rattle.std.specs.Prelude.{ℕ, Bool, true, ◌&&◌, ◌||◌, nat_lt, nat_le, ◌==◌, List, [], ◌∷◌, Option, Some, None, option_map, option_and_then, codes, if◌then◌else◌}
-use Rattle.std.specs.List.{onto_first}
+use Rattle.std.specs.List.{slice_split}
 use Rattle.text_lines.specs.Numbers.{hex}
 
 -- What a name is to be bound to.
@@ -52,8 +52,7 @@ character_of field = option_and_then as_character (hex field)
 
 -- the fields of a text, between which one space stands
 abbrev pub spaced : List ℕ → List (List ℕ)
-spaced [] = [] ∷ []
-spaced (c ∷ text) = if c == 0x20 then [] ∷ spaced text else onto_first c (spaced text)
+spaced text = slice_split (λ c. c == 0x20) text
 
 abbrev pub both : Option ℕ → Option (List ℕ) → Option (List ℕ)
 both None cs = None

@@ -71,18 +71,12 @@ fn characters(alloc: Global, text: &str) -> Result<Option<String>, NoMemory>
     ensures { IfOk result (λ s. option_map (λ t. chars (string_bytes t)) s ≡ characters_of (spaced text.now)) }
 {
     let mut string = String::new(alloc);
-    let mut rest = text;
-    while let Some((field, behind)) = rest.split_once(' ') {
+    for field in text.split(' ') {
         let Some(c) = character_of(field) else {
             return Ok(None);
         };
         string.push(c)?;
-        rest = behind;
     }
-    let Some(c) = character_of(rest) else {
-        return Ok(None);
-    };
-    string.push(c)?;
     Ok(Some(string))
 }
 
@@ -127,10 +121,7 @@ fn definition_of(alloc: Global, text: &str) -> Result<Option<Definition<'_>>, No
     if let Some(fields) = strip(text, "str") {
         return read_string(alloc, fields);
     }
-    match strip(text, "set ") {
-        Some(source) => Ok(Some(Definition::Set(source))),
-        None => Ok(None),
-    }
+    Ok(strip(text, "set ").map(Definition::Set))
 }
 
 /// What stands behind `let `: a name, a space, and what it is to be bound to.
