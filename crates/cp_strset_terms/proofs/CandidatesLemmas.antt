@@ -1,5 +1,5 @@
 -- What keeps the candidates of the sets on a stack in step with the term.
-use Rattle.std.proofs.Common.{◌≡◌, ◌≤◌, ◌<◌, ◌+◌, ◌||◌, ◌&&◌, not, ℕ, All, Bool, true, false, Some, List, [], ◌∷◌, ◌++◌, length, take, drop, get_or, reverse, refl, sym, subst, ap, ◌∙◌, arith, inl, inr}
+use Rattle.std.proofs.Common.{◌≡◌, ◌≤◌, ◌<◌, ◌+◌, ◌||◌, not, ℕ, All, Bool, true, false, Some, List, [], ◌∷◌, ◌++◌, length, take, drop, get_or, reverse, refl, sym, subst, ap, ◌∙◌, arith, inl, inr}
 use Rattle.std.proofs.Math.Bool.{or-true}
 use Rattle.std.proofs.Math.ListN.{set, length-set}
 use Rattle.std.proofs.lemmas.Bool.{and_parts}

@@ -48,16 +48,14 @@ kept_others test list place d old kept within fails before =
     ∙ ap (λ l. old ++ l) (sym (filter-more test list place d within ∙ (ap (λ l. filter test (map (λ text. text.now) (take place list)) ++ l) (cond-false _ _ _ fails) ∙ append-nil _)))
 
 -- what is kept of one piece more
-pub kept_piece : (test : List ℕ → Bool) (list : List (Bor (List ℕ))) (start count : ℕ) (old kept : List (List ℕ)) →
-    old ≡ filter test (map (λ text. text.now) (take start list)) →
-    kept ≡ old ++ filter test (map (λ text. text.now) (take (start + count - start) (drop start list))) →
-    kept ≡ filter test (map (λ text. text.now) (take (start + count) list))
-kept_piece test list start count old kept before is =
-    let same : start + count - start ≡ count = omega arith in
-    is
-    ∙ (ap₂ ◌++◌ before (ap (λ n. filter test (map (λ text. text.now) (take n (drop start list)))) same)
-    ∙ (sym (filter-append test (map (λ text. text.now) (take start list)) (map (λ text. text.now) (take count (drop start list))))
-    ∙ ap (filter test) (sym (map-append (λ text. text.now) (take start list) (take count (drop start list))) ∙ ap (map (λ text. text.now)) (sym (take-add start count list)))))
+pub kept_piece : (test : List ℕ → Bool) (front rest : List (Bor (List ℕ))) (old kept all : List (List ℕ)) →
+    old ++ filter test (map (λ text. text.now) (front ++ rest)) ≡ all → kept ≡ old ++ filter test (map (λ text. text.now) front) →
+    kept ++ filter test (map (λ text. text.now) rest) ≡ all
+kept_piece test front rest old kept all before is =
+    ap (λ l. l ++ filter test (map (λ text. text.now) rest)) is
+    ∙ (append_assoc old (filter test (map (λ text. text.now) front)) (filter test (map (λ text. text.now) rest))
+    ∙ (ap (λ l. old ++ l) (sym (filter-append test (map (λ text. text.now) front) (map (λ text. text.now) rest)) ∙ ap (filter test) (sym (map-append (λ text. text.now) front rest)))
+    ∙ before))
 
 -- what one string more adds to a list
 pub holds-more : (strings : List (String Global)) (i : ℕ) (d : String Global) (string text : List ℕ) → i < length strings → string ≡ string_bytes (get_or strings i d) →

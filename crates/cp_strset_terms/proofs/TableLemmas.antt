@@ -1,7 +1,8 @@
 -- Texts in order, each once.
-use Rattle.std.proofs.Common.{◌≡◌, ◌≢◌, ◌<◌, ◌||◌, ℕ, zero, suc, Bool, true, false, Bor, List, [], ◌∷◌, All, length, map, take, drop, get_or, refl, sym, subst, ap, ◌∙◌, arith, nat_cmp, nat_eq, inl, inr}
+use Rattle.std.proofs.Common.{◌≡◌, ◌≢◌, ◌<◌, ◌||◌, ℕ, zero, suc, Bool, true, false, Bor, List, [], ◌∷◌, ◌++◌, All, length, map, take, drop, get_or, refl, sym, subst, ap, ◌∙◌, arith, nat_cmp, nat_eq, inl, inr}
+use Rattle.std.proofs.Math.Seq.{take-append_seam, drop-append_seam}
 use Rattle.std.proofs.lemmas.Bool.{cases_Bool, cond-true, cond-false}
-use Rattle.std.proofs.lemmas.List.{get_or-take, get_or-map, length-take, length-map, take-map, drop-map}
+use Rattle.std.proofs.lemmas.List.{get_or-take, get_or-map, length-take, length-map, map-append}
 use Rattle.std.proofs.lemmas.List.Elements.{All-from_recursion, All-map, All-take, All-drop}
 use Rattle.std.proofs.lemmas.Slice.Eq.{bytes_eq-Decides}
 use Rattle.std.specs.Cmp.Lexicographic.{slice_cmp, pointwise}
@@ -63,9 +64,6 @@ AllPairs-drop zero list h = h
 AllPairs-drop (suc n) [] h = h
 AllPairs-drop (suc n) (x ∷ xs) h = AllPairs-drop n xs (λ i j d below within. h (suc i) (suc j) d (omega arith) (omega arith))
 
-piece_of : (start count : ℕ) (list : List (Bor (List ℕ))) → take count (drop start (map (λ text. text.now) list)) ≡ map (λ text. text.now) (take count (drop start list))
-piece_of start count list = ap (take count) (drop-map (λ text. text.now) start list) ∙ take-map (λ text. text.now) count (drop start list)
-
 pub canonical-take : (n : ℕ) (list : List (List ℕ)) → AreCanonical list → AreCanonical (take n list)
 canonical-take n list h = record {
   ascending = AllPairs-take n list h.ascending;
@@ -78,7 +76,13 @@ canonical-drop n list h = record {
   none_of_one = All-drop (λ s. length (chars s) ≢ 1) n list h.none_of_one;
 }
 
--- a piece of a list in order is in order
-pub piece_canonical : (start count : ℕ) (list : List (Bor (List ℕ))) → AreCanonical (map (λ text. text.now) list) → AreCanonical (map (λ text. text.now) (take count (drop start list)))
-piece_canonical start count list h =
-    subst AreCanonical (piece_of start count list) (canonical-take count (drop start (map (λ text. text.now) list)) (canonical-drop start (map (λ text. text.now) list) h))
+-- the parts of a list in order are in order
+pub canonical_parts : (front rest : List (Bor (List ℕ))) → AreCanonical (map (λ text. text.now) (front ++ rest)) →
+    AreCanonical (map (λ text. text.now) front) × AreCanonical (map (λ text. text.now) rest)
+canonical_parts front rest h =
+    let ahead = map (λ text. text.now) front in
+    let behind = map (λ text. text.now) rest in
+    let whole : AreCanonical (ahead ++ behind) = subst AreCanonical (map-append (λ text. text.now) front rest) h in (
+      subst AreCanonical (take-append_seam ahead behind) (canonical-take (length ahead) (ahead ++ behind) whole),
+      subst AreCanonical (drop-append_seam ahead behind) (canonical-drop (length ahead) (ahead ++ behind) whole),
+    )

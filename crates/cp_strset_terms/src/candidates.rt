@@ -6,7 +6,7 @@ ghost use Rattle.cp_terms.specs.Terms.{value_of};
 ghost use Rattle.cp_strset_terms.specs.Leaves.{leaf_holds, strings_of, FitsNumbers};
 ghost use Rattle.cp_strset_terms.specs.Steps.{without_complements};
 
-use crate::leaf::{Leaf, strings};
+use crate::leaf::Leaf;
 use cp_invlist::NoMemory;
 use cp_terms::{SetOperation, Step};
 use std::alloc::Global;
@@ -72,7 +72,7 @@ impl Sources {
         ensures { OnOk result (FollowsStep leaves.now (Push index) self.old self.new) }
     {
         match leaves.get(index) {
-            Some(leaf) => self.put_leaf(index, strings(leaf).len()),
+            Some(leaf) => self.put_leaf(index, leaf.strings().len()),
             None => self.put_none(),
         }
     }

@@ -2,7 +2,7 @@
 ghost use Rattle.std.specs.Prelude.{◌≡◌, IfOk, map};
 ghost use Rattle.std.specs.String.{string_bytes};
 ghost use Rattle.cp_strset.specs.StringList.{AreCanonical};
-ghost use Rattle.cp_strset_terms.specs.Leaves.{code_points_of, strings_of};
+ghost use Rattle.cp_strset_terms.specs.Leaves.{code_points_of, strings_of, is_numbered};
 
 use crate::number_set::NumberSet;
 use cp_invlist::{CodePointInversionList, NoMemory};
@@ -20,24 +20,33 @@ pub enum Leaf<'a> {
     Numbered(&'a CodePointInversionListAndStringList, &'a NumberSet),
 }
 
-/// The code points of a leaf.
-fn code_points<'a>(leaf: &Leaf<'a>) -> &'a CodePointInversionList
-    ensures { result.now ≡ code_points_of leaf.now }
-{
-    match *leaf {
-        Leaf::CodePoints(list) => list,
-        Leaf::WithStrings(set) | Leaf::Numbered(set, _) => set.code_points(),
+impl<'a> Leaf<'a> {
+    /// The code points.
+    fn code_points(&self) -> &'a CodePointInversionList
+        ensures { result.now ≡ code_points_of self.now }
+    {
+        match *self {
+            Leaf::CodePoints(list) => list,
+            Leaf::WithStrings(set) | Leaf::Numbered(set, _) => set.code_points(),
+        }
     }
-}
 
-/// The strings of a leaf, in order.
-pub(crate) fn strings<'a>(leaf: &Leaf<'a>) -> &'a [String]
-    ensures bytes { map string_bytes result.now ≡ strings_of leaf.now }
-    ensures canonical { AreCanonical (strings_of leaf.now) }
-{
-    match *leaf {
-        Leaf::CodePoints(_) => &[],
-        Leaf::WithStrings(set) | Leaf::Numbered(set, _) => set.strings(),
+    /// The strings, in order.
+    pub(crate) fn strings(&self) -> &'a [String]
+        ensures bytes { map string_bytes result.now ≡ strings_of self.now }
+        ensures canonical { AreCanonical (strings_of self.now) }
+    {
+        match *self {
+            Leaf::CodePoints(_) => &[],
+            Leaf::WithStrings(set) | Leaf::Numbered(set, _) => set.strings(),
+        }
+    }
+
+    /// Whether the strings have numbers.
+    pub(crate) fn is_numbered(&self) -> bool
+        ensures { result ≡ is_numbered self.now }
+    {
+        matches!(self, Leaf::Numbered(_, _))
     }
 }
 
@@ -50,7 +59,7 @@ pub(crate) fn code_point_lists<'a>(
 {
     let mut lists = Vec::with_capacity(alloc, leaves.len())?;
     for leaf in leaves {
-        lists.push(code_points(leaf))?;
+        lists.push(leaf.code_points())?;
     }
     Ok(lists)
 }

@@ -9,7 +9,7 @@ ghost use Rattle.cp_strset_terms.specs.Leaves.{leaf_holds, strings_of, FitsNumbe
 ghost use Rattle.cp_strset_terms.specs.NumberSets.{has_number};
 ghost use Rattle.cp_strset_terms.specs.Places.{IsAt};
 
-use crate::leaf::{Leaf, strings};
+use crate::leaf::Leaf;
 use crate::number_set::NumberSet;
 use crate::string_numbers::StringNumbers;
 use cp_invlist::{CodePointInversionList, CodePointInversionListBuilder, NoMemory};
@@ -66,7 +66,7 @@ fn numbers_of_leaf<'a>(
 {
     match *leaf {
         Leaf::Numbered(_, set) => Ok(LeafNumbers::Kept(set)),
-        _ => Ok(LeafNumbers::LookedUp(numbers_of_strings(alloc, all, strings(leaf))?)),
+        _ => Ok(LeafNumbers::LookedUp(numbers_of_strings(alloc, all, leaf.strings())?)),
     }
 }
 

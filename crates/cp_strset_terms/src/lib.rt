@@ -15,7 +15,7 @@ mod leaf_numbers;
 mod members;
 mod narrowed;
 mod number_set;
-mod numbers;
+mod places;
 mod string_numbers;
 mod table;
 

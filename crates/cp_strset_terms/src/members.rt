@@ -12,7 +12,7 @@ use crate::candidates::candidates;
 use crate::leaf::Leaf;
 use crate::narrowed::table_of_term;
 use crate::number_set::PIECE;
-use crate::numbers::places_of_leaves;
+use crate::places::places_of_leaves;
 use crate::string_numbers::StringNumbers;
 use cp_invlist::{CodePointInversionList, NoMemory};
 use cp_terms::Step;
@@ -105,11 +105,8 @@ fn kept_texts(
         filter (λ text. value_of (leaf_holds leaves.now text) steps.now) (texts table.now)) }
 {
     let mut strings = Vec::new(alloc);
-    let mut start = 0;
-    while start < table.len() {
-        let end = start + PIECE.min(table.len() - start);
-        push_kept(alloc, &mut strings, &table[start..end], leaves, steps)?;
-        start = end;
+    for piece in table.chunks(PIECE) {
+        push_kept(alloc, &mut strings, piece, leaves, steps)?;
     }
     Ok(strings)
 }

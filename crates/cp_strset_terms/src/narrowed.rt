@@ -7,11 +7,11 @@ ghost use Rattle.cp_invlist.specs.InversionList.{contains};
 ghost use Rattle.cp_invlist.specs.Ranges.{in_range};
 ghost use Rattle.cp_strset.specs.StringList.{AreCanonical, holds};
 ghost use Rattle.cp_terms.specs.Terms.{value_of};
-ghost use Rattle.cp_strset_terms.specs.Leaves.{leaf_holds, strings_of, is_numbered, FitsNumbers};
+ghost use Rattle.cp_strset_terms.specs.Leaves.{leaf_holds, strings_of, FitsNumbers};
 ghost use Rattle.cp_strset_terms.specs.NumberSets.{has_number};
 ghost use Rattle.cp_strset_terms.specs.Places.{texts, IsAt};
 
-use crate::leaf::{Leaf, strings};
+use crate::leaf::Leaf;
 use crate::leaf_numbers::numbers_of_term;
 use crate::number_set::{NumberSet, PIECE};
 use crate::string_numbers::StringNumbers;
@@ -24,26 +24,19 @@ use std::alloc::Global;
 /// A term has few strings where its candidates have so many times as many, or where it has no more than so many.
 const FEW: usize = 16;
 
-/// Whether the leaf has numbers.
-fn is_numbered(leaf: &Leaf<'_>) -> bool
-    ensures { result ≡ is_numbered leaf.now }
-{
-    matches!(leaf, Leaf::Numbered(_, _))
-}
-
 /// How many strings the leaves have together.
 fn count_strings(leaves: &[Leaf<'_>]) -> usize {
     leaves.iter().fold(
         0,
-        |count: usize, leaf| count.saturating_add(strings(leaf).len()),
+        |count: usize, leaf| count.saturating_add(leaf.strings().len()),
     )
 }
 
 /// How many strings the leaves without numbers have together.
 fn count_looked_up(leaves: &[Leaf<'_>]) -> usize {
-    leaves.iter().filter(|leaf| !is_numbered(leaf)).fold(
+    leaves.iter().filter(|leaf| !leaf.is_numbered()).fold(
         0,
-        |count: usize, leaf| count.saturating_add(strings(leaf).len()),
+        |count: usize, leaf| count.saturating_add(leaf.strings().len()),
     )
 }
 
@@ -55,7 +48,7 @@ fn unnumbered<'a>(alloc: Global, leaves: &[Leaf<'a>]) -> Result<Vec<Leaf<'a>>, N
 {
     let mut rest = Vec::new(alloc);
     for leaf in leaves {
-        if !is_numbered(leaf) {
+        if !leaf.is_numbered() {
             rest.push(*leaf)?;
         }
     }
@@ -64,7 +57,7 @@ fn unnumbered<'a>(alloc: Global, leaves: &[Leaf<'a>]) -> Result<Vec<Leaf<'a>>, N
 
 /// Whether numbers are worth a look: some candidate has them, and no more strings are to be looked up than gone along else.
 fn are_worth(leaves: &[Leaf<'_>], candidates: &[Leaf<'_>]) -> bool {
-    candidates.iter().any(is_numbered) && count_looked_up(leaves) <= count_strings(candidates)
+    candidates.iter().any(Leaf::is_numbered) && count_looked_up(leaves) <= count_strings(candidates)
 }
 
 /// The strings at the places of the range, as far as there are any.

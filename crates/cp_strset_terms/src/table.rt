@@ -7,7 +7,7 @@ ghost use Rattle.cp_strset.specs.StringList.{AreCanonical, holds};
 ghost use Rattle.cp_strset_terms.specs.Leaves.{strings_of};
 ghost use Rattle.cp_strset_terms.specs.Places.{texts};
 
-use crate::leaf::{Leaf, strings};
+use crate::leaf::Leaf;
 use cp_invlist::NoMemory;
 use std::alloc::Global;
 
@@ -41,7 +41,7 @@ pub(crate) fn gathered_strings<'a>(
 {
     let mut table = Vec::new(alloc);
     for leaf in leaves {
-        push_strings(&mut table, strings(leaf))?;
+        push_strings(&mut table, leaf.strings())?;
     }
     Ok(table)
 }

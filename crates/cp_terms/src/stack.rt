@@ -36,9 +36,7 @@ impl Stack {
     {
         if let Some(index) = self.named {
             self.named = None;
-            let mut block = Block::EMPTY;
-            stretch.read(index, &mut block);
-            self.made.push(block)?;
+            self.made.push(stretch.block(index))?;
         }
         Ok(())
     }

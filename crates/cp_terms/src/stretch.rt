@@ -32,20 +32,19 @@ impl Stretch<'_> {
         stretch_words(self.sets.get(index)?, self.start)
     }
 
-    /// Reads the block of the set with the index, the empty one where there is none.
-    pub(crate) fn read(&self, index: usize, block: &mut Block)
-        ensures { (i j : ℕ) → i < 256 → j < 64 → block_has block.new i j ≡ stretch_has self.now i j index }
+    /// The block of the set with the index, the empty one where there is none.
+    pub(crate) fn block(&self, index: usize) -> Block
+        ensures { (i j : ℕ) → i < 256 → j < 64 → block_has result i j ≡ stretch_has self.now i j index }
     {
         if let Some(words) = self.words(index) {
-            block.words = *words;
-            return;
+            return Block { words: *words };
         }
         match self.sets.get(index) {
             Some(set) => {
                 let window = self.windows[index].moved(set, self.start);
-                read_block(block, set, window, self.start);
+                read_block(set, window, self.start)
             }
-            None => *block = Block::EMPTY,
+            None => Block::EMPTY,
         }
     }
 
@@ -54,12 +53,9 @@ impl Stretch<'_> {
         ensures { (i j : ℕ) → i < 256 → j < 64 →
             block_has lower.new i j ≡ combined operation (block_has lower.old i j) (stretch_has self.now i j index) }
     {
-        if let Some(words) = self.words(index) {
-            lower.combine(operation, words);
-            return;
+        match self.words(index) {
+            Some(words) => lower.combine(operation, words),
+            None => lower.combine(operation, &self.block(index).words),
         }
-        let mut upper = Block::EMPTY;
-        self.read(index, &mut upper);
-        lower.combine(operation, &upper.words);
     }
 }

@@ -7,24 +7,20 @@ ghost use Rattle.cp_terms.specs.Windows.{AreWindows};
 use crate::block::Block;
 use cp_invlist::{CodePointInversionList, Window};
 
-/// Reads into the block which of the 16,384 code points from the place on are members, by a window of the set.
-pub(crate) fn read_block(
-    block: &mut Block,
-    set: &CodePointInversionList,
-    window: Window,
-    place: u32,
-)
+/// Which of the 16,384 code points from the place on are members, by a window of the set.
+pub(crate) fn read_block(set: &CodePointInversionList, window: Window, place: u32) -> Block
     requires place { place + 0x4000 ≤ 0x11_0000 }
     requires window { IsWindow set.now place window }
     requires ahead { place < window.next }
-    ensures { IsBlock set.now place block.new }
+    ensures { IsBlock set.now place result }
 {
-    *block = Block::EMPTY;
+    let mut block = Block::EMPTY;
     // First each word by itself, so that nothing depends on where the elements stand.
     for element in window.elements_before(set, place + 0x4000) {
         block.turn_word(*element - place);
     }
     block.carry(window.is_inside());
+    block
 }
 
 /// The words of the set's index for the 16,384 code points from the place on, where the set has an index.

@@ -3,7 +3,7 @@ use Rattle.std.specs.String.{string_bytes}
 use Rattle.cp_invlist.specs.InversionList.{contains}
 use Rattle.cp_strset.specs.StringList.{AreCanonical, holds}
 use Rattle.cp_strset_terms.specs.Places.{IsAt}
-use Rattle.cp_strset_terms.proofs.numbers.places_by_texts.Given as goal
+use Rattle.cp_strset_terms.proofs.places.places_by_texts.Given as goal
 
 abbrev pub invariant-loop-index : goal.invariant-loop-index
 invariant-loop-index l =

@@ -5,7 +5,7 @@ use Rattle.cp_strset.specs.StringList.{holds}
 use Rattle.cp_terms.specs.Terms.{holds_at}
 use Rattle.cp_strset_terms.specs.Leaves.{strings_of, leaf_holds}
 use Rattle.cp_strset_terms.proofs.LeavesLemmas.{one_leaf_more}
-use Rattle.cp_strset_terms.proofs.numbers.places_of_leaves.Goals as goal
+use Rattle.cp_strset_terms.proofs.places.places_of_leaves.Goals as goal
 
 pub loop-leaf-preserved : goal.loop-leaf-preserved
 loop-leaf-preserved c = (

@@ -1,4 +1,4 @@
-//! The strings of a leaf as a set of numbers: their places in a list of strings.
+//! The strings of a leaf as a set of their places in a list of strings.
 ghost use Rattle.std.specs.Prelude.{◌≡◌, ◌<◌, ◌≤◌, ◌↔◌, ℕ, List, All, Some, IfOk, length, map};
 ghost use Rattle.std.specs.String.{string_bytes};
 ghost use Rattle.cp_invlist.specs.InversionList.{contains};
@@ -9,7 +9,7 @@ ghost use Rattle.cp_strset_terms.specs.Cut.{IsNotBelow};
 ghost use Rattle.cp_strset_terms.specs.Places.{texts, IsAt};
 
 use crate::cut::{strings_among, strings_from};
-use crate::leaf::{Leaf, strings};
+use crate::leaf::Leaf;
 use cp_invlist::{CodePointInversionList, CodePointInversionListBuilder, NoMemory};
 use std::alloc::Global;
 
@@ -115,7 +115,7 @@ pub(crate) fn places_of_leaves(
 {
     let mut sets = Vec::with_capacity(alloc, leaves.len())?;
     for leaf in leaves {
-        sets.push(places_of(alloc, list, strings(leaf))?)?;
+        sets.push(places_of(alloc, list, leaf.strings())?)?;
     }
     Ok(sets)
 }

@@ -5,7 +5,7 @@ use Rattle.cp_invlist.specs.InversionList.{contains}
 use Rattle.cp_invlist.specs.declared.error.NoMemory.{NoMemory}
 use Rattle.cp_strset.specs.StringList.{holds}
 use Rattle.cp_strset_terms.specs.Places.{IsAt}
-use Rattle.cp_strset_terms.proofs.numbers.places_of.Goals as goal
+use Rattle.cp_strset_terms.proofs.places.places_of.Goals as goal
 
 -- the places of the strings that are left are those of all strings
 places_kept : (r : Result (List ℕ) NoMemory) (list among strings : List (List ℕ)) → ((place : ℕ) (text : List ℕ) → IsAt list place text → holds among text ≡ holds strings text) →

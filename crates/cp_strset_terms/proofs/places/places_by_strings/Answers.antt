@@ -6,8 +6,8 @@ use Rattle.std.specs.String.{string_bytes}
 use Rattle.cp_invlist.specs.InversionList.{contains}
 use Rattle.cp_strset.specs.StringList.{holds}
 use Rattle.cp_strset_terms.proofs.KeptLemmas.{holds-more, is_added-place, absent}
-use Rattle.cp_strset_terms.proofs.numbers.places_by_strings.Goals as goal
-use Rattle.cp_strset_terms.proofs.numbers.places_by_strings.Goals.{in-Some+in_ok-add32, in_default}
+use Rattle.cp_strset_terms.proofs.places.places_by_strings.Goals as goal
+use Rattle.cp_strset_terms.proofs.places.places_by_strings.Goals.{in-Some+in_ok-add32, in_default}
 
 pub overflow_cast-place : goal.overflow_cast-place
 overflow_cast-place c =

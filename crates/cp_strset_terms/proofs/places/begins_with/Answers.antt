@@ -1,7 +1,7 @@
 use Rattle.std.proofs.Common.{sym, ap, ◌∙◌}
 use Rattle.std.specs.Str.{bytes_eq}
 use Rattle.cp_strset_terms.proofs.CutLemmas.{holds-front}
-use Rattle.cp_strset_terms.proofs.numbers.begins_with.Goals as goal
+use Rattle.cp_strset_terms.proofs.places.begins_with.Goals as goal
 
 pub returns-in-Some : goal.returns-in-Some
 returns-in-Some c =

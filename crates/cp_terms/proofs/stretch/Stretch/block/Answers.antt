@@ -2,7 +2,7 @@ use Rattle.std.proofs.Common.{◌∙◌, sym, refl}
 use Rattle.std.proofs.lemmas.Option.{slice_get_read}
 use Rattle.cp_terms.proofs.TermsLemmas.{holds_at-reference, holds_at-past}
 use Rattle.cp_terms.proofs.BlockLemmas.{empty_has}
-use Rattle.cp_terms.proofs.stretch.Stretch.read.Goals as goal
+use Rattle.cp_terms.proofs.stretch.Stretch.block.Goals as goal
 
 pub returns-in-Some-get : goal.returns-in-Some-get
 returns-in-Some-get c = λ i j short h.

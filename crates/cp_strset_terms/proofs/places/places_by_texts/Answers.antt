@@ -9,8 +9,8 @@ use Rattle.cp_strset_terms.specs.Places.{texts, IsAt}
 use Rattle.cp_strset_terms.proofs.CutLemmas.{none_below_earlier}
 use Rattle.cp_strset_terms.proofs.KeptLemmas.{place_added, place_passed}
 use Rattle.cp_strset_terms.proofs.PlacesLemmas.{is_at, text_at}
-use Rattle.cp_strset_terms.proofs.numbers.places_by_texts.Goals as goal
-use Rattle.cp_strset_terms.proofs.numbers.places_by_texts.Goals.{then-begins_with+in_ok-add32, else-begins_with}
+use Rattle.cp_strset_terms.proofs.places.places_by_texts.Goals as goal
+use Rattle.cp_strset_terms.proofs.places.places_by_texts.Goals.{then-begins_with+in_ok-add32, else-begins_with}
 
 -- what is left of the strings has the texts from the one at the index on that all have
 rest_kept : (c : goal.Joined-begins_with) (place : ℕ) (text : List ℕ) → IsAt (texts c.args.list.now) place text → c.loop-index.index ≤ place →

@@ -3,7 +3,7 @@ use Rattle.std.specs.String.{string_bytes}
 use Rattle.cp_invlist.specs.InversionList.{contains}
 use Rattle.cp_strset.specs.StringList.{holds}
 use Rattle.cp_strset_terms.specs.Places.{IsAt}
-use Rattle.cp_strset_terms.proofs.numbers.places_by_strings.Given as goal
+use Rattle.cp_strset_terms.proofs.places.places_by_strings.Given as goal
 
 abbrev pub invariant-loop-string : goal.invariant-loop-string
 invariant-loop-string l = (place : ℕ) (text : List ℕ) → IsAt (map (λ text. text.now) l.list) place text →
