@@ -11,11 +11,14 @@ use Rattle.std.specs.String.{string_bytes}
 use Rattle.std.specs.declared.string.String.{String}
 use Rattle.std.proofs.lemmas.Bool.{false_from_ne_true, true≢false}
 use Rattle.std.proofs.lemmas.Slice.Eq.{bytes_eq-Decides}
-use Rattle.cp_strset_terms.specs.Numbers.{KeepsNumbers}
+use Rattle.cp_strset.specs.StringSet.{StringSet}
+use Rattle.cp_strset_terms.specs.Numbers.{Grows, KeepsNumbers}
+use Rattle.uset_grammar.specs.Tree.{Member, string}
+use Rattle.uset_gather.specs.Gathered.{in_set}
 use Rattle.uset_variables.specs.declared.index.Index.{Index}
 use Rattle.uset_variables.specs.declared.value.KeptValue.{KeptValue}
 use Rattle.uset_variables.specs.declared.value.VariableValue.{VariableValue}
-use Rattle.uset_variables.specs.Numbered.{value_at, some_indexed_set, IsIndexOf, AreIndices}
+use Rattle.uset_variables.specs.Numbered.{value_at, value_in, some_indexed_set, GrowsWithin, IsIndexOf, AreIndices}
 use Rattle.uset_variables.proofs.VariableLemmas.{value_among}
 
 -- the values by name
@@ -25,6 +28,14 @@ Values = BTreeMap (String Global) KeptValue
 -- the indices by name
 abbrev pub Indices : Type 0
 Indices = BTreeMap (String Global) Index
+
+-- where the strings of a set get numbers, they are those of a value with the same members
+pub grown_within : (set : StringSet) (value : VariableValue) (old new : List (List ℕ)) → Grows set.strings old new → ((m : Member) → in_set set m ≡ value_in value m) → GrowsWithin (Some value) old new
+grown_within set value old new grown same = record {
+  more = grown.more;
+  is = grown.is;
+  theirs = λ bytes held. sym (same (string bytes)) ∙ grown.theirs bytes held;
+}
 
 -- what holds after success and after a refusal holds in any case
 pub after_either : {T E P Q R : Type 0} (r : Result T E) → OnOk r P → OnErr r Q → (P → R) → (Q → R) → R

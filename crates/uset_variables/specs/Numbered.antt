@@ -1,12 +1,13 @@
 -- Numbers of the strings of what names are bound to.
-use Rattle.std.specs.Prelude.{◌≡◌, ℕ, Bool, true, false, nat_le, List, length, Option, None, Some, option_map, is_some}
+use Rattle.std.specs.Prelude.{◌≡◌, ℕ, Bool, true, false, nat_le, List, ◌++◌, length, Option, None, Some, option_map, is_some}
 use Rattle.std.specs.BTreeMap.{BTreeMap, get_by_text}
 use Rattle.std.specs.Global.{Global}
 use Rattle.std.specs.Option.{option_or}
 use Rattle.std.specs.declared.string.String.{String}
+use Rattle.cp_strset.specs.StringList.{holds}
 use Rattle.cp_strset.specs.StringSet.{StringSet, has_many_strings}
 use Rattle.cp_strset_terms.specs.Numbers.{AreNumbersOf}
-use Rattle.uset_grammar.specs.Tree.{Member}
+use Rattle.uset_grammar.specs.Tree.{Member, string}
 use Rattle.uset_gather.specs.Gathered.{in_set, is_string}
 use Rattle.uset_variables.specs.declared.index.Index.{Index}
 use Rattle.uset_variables.specs.declared.value.KeptValue.{KeptValue}
@@ -27,6 +28,12 @@ value_in (Char c) m = false
 abbrev pub some_value_in : Option VariableValue → Member → Bool
 some_value_in None m = false
 some_value_in (Some value) m = value_in value m
+
+-- more strings have numbers, each of them one that the value has
+pub record GrowsWithin (value : Option VariableValue) (old new : List (List ℕ)) : Type 0 where
+  pub more : List (List ℕ)
+  pub is : new ≡ old ++ more
+  pub theirs : (bytes : List ℕ) → holds more bytes ≡ true → some_value_in value (string bytes) ≡ true
 
 -- a set gets numbers by its strings, and a string by its bytes
 abbrev pub gets_numbers : VariableValue → Bool

@@ -28,7 +28,7 @@ impl Index {
     ghost use Rattle.std.specs.Prelude.{◌≡◌, Some, IfOk, IfSome, is_some};
     ghost use Rattle.std.specs.Option.{option_copied};
     ghost use Rattle.cp_strset_terms.specs.Numbers.{KeepsNumbers};
-    ghost use Rattle.uset_variables.specs.Numbered.{gets_numbers, indexed_set, IsIndexOf};
+    ghost use Rattle.uset_variables.specs.Numbered.{gets_numbers, indexed_set, GrowsWithin, IsIndexOf};
 
     /// The index of the value, where it gets numbers: each of its strings has one from now on.
     pub(crate) fn of(
@@ -37,6 +37,7 @@ impl Index {
         kept: &KeptValue,
     ) -> Result<Option<Index>, NoMemory>
         ensures kept { KeepsNumbers strings.old strings.new }
+        ensures grown { GrowsWithin (Some kept.now.value) strings.old strings.new }
         ensures index { IfOk result (λ index. IfSome index (IsIndexOf strings.new (Some kept.now.value))) }
         ensures some { IfOk result (λ index. is_some index ≡ gets_numbers kept.now.value) }
     {

@@ -2,7 +2,7 @@
 ghost use Rattle.std.specs.Prelude.{◌≡◌, ℕ, List, Some, IfSome, IfOk, OnOk, cond, is_some, option_map};
 ghost use Rattle.std.specs.Str.{bytes_eq};
 ghost use Rattle.uset_variables.specs.declared.value.VariableValue.TheVariants.{UnicodeSet};
-ghost use Rattle.uset_variables.specs.Numbered.{value_at, some_value_in, some_gets_numbers, AreIndices};
+ghost use Rattle.uset_variables.specs.Numbered.{value_at, some_value_in, some_gets_numbers, AreIndices, GrowsWithin};
 
 use crate::index::Index;
 use crate::value::{KeptValue, VariableString, VariableValue};
@@ -158,11 +158,12 @@ impl VariableMap {
 
     /// Numbers the strings of the set that the name is bound to, where there are at least 64 or they have at least 4,096 bytes
     /// together, or the string of at least 4,096 bytes that it is bound to. With these numbers set expressions over the
-    /// variable needn't go along its strings. A name that is bound to nothing or to another value gets none, and all names are
-    /// bound as they were. `NoMemory` says that a request for memory was refused: each name has the numbers that it had then.
+    /// variable needn't go along its strings. A name that is bound to nothing or to another value gets none, no other string
+    /// gets a number, and all names are bound as they were. `NoMemory` says that a request for memory was refused: each name has the numbers that it had then.
     pub fn index(&mut self, alloc: Global, key: &str) -> Result<(), NoMemory>
         ensures same { IsSame self.old self.new }
         ensures strings { KeepsNumbers (numbered_strings self.old) (numbered_strings self.new) }
+        ensures grown { GrowsWithin (bound self.old key.now) (numbered_strings self.old) (numbered_strings self.new) }
         ensures ok { OnOk result ((name : List ℕ) → is_some (numbers_at self.new name) ≡
             ((bytes_eq key.now name && some_gets_numbers (bound self.old key.now))
             || is_some (numbers_at self.old name))) }
