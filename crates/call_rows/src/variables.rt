@@ -389,12 +389,12 @@ fn bind_many_and_few(alloc: Global, variables: &mut VariableMap) -> bool {
         && bind_numerals(alloc, variables, "few", 100, 163)
 }
 
-/// Indexes these names and one that is bound to nothing.
-fn index_all(alloc: Global, variables: &mut VariableMap) -> Result<(), NoMemory> {
-    variables.index(alloc, "many")?;
-    variables.index(alloc, "few")?;
-    variables.index(alloc, "c")?;
-    variables.index(alloc, "nothing")
+/// Asks for numbers of the strings of these names and of one that is bound to nothing.
+fn number_all(alloc: Global, variables: &mut VariableMap) -> Result<(), NoMemory> {
+    variables.number_strings(alloc, "many")?;
+    variables.number_strings(alloc, "few")?;
+    variables.number_strings(alloc, "c")?;
+    variables.number_strings(alloc, "nothing")
 }
 
 /// More numbers than the rows give.
@@ -448,10 +448,10 @@ fn are_bound(alloc: Global, variables: &VariableMap) -> bool {
         && variables.get("nothing").is_none()
 }
 
-/// Whether the strings of `many` alone have numbers once the names are indexed, and the names are bound as before.
-fn indexes_many(alloc: Global, variables: &mut VariableMap) -> bool {
+/// Whether the strings of `many` alone have numbers once they are asked for, and the names are bound as before.
+fn numbers_many(alloc: Global, variables: &mut VariableMap) -> bool {
     count_numbers(variables, "many").is_none()
-        && index_all(alloc, variables).is_ok()
+        && number_all(alloc, variables).is_ok()
         && has_numbers(variables, Some(64))
         && is_numbered(variables, "0000")
         && is_numbered(variables, "0042")
@@ -469,13 +469,13 @@ fn copies_no_numbers(alloc: Global, variables: &VariableMap) -> bool {
     has_numbers(&copied, None) && are_bound(alloc, &copied)
 }
 
-/// Whether `many` has no numbers once it is freed, nor once it is bound anew, and those of its new strings once it is indexed.
+/// Whether `many` has no numbers once it is freed, nor once it is bound anew, and those of its new strings once asked for.
 fn frees_numbers(alloc: Global, variables: &mut VariableMap) -> bool {
     variables.remove("many").is_some()
         && has_numbers(variables, None)
         && bind_numerals(alloc, variables, "many", 50, 150)
         && has_numbers(variables, None)
-        && index_all(alloc, variables).is_ok()
+        && number_all(alloc, variables).is_ok()
         && has_numbers(variables, Some(100))
         && is_numbered(variables, "0149")
         && is_numbered(variables, "0050")
@@ -488,14 +488,14 @@ fn numbers_hold(alloc: Global) -> Option<(bool, bool, bool)> {
     if !bind_many_and_few(alloc, &mut variables) {
         return None;
     }
-    let indexed = indexes_many(alloc, &mut variables);
+    let numbered = numbers_many(alloc, &mut variables);
     let copied = copies_no_numbers(alloc, &variables);
     let freed = frees_numbers(alloc, &mut variables);
-    Some((indexed, copied, freed))
+    Some((numbered, copied, freed))
 }
 
 #[test]
-fn the_strings_of_a_large_set_have_numbers_once_it_is_indexed(rt: HostRuntime) {
+fn the_strings_of_a_large_set_have_numbers_once_they_are_asked_for(rt: HostRuntime) {
     let holds = numbers_hold(rt.alloc());
     assert_equal(&rt, holds, Some((true, true, true)));
 }
@@ -518,12 +518,12 @@ fn long_value(alloc: Global, long: Long, length: usize) -> Option<VariableValue>
     }
 }
 
-/// How many numbers the value's strings have once its name is indexed, `Some(None)` where they have none.
+/// How many numbers the value's strings have once they are asked for, `Some(None)` where they have none.
 fn numbers_of_long(alloc: Global, long: Long, length: usize) -> Option<Option<usize>> {
     let value = long_value(alloc, long, length)?;
     let name = string_of(alloc, "long")?;
     let mut variables = VariableMap::new(alloc);
-    if variables.insert(name, value).is_err() || variables.index(alloc, "long").is_err() {
+    if variables.insert(name, value).is_err() || variables.number_strings(alloc, "long").is_err() {
         return None;
     }
     Some(count_numbers(&variables, "long"))

@@ -1,9 +1,9 @@
 -- What names are bound to, and the answers to lines that bind them.
-use Rattle.std.proofs.Common.{◌≡◌, ℕ, ◌+◌, ◌<◌, Bool, true, false, List, [], ◌∷◌, length, encode_utf8_all, cond, Option, Some, None, is_some, option_map, Result, Ok, Err, IfOk, Bor, refl, sym, ap, ◌∙◌, subst, arith}
+use Rattle.std.proofs.Common.{◌≡◌, ℕ, ◌+◌, ◌<◌, Bool, true, false, List, [], ◌∷◌, length, encode_utf8_all, Option, Some, None, is_some, option_map, Result, Ok, Err, IfOk, Bor, refl, sym, ap, ◌∙◌, subst, arith}
 use mathlib.Core.Path.{fun_ext}
 use Rattle.std.proofs.lemmas.Str.{encodes-chars, length-le-encodes}
 use Rattle.std.specs.Option.{option_copied}
-use Rattle.std.specs.Str.{IsUtf8, chars, bytes_eq}
+use Rattle.std.specs.Str.{IsUtf8, chars}
 use Rattle.std.specs.String.{string_bytes}
 use Rattle.std.proofs.lemmas.List.{nil_from_length}
 use Rattle.cp_strset.specs.StringList.{sole_of}
@@ -20,7 +20,7 @@ use Rattle.uset_variables.specs.declared.map.VariableMap.{VariableMap}
 use Rattle.uset_variables.specs.declared.value.VariableValue.{VariableValue}
 use Rattle.uset_variables.specs.declared.value.VariableValue.TheVariants.{String as Spelled}
 use Rattle.uset_variables.specs.Values.{value_seen, kept, character_or}
-use Rattle.uset_variables.specs.Variables.{bound, variables_of, no_variables, Binds, IsSame}
+use Rattle.uset_variables.specs.Variables.{bound, variables_of, no_variables, IsSame}
 use Rattle.uset_gather.specs.Gathered.{in_set}
 use Rattle.uset_reader.specs.Syntaxes.{language_of}
 use Rattle.uset_parse.specs.Reading.{IsRead, HasTextBehind, IsRefused}

@@ -2,7 +2,6 @@
 use Rattle.std.proofs.Common.{◌≡◌, ◌≢◌, ℕ, suc, ◌<◌, ◌==◌, Bool, true, false, List, [], ◌∷◌, ◌++◌, length, get_or, Option, Some, None, option_map, MatchOption, Bor, cond, drop, ◌+◌, refl, sym, ap, ap₂, ◌∙◌, arith}
 use Rattle.std.proofs.lemmas.Bool.{cond-false, ne_eqb, eqb-true, eq-eqb}
 use Rattle.std.specs.Str.Pattern.{LacksTextAt, FindsTextPrefix}
-use Rattle.std.specs.List.{onto_first}
 use Rattle.uset_tool.specs.Script.{stripped, onto_front, at_space}
 
 -- no space stands in the text

@@ -78,7 +78,7 @@ fn answer_value(
 {
     let answer = answer_bound(alloc, name)?;
     bind(alloc, name, value, variables)?;
-    variables.index(alloc, name)?;
+    variables.number_strings(alloc, name)?;
     Ok(answer)
 }
 

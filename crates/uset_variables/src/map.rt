@@ -42,7 +42,7 @@ impl<'a> From<AllocError> for InsertError<'a> {
 }
 
 /// A map from the names of variables to their values. A string of exactly one character is kept as that character. For names
-/// that were asked to be indexed it keeps the numbers of the strings of their sets, and those of long strings.
+/// that were asked for (`number_strings`) it keeps the numbers of the strings of their sets, and those of long strings.
 #[derive(Drop)]
 pub struct VariableMap {
     values: BTreeMap<String, KeptValue>,
@@ -143,7 +143,7 @@ impl VariableMap {
     }
 
     /// Frees the name. The answer is the value that it was bound to, as it was kept, and `None` where it was bound to nothing.
-    /// Strings that got numbers by `index` keep them for good: the map holds these strings until it is let go itself.
+    /// Strings that got numbers by `number_strings` keep them for good: the map holds these strings until it is let go itself.
     pub fn remove(&mut self, key: &str) -> Option<VariableValue>
         ensures value { result ≡ bound self.old key.now }
         ensures kept { IfSome result (λ v. is_kept v ≡ true) }
@@ -160,7 +160,7 @@ impl VariableMap {
     /// together, or the string of at least 4,096 bytes that it is bound to. With these numbers set expressions over the
     /// variable needn't go along its strings. A name that is bound to nothing or to another value gets none, no other string
     /// gets a number, and all names are bound as they were. `NoMemory` says that a request for memory was refused: each name has the numbers that it had then.
-    pub fn index(&mut self, alloc: Global, key: &str) -> Result<(), NoMemory>
+    pub fn number_strings(&mut self, alloc: Global, key: &str) -> Result<(), NoMemory>
         ensures same { IsSame self.old self.new }
         ensures strings { KeepsNumbers (numbered_strings self.old) (numbered_strings self.new) }
         ensures grown { GrowsWithin (bound self.old key.now) (numbered_strings self.old) (numbered_strings self.new) }
@@ -191,7 +191,7 @@ impl VariableMap {
     }
 
     /// The set that the name is bound to, or that of the string alone that it is bound to, with the numbers of its strings,
-    /// where it was indexed and got some.
+    /// where it got some (`number_strings`).
     pub fn numbered_set(
         &self,
         key: &str,
@@ -207,7 +207,7 @@ impl VariableMap {
         Some((set, &index.numbers))
     }
 
-    /// A map that binds the same names to equal values. No strings have numbers in it until names are indexed again, and no set
+    /// A map that binds the same names to equal values. No strings have numbers in it until they are given some again, and no set
     /// has an index of its code points. `NoMemory` says that a request for memory was refused.
     pub fn copy(&self, alloc: Global) -> Result<VariableMap, NoMemory>
         ensures bound { IfOk result (λ map. IsSame self.now map) }

@@ -6,5 +6,5 @@ pub returns : goal.returns
 returns c = record {
   text = c.in_ok-answer.ensures.text;
   err = c.in_ok-answer.ensures.err;
-  bound = same_variables c.bind.new.variables c.index.new.self c.index.ensures.same ∙ c.in_ok-bind.ensures;
+  bound = same_variables c.bind.new.variables c.number_strings.new.self c.number_strings.ensures.same ∙ c.in_ok-bind.ensures;
 }

@@ -1,4 +1,4 @@
-use Rattle.std.proofs.Common.{◌≡◌, Some, None, ap, sym, subst, ◌∙◌, lit<, rules}
+use Rattle.std.proofs.Common.{◌≡◌, ap, subst, ◌∙◌, lit<}
 use Rattle.std.proofs.lemmas.Iterator.Splits.{YieldsList-from_str_split}
 use Rattle.std.proofs.lemmas.Str.{IsUtf8-string_bytes}
 use Rattle.std.specs.Str.Iter.{split_steps, split_text, split_has_more, split_pattern}

@@ -6,7 +6,7 @@ use Rattle.std.specs.Str.{bytes_eq}
 use Rattle.std.specs.String.{string_bytes}
 use Rattle.uset_variables.specs.Numbered.{value_at, some_gets_numbers, IsIndexOf}
 use Rattle.uset_variables.proofs.NumberLemmas.{after_either, indices_kept, indices_unchanged, indices_of_one_more, is_some-cond}
-use Rattle.uset_variables.proofs.map.VariableMap.index.Goals as goal
+use Rattle.uset_variables.proofs.map.VariableMap.number_strings.Goals as goal
 
 pub invariant_of-self-2 : goal.invariant_of-self-2
 invariant_of-self-2 c =
