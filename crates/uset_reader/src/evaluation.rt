@@ -67,10 +67,7 @@ fn find_property<'v, 'd: 'v>(
     ensures fits { IfOk result (λ found. (all : List (List ℕ)) → IfSome found (FoundFits all)) }
 {
     let resolution = resolve_query(alloc, resolver, query)?;
-    match set_of(resolution, query.negated) {
-        Ok(set) => Ok(Some(FoundSet::Named(set))),
-        Err(_) => Ok(None),
-    }
+    Ok(set_of(resolution, query.negated).ok().map(FoundSet::Named))
 }
 
 /// The set that the name stands for, if it stands for one.

@@ -167,10 +167,7 @@ impl<'a> Resolver<'a> {
         if let Some(source) = self.of_script(alloc, key)? {
             return Ok(Some(source));
         }
-        match of_binary(self.database, key) {
-            Some(set) => Ok(Some(Source::Lent(set))),
-            None => Ok(None),
-        }
+        Ok(of_binary(self.database, key).map(Source::Lent))
     }
 
     /// The code points of the value behind a key.

@@ -41,8 +41,9 @@ impl<'a> From<AllocError> for InsertError<'a> {
     }
 }
 
-/// A map from the names of variables to their values. A string of exactly one character is kept as that character. For names
-/// that were asked for (`number_strings`) it keeps the numbers of the strings of their sets, and those of long strings.
+/// A map from the names of variables to their values. A string of exactly one character is kept as that character. Of names
+/// whose strings were asked to be numbered (`number_strings`) it keeps the numbers of the strings of their sets, and those
+/// of long strings.
 #[derive(Drop)]
 pub struct VariableMap {
     values: BTreeMap<String, KeptValue>,
@@ -159,7 +160,8 @@ impl VariableMap {
     /// Numbers the strings of the set that the name is bound to, where there are at least 64 or they have at least 4,096 bytes
     /// together, or the string of at least 4,096 bytes that it is bound to. With these numbers set expressions over the
     /// variable needn't go along its strings. A name that is bound to nothing or to another value gets none, no other string
-    /// gets a number, and all names are bound as they were. `NoMemory` says that a request for memory was refused: each name has the numbers that it had then.
+    /// gets a number, and all names are bound as they were. `NoMemory` says that a request for memory was refused: each name
+    /// has the numbers that it had then.
     pub fn number_strings(&mut self, alloc: Global, key: &str) -> Result<(), NoMemory>
         ensures same { IsSame self.old self.new }
         ensures strings { KeepsNumbers (numbered_strings self.old) (numbered_strings self.new) }
